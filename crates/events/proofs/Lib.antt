@@ -1,0 +1,9 @@
+pub mod ListLaws
+pub mod ColumnLaws
+pub mod QuestionLaws
+pub mod BufferLaws
+pub mod KindLaws
+pub mod RecordLaws
+pub mod StateLaws
+pub mod StepLaws
+pub mod CheckLaws

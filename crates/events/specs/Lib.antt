@@ -1,0 +1,7 @@
+pub mod Lists
+pub mod Bytes
+pub mod Events
+pub mod Columns
+pub mod Questions
+pub mod Records
+pub mod State

@@ -1,0 +1,66 @@
+-- What a history says of its transactions ("Justification"): status and allowed outcomes, real time, writes, own reads and store reads.
+-- Assumes nothing.
+use Prim.Native.Nat.{ℕ, zero, suc, _<_}
+use mathlib.Core.Bool.{Bool, true, false, not, cond}
+use mathlib.Core.List.{List, [], _∷_}
+use mathlib.Core.Option.{Option, none, some}
+use lib.Dec.{eqb}
+use lib.ListN.{length, take}
+use Rattle.events.specs.Lists.{_and_, _or_, _implies_, keep, latest, isNone, range}
+use Rattle.events.specs.declared.event.Event.{Event}
+use Rattle.events.specs.Events.{eventAt, isBegin, isRead, isWrite, asksCommit, isCommit, isAbort, isEnd, by, has, begins}
+
+-- How a transaction stands: committed or aborted as recorded, pending after a commit called and unanswered, else live.
+pub data Status : Type 0 where
+  committed aborted pending live : Status
+
+unfoldable pub status : List Event → ℕ → Status
+status h t =
+    cond (has isCommit t h) committed
+    (cond (has isAbort t h) aborted
+    (cond (has asksCommit t h) pending
+    live))
+
+-- the outcomes, true for committed, that this allows: the recorded one; free after a commit called and unanswered; aborted for
+-- others not ended
+unfoldable pub allows : Status → Bool → Bool
+allows committed c = c
+allows aborted c = not c
+allows pending c = true
+allows live c = not c
+
+-- T precedes U in real time: t ended before u began
+unfoldable pub precedes : List Event → ℕ → ℕ → Bool
+precedes [] t u = false
+precedes (e ∷ h) t u = by isEnd t e and has isBegin u h or precedes h t u
+
+-- the value of the last write of t to r, if there is one
+unfoldable pub lastWrite : List Event → ℕ → ℕ → Option ℕ
+lastWrite h t r = latest (λ e. cond (by isWrite t e and eqb (e .register) r) (some (e .value)) none) h
+
+-- what the transaction of event i wrote last to the register of event i, before event i
+unfoldable pub ownWrite : List Event → ℕ → Option ℕ
+ownWrite h i = lastWrite (take i h) (eventAt h i .transaction) (eventAt h i .register)
+
+-- an own read is a read returned whose transaction earlier wrote that register; any other read returned is a store read
+unfoldable pub isOwnRead : List Event → ℕ → Bool
+isOwnRead h i = isRead (eventAt h i) and not (isNone (ownWrite h i))
+
+unfoldable pub isStoreRead : List Event → ℕ → Bool
+isStoreRead h i = isRead (eventAt h i) and isNone (ownWrite h i)
+
+-- the events that are store reads, rising
+unfoldable pub storeReads : List Event → List ℕ
+storeReads h = keep (isStoreRead h) (range (length h))
+
+abbrev pub isValue : ℕ → Option ℕ → Bool
+isValue v none = false
+isValue v (some w) = eqb v w
+
+-- event i, if it is an own read, returns the latest own write
+unfoldable pub ownRight : List Event → ℕ → Bool
+ownRight h i = isOwnRead h i implies isValue (eventAt h i .value) (ownWrite h i)
+
+-- every event is of a transaction that has begun: true of each readable history (question 11) and of its prefixes
+abbrev pub Begun : List Event → Type 0
+Begun h = (i : ℕ) → i < length h → eventAt h i .transaction < begins (take (suc i) h)
