@@ -1,0 +1,4 @@
+pub mod WalkLaws
+pub mod FillLaws
+pub mod AnswerLaws
+pub mod OpeningLaws
