@@ -7,3 +7,4 @@ pub mod RecordLaws
 pub mod StateLaws
 pub mod StepLaws
 pub mod CheckLaws
+pub mod ReadableLaws
