@@ -1,13 +1,13 @@
 -- Justifications (the paper, "Justification"). The values before any writer are a parameter, `start`.
 -- Assumes nothing.
-use Prim.Native.Nat.{ℕ, zero, suc, _<_}
+use Prim.Native.Nat.{ℕ, _<_}
 use mathlib.Core.Path.{_≡_}
 use mathlib.Core.Bool.{Bool, true, false, not, cond}
 use mathlib.Core.List.{List, [], _∷_, _++_}
-use mathlib.Core.Option.{Option, none, some, Option·getD}
+use mathlib.Core.Option.{Option, none, Option·getD}
 use lib.Dec.{eqb, ltb}
-use lib.ListN.{length, take, getD}
-use Rattle.events.specs.Lists.{_and_, _or_, _implies_, any, all, push, latest, every}
+use lib.ListN.{length}
+use Rattle.events.specs.Lists.{_and_, _implies_, any, all, latest, every}
 use Rattle.events.specs.declared.event.Event.{Event}
 use Rattle.events.specs.Events.{eventAt, begins}
 use Rattle.opacity.specs.Transactions.{precedes, status, allows, lastWrite, isStoreRead, ownRight}
@@ -51,6 +51,16 @@ distinct (p ∷ ps) = not (placed (p .transaction) ps) and distinct ps
 
 unfoldable pub isOrder : ℕ → List Place → Bool
 isOrder n J = all (λ p. ltb (p .transaction) n) J and distinct J and every (λ t. placed t J) n
+
+-- the same of one transaction: t has a place in J, and no other
+pub record OnePlace (t : ℕ) (J : List Place) : Type 0 where
+  pub front : List Place
+  pub here : Place
+  pub back : List Place
+  pub cut : J ≡ front ++ here ∷ back
+  pub names : here .transaction ≡ t
+  pub not-before : placed t front ≡ false
+  pub not-behind : placed t back ≡ false
 
 -- the outcome of t is allowed
 unfoldable pub outcomeKept : List Event → List Place → ℕ → Bool

@@ -1,6 +1,7 @@
 pub mod Transactions
 pub mod Justification
-pub mod Serial
 pub mod Lowest
 pub mod Marking
 pub mod Scan
+pub mod Serial
+pub mod Counts

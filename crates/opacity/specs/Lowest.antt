@@ -1,6 +1,8 @@
 -- The lowest justification (the paper, "Finder").
 -- Assumes nothing.
-use Prim.Native.Nat.{ℕ, zero, suc}
+use Prim.Native.Nat.{ℕ, zero, suc, _<_}
+use mathlib.Core.Path.{_≡_}
+use mathlib.Core.Logic.{_⊎_}
 use mathlib.Core.Bool.{Bool, true, false, not, cond}
 use mathlib.Core.List.{List, [], _∷_, _++_}
 use mathlib.Core.Option.{Option, none, some}
@@ -10,7 +12,7 @@ use Rattle.events.specs.Lists.{_and_, _or_, _implies_, orElse, every, lowest}
 use Rattle.events.specs.declared.event.Event.{Event}
 use Rattle.events.specs.Events.{eventAt, begins}
 use Rattle.opacity.specs.Transactions.{status, allows, ownRight}
-use Rattle.opacity.specs.Justification.{Place, placed, preceded, legalOver}
+use Rattle.opacity.specs.Justification.{Place, placed, preceded, legalOver, Justified}
 
 -- the comparison: place by place, lower transaction first, at equal transaction aborted first
 unfoldable pub below : Place → Place → Bool
@@ -62,3 +64,14 @@ unfoldable pub lowestOf : (ℕ → ℕ) → List Event → Option (List Place)
 lowestOf start h =
     let r = goOn (fits start h) (begins h) (begins h) [] in
     cond (every (ownRight h) (length h)) r none
+
+-- J is the lowest justification: any other is above it
+pub record LowestJustified (start : ℕ → ℕ) (h : List Event) (J : List Place) : Type 0 where
+  pub justifies : Justified start h J
+  pub least : (K : List Place) → Justified start h K → (lower J K ≡ true) ⊎ (J ≡ K)
+
+-- J goes place by place: own reads are right, each place may come next after those before it, and there are as many as transactions
+pub record PlaceByPlace (start : ℕ → ℕ) (h : List Event) (J : List Place) : Type 0 where
+  pub own : (i : ℕ) → i < length h → ownRight h i ≡ true
+  pub turns : follows (fits start h) [] J ≡ true
+  pub whole : length J ≡ begins h

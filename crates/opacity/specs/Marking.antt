@@ -1,9 +1,9 @@
 -- Markings and the checker's rules (the paper, "Marking and checker"), for a history and a marking that are readable.
 -- Assumes nothing.
-use Prim.Native.Nat.{ℕ, zero, suc, min, max}
+use Prim.Native.Nat.{ℕ, _<_, min, max}
 use mathlib.Core.Path.{_≡_}
 use mathlib.Core.Bool.{Bool, true, false, not, cond}
-use mathlib.Core.List.{List, [], _∷_, map}
+use mathlib.Core.List.{List, [], _∷_, _++_, map}
 use mathlib.Core.Option.{Option, none, some, Option·getD}
 use lib.Dec.{eqb, leb}
 use lib.ListN.{length, take, drop}
@@ -12,6 +12,7 @@ pub use Rattle.opacity.specs.declared.verdict.Rule.the-variants.{A, B, C
 pub use Rattle.opacity.specs.declared.verdict.Verdict.{Verdict}
 pub use Rattle.opacity.specs.declared.verdict.Verdict.the-variants.{Accepted, Broken}
 use Rattle.events.specs.Lists.{_implies_, isNone, all, keep, latest, first, last}
+use Rattle.events.specs.Bytes.{u16Bytes, u32Bytes}
 use Rattle.events.specs.declared.event.Event.{Event}
 use Rattle.events.specs.Events.{eventAt, begins, isBegin, by}
 use Rattle.opacity.specs.Transactions.{isStoreRead, storeReads, ownRight}
@@ -25,6 +26,29 @@ pub record Point : Type 0 where
 pub record Marking : Type 0 where
   pub places : List Place
   pub points : List Point
+
+-- The file of a marking: the head, a record of kind 32 for each place, and one of kind 33 for each point.
+abbrev pub markingHead : List ℕ
+markingHead = u16Bytes 4 ++ u16Bytes 2 ++ u16Bytes 1
+
+-- 0 aborted, 1 committed
+abbrev pub outcomeNumber : Bool → ℕ
+outcomeNumber true = 1
+outcomeNumber false = 0
+
+abbrev pub placeBytes : Place → List ℕ
+placeBytes p = u16Bytes 6 ++ u16Bytes 32 ++ u16Bytes (p .transaction) ++ u16Bytes (outcomeNumber (p .committed))
+
+abbrev pub pointBytes : Point → List ℕ
+pointBytes q = u16Bytes 8 ++ u16Bytes 33 ++ u32Bytes (q .event) ++ u16Bytes (q .gap)
+
+-- the bytes of each, one after the other
+unfoldable pub flat : {A : Type 0} → (A → List ℕ) → List A → List ℕ
+flat f [] = []
+flat f (x ∷ xs) = f x ++ flat f xs
+
+unfoldable pub markingBytes : Marking → List ℕ
+markingBytes m = markingHead ++ flat placeBytes (m .places) ++ flat pointBytes (m .points)
 
 -- What a marking's content must be for it to be readable for a history (questions 24 to 29): each transaction has one place, the points are
 -- at the store reads in order, and each gap is at most the number of transactions.
@@ -78,6 +102,8 @@ unfoldable pub broke : Option ℕ → (ℕ → Verdict) → Verdict → Verdict
 broke none f v = v
 broke (some k) f v = f k
 
+-- Rules go from A to E, and within one the lowest transaction (A, B) or event (C, D, E, with that event's transaction). A names the
+-- transaction's last event, B the begin of the transaction that began after the other's end.
 unfoldable pub verdict : (ℕ → ℕ) → List Event → Marking → Verdict
 verdict start h m =
     broke (first (λ t. not (outcomeKept h J t)) (begins h)) (λ t. Broken A (lastEvent h t) t)
@@ -92,3 +118,79 @@ verdict start h m =
 
     atEvent : Rule → ℕ → Verdict
     atEvent r i = Broken r i (eventAt h i .transaction)
+
+-- ---- What the verdict says, by rule: the words of the theorems about it.
+
+-- the rules' numbers, in the order in which they are tried
+abbrev pub ruleNumber : Rule → ℕ
+ruleNumber A = 1
+ruleNumber B = 2
+ruleNumber C = 3
+ruleNumber D = 4
+ruleNumber E = 5
+
+-- the verdict's numbers: 0 for accepted, or the rule, its event and its transaction
+abbrev pub verdictNumbers : Verdict → List ℕ
+verdictNumbers Accepted = 0 ∷ []
+verdictNumbers (Broken r i t) = ruleNumber r ∷ i ∷ t ∷ []
+
+-- a rule is put to the transactions (A, B) or to the events (C, D, E) below this number
+abbrev pub putTo : List Event → Rule → ℕ
+putTo h A = begins h
+putTo h B = begins h
+putTo h C = length h
+putTo h D = length h
+putTo h E = length h
+
+-- the rule holds at the transaction or event k
+unfoldable pub ruleHolds : (ℕ → ℕ) → List Event → Marking → Rule → ℕ → Bool
+ruleHolds start h m A k = outcomeKept h (m .places) k
+ruleHolds start h m B k = realTimeKept h (m .places) k
+ruleHolds start h m C k = ownRight h k
+ruleHolds start h m D k = noWriterBetween h (m .places) (gapOf (m .points) k) k
+ruleHolds start h m E k = valueAtGap start h (m .places) (gapOf (m .points) k) k
+
+-- the event and the transaction that are named where the rule is broken at k
+abbrev pub namedEvent : List Event → Rule → ℕ → ℕ
+namedEvent h A k = lastEvent h k
+namedEvent h B k = beginOf h k
+namedEvent h C k = k
+namedEvent h D k = k
+namedEvent h E k = k
+
+abbrev pub namedTransaction : List Event → Rule → ℕ → ℕ
+namedTransaction h A k = k
+namedTransaction h B k = k
+namedTransaction h C k = eventAt h k .transaction
+namedTransaction h D k = eventAt h k .transaction
+namedTransaction h E k = eventAt h k .transaction
+
+-- the rule holds wherever it is put to, and all five do
+abbrev pub Holds : (ℕ → ℕ) → List Event → Marking → Rule → Type 0
+Holds start h m r = (k : ℕ) → k < putTo h r → ruleHolds start h m r k ≡ true
+
+abbrev pub AllHold : (ℕ → ℕ) → List Event → Marking → Type 0
+AllHold start h m = (r : Rule) → Holds start h m r
+
+-- k is where the first broken rule is broken lowest: nothing lower breaks it, and the rules before it hold
+pub record FirstBroken (start : ℕ → ℕ) (h : List Event) (m : Marking) (r : Rule) (k : ℕ) : Type 0 where
+  pub inside : k < putTo h r
+  pub broken : ruleHolds start h m r k ≡ false
+  pub lowest : (j : ℕ) → j < k → ruleHolds start h m r j ≡ true
+  pub earlier : (q : Rule) → ruleNumber q < ruleNumber r → Holds start h m q
+
+-- i is the last event of t
+pub record LastOf (h : List Event) (t i : ℕ) : Type 0 where
+  pub inside : i < length h
+  pub names : eventAt h i .transaction ≡ t
+  pub later : (j : ℕ) → i < j → j < length h → eventAt h j .transaction ≡ t → ⊥
+
+-- i is the begin of t
+pub record BeginOf (h : List Event) (t i : ℕ) : Type 0 where
+  pub inside : i < length h
+  pub begins : isBegin (eventAt h i) ≡ true
+  pub names : eventAt h i .transaction ≡ t
+
+-- rule D at every event
+abbrev pub RuleD : List Event → Marking → Type 0
+RuleD h m = (i : ℕ) → i < length h → noWriterBetween h (m .places) (gapOf (m .points) i) i ≡ true

@@ -1,7 +1,8 @@
--- The scan and the counts of the report (the paper, "Scan and report").
+-- The scan (the paper, "Scan and report").
 -- Assumes nothing.
-use Prim.Native.Nat.{ℕ, zero, suc, _≤_}
-use mathlib.Core.Bool.{Bool, true, false, cond}
+use Prim.Native.Nat.{ℕ, suc, _≤_, _<_}
+use mathlib.Core.Path.{_≡_}
+use mathlib.Core.Bool.{cond}
 use mathlib.Core.List.{List, [], _∷_}
 use mathlib.Core.Option.{Option, none, some}
 use lib.ListN.{length, take}
@@ -9,14 +10,18 @@ pub use Rattle.opacity.specs.declared.verdict.Scanned.{Scanned}
 pub use Rattle.opacity.specs.declared.verdict.Scanned.the-variants.{Opaque, Faulted}
 use Rattle.events.specs.Lists.{isNone, first}
 use Rattle.events.specs.declared.event.Event.{Event}
-use Rattle.events.specs.Events.{eventAt, begins, isRead, isCommit, isAbort}
-use Rattle.opacity.specs.Transactions.{storeReads}
+use Rattle.events.specs.Events.{eventAt, isRead, isCommit, isAbort}
 use Rattle.opacity.specs.Justification.{Place, Justified}
 use Rattle.opacity.specs.Lowest.{lowestOf}
 
 -- by the kind: 1 read returned, 2 committed, 3 aborted, 4 any other
 unfoldable pub cause : Event → ℕ
 cause e = cond (isRead e) 1 (cond (isCommit e) 2 (cond (isAbort e) 3 4))
+
+-- the scan's numbers: 0 for opaque, or the cause and the event
+abbrev pub scannedNumbers : Scanned → List ℕ
+scannedNumbers Opaque = 0 ∷ []
+scannedNumbers (Faulted i c) = c ∷ i ∷ []
 
 abbrev pub answer : List Event → Option ℕ → Scanned
 answer h none = Opaque
@@ -30,11 +35,9 @@ scan start h = answer h (first (λ i. isNone (lowestOf start (take (suc i) h))) 
 abbrev pub AllJustified : (ℕ → ℕ) → List Event → Type 0
 AllJustified start h = (n : ℕ) → n ≤ length h → (J : List Place) × Justified start (take n h) J
 
--- the counts of the report's first line
-pub record Counts : Type 0 where
-  pub events : ℕ
-  pub transactions : ℕ
-  pub reads : ℕ
-
-unfoldable pub counts : List Event → Counts
-counts h = record { events = length h; transactions = begins h; reads = length (storeReads h) }
+-- event i is the last of the first prefix without a justification, and c is the cause of its kind
+pub record FaultsAt (start : ℕ → ℕ) (h : List Event) (i c : ℕ) : Type 0 where
+  pub inside : i < length h
+  pub why : c ≡ cause (eventAt h i)
+  pub none-here : (J : List Place) → Justified start (take (suc i) h) J → ⊥
+  pub shorter : (n : ℕ) → n ≤ i → (J : List Place) × Justified start (take n h) J

@@ -1,7 +1,7 @@
 -- Running the transactions of an order one at a time. It is said by a machine with a store, and with no notion of writers, own reads or
 -- legality: `proofs/Serial.antt` proves that justification demands exactly the reads that this machine gives.
 -- Assumes nothing.
-use Prim.Native.Nat.{ℕ, zero, suc, _≤_, _<_}
+use Prim.Native.Nat.{ℕ, _≤_, _<_, suc}
 use mathlib.Core.Path.{_≡_}
 use mathlib.Core.Bool.{Bool, true, false, cond}
 use mathlib.Core.List.{List, [], _∷_}
@@ -9,9 +9,10 @@ use lib.Dec.{eqb}
 use lib.ListN.{length, take}
 use Rattle.events.specs.Lists.{_and_, _implies_, keep}
 use Rattle.events.specs.declared.event.Event.{Event}
-use Rattle.events.specs.Events.{isRead, isWrite, begins}
+use Rattle.events.specs.Events.{eventAt, isRead, isWrite, begins}
 use Rattle.opacity.specs.Justification.{Place, isOrder, outcomeKept, realTimeKept}
 use Rattle.opacity.specs.Lowest.{lower}
+use Rattle.opacity.specs.Scan.{cause}
 
 -- what each register holds
 abbrev pub Store : Type 0
@@ -69,3 +70,10 @@ pub record LowestSerial (start : Store) (h : List Event) (J : List Place) : Type
 -- every prefix has an order that explains it so
 abbrev pub AllSerial : Store → List Event → Type 0
 AllSerial start h = (n : ℕ) → n ≤ length h → (J : List Place) × Serial start (take n h) J
+
+-- event i is the last of the first prefix that has none, and c is the cause of its kind
+pub record SerialFaultsAt (start : Store) (h : List Event) (i c : ℕ) : Type 0 where
+  pub inside : i < length h
+  pub why : c ≡ cause (eventAt h i)
+  pub none-here : (J : List Place) → Serial start (take (suc i) h) J → ⊥
+  pub shorter : (n : ℕ) → n ≤ i → (J : List Place) × Serial start (take n h) J

@@ -1,6 +1,7 @@
 -- What a history says of its transactions ("Justification"): status and allowed outcomes, real time, writes, own reads and store reads.
 -- Assumes nothing.
-use Prim.Native.Nat.{ℕ, zero, suc, _<_}
+use Prim.Native.Nat.{ℕ, suc, _<_}
+use mathlib.Core.Path.{_≡_}
 use mathlib.Core.Bool.{Bool, true, false, not, cond}
 use mathlib.Core.List.{List, [], _∷_}
 use mathlib.Core.Option.{Option, none, some}
@@ -34,9 +35,29 @@ unfoldable pub precedes : List Event → ℕ → ℕ → Bool
 precedes [] t u = false
 precedes (e ∷ h) t u = by isEnd t e and has isBegin u h or precedes h t u
 
+-- the same event by event: an event that ends t stands before the begin of u
+pub record EndedBefore (h : List Event) (t u : ℕ) : Type 0 where
+  pub ending : ℕ
+  pub beginning : ℕ
+  pub rising : ending < beginning
+  pub inside : beginning < length h
+  pub ends : by isEnd t (eventAt h ending) ≡ true
+  pub begins : by isBegin u (eventAt h beginning) ≡ true
+
 -- the value of the last write of t to r, if there is one
 unfoldable pub lastWrite : List Event → ℕ → ℕ → Option ℕ
 lastWrite h t r = latest (λ e. cond (by isWrite t e and eqb (e .register) r) (some (e .value)) none) h
+
+-- the same event by event: v is written by an event of t to r, and no later event of t writes r
+abbrev pub writes : List Event → ℕ → ℕ → ℕ → Bool
+writes h t r i = by isWrite t (eventAt h i) and eqb (eventAt h i .register) r
+
+pub record LastWrite (h : List Event) (t r v : ℕ) : Type 0 where
+  pub event : ℕ
+  pub inside : event < length h
+  pub write : writes h t r event ≡ true
+  pub value : eventAt h event .value ≡ v
+  pub later : (j : ℕ) → event < j → j < length h → writes h t r j ≡ false
 
 -- what the transaction of event i wrote last to the register of event i, before event i
 unfoldable pub ownWrite : List Event → ℕ → Option ℕ

@@ -1,0 +1,104 @@
+-- The bytes of a marking, one place or point more.
+-- Assumes nothing.
+use mathlib.Core.Path.{_≡_, refl, sym, ap, ap₂, _∙_}
+use Prim.Native.Nat.{ℕ, suc, _+_, _*_, _-_, _/_, _%_, _≤_, _<_}
+use native.Mathlib.Numerals.{add-one}
+use native.Mathlib.Omega.{arith}
+use mathlib.Core.Bool.{Bool, true, false}
+use mathlib.Core.List.{List, [], _∷_, _++_, append-assoc}
+use lib.ListN.{length, take, drop, getD, take-append-drop}
+use lib.Seq.{take-suc, take-take, drop-cons, getD-take, length-take-le}
+use lib.Dec.{eqb}
+use borrow.Author.Tests.{eqb-true, eqb-false, ne-eqb}
+use Rattle.events.specs.Lists.{_or_, any}
+use Rattle.opacity.specs.Justification.{Place, isOf, placed, before}
+use Rattle.opacity.specs.Marking.{placeOf}
+use Rattle.events.proofs.ListLaws.{nor-l, nor-r, nor-i}
+use Rattle.opacity.proofs.Orders.{before-here}
+use Rattle.tables.specs.Order.{coded, decode}
+use Rattle.events.specs.Bytes as bytes
+use Rattle.events.specs.Bytes.{u16Bytes}
+use Rattle.opacity.specs.Marking.{outcomeNumber, placeBytes, flat}
+use Rattle.tables.proofs.TreeLink.{decode-snoc, placed-snoc}
+use Rattle.finder.proofs.RunLaws.{placed-then}
+
+pub flat-append : {A : Type 0} (f : A → List ℕ) (xs ys : List A) → flat f (xs ++ ys) ≡ flat f xs ++ flat f ys
+unfolding flat
+flat-append f [] ys = refl
+flat-append f (x ∷ xs) ys = ap (λ (l : List ℕ). f x ++ l) (flat-append f xs ys) ∙ sym (append-assoc (f x) (flat f xs) (flat f ys))
+
+pub decode-append : (p q : List ℕ) → decode (p ++ q) ≡ decode p ++ decode q
+unfolding decode
+decode-append [] q = refl
+decode-append (c ∷ p) q = ap (λ (l : List Place). coded c ∷ l) (decode-append p q)
+
+pub decode-length : (p : List ℕ) → length (decode p) ≡ length p
+unfolding decode
+decode-length [] = refl
+decode-length (c ∷ p) = ap suc (decode-length p)
+
+pub flat-places-length : (J : List Place) → length (flat placeBytes J) ≡ 8 * length J
+unfolding flat
+flat-places-length [] = refl
+flat-places-length (p ∷ J) = let i = flat-places-length J in omega arith
+
+outcome-code : (c : ℕ) → outcomeNumber (eqb (c % 2) 1) ≡ c % 2
+outcome-code c = go (eqb (c % 2) 1) refl
+  where
+    go : (b : Bool) → eqb (c % 2) 1 ≡ b → outcomeNumber b ≡ c % 2
+    go true e = sym (eqb-true (c % 2) 1 e)
+    go false e = let n : (c % 2 ≡ 1 → ⊥) = eqb-false (c % 2) 1 e in omega arith
+
+module _ (places : List ℕ) (size : length places ≡ 10) where
+  pub places-length : (i : ℕ) → i ≤ 10 → length (flat placeBytes (decode (take i places))) ≡ 8 * i
+  places-length i l = flat-places-length (decode (take i places)) ∙ ap (λ (k : ℕ). 8 * k) (decode-length (take i places) ∙ length-take-le i places (omega arith))
+
+  -- one place more in the buffer
+  pub places-more : (d o o′ : List ℕ) (i code : ℕ) → i < 10 → 6 + 8 * i ≤ length d → code ≡ getD places i 0
+      → o ≡ bytes.placed d 6 (flat placeBytes (decode (take i places)))
+      → o′ ≡ bytes.placed o (6 + 8 * i) (u16Bytes 6 ++ u16Bytes 32 ++ u16Bytes (code / 2) ++ u16Bytes (code % 2))
+      → o′ ≡ bytes.placed d 6 (flat placeBytes (decode (take (i + 1) places)))
+  unfolding flat
+  places-more d o o′ i code l room c e f =
+      let P = decode (take i places) in
+      let n : length (flat placeBytes P) ≡ 8 * i = places-length i (omega arith) in
+      let k : decode (take (i + 1) places) ≡ P ++ (coded code ∷ []) =
+      ap (λ (m : ℕ). decode (take m places)) (add-one i) ∙ ap decode (take-suc places i 0 (omega arith)) ∙ decode-snoc (take i places) (getD places i 0)
+      ∙ ap (λ (m : ℕ). P ++ (coded m ∷ [])) (sym c) in
+      let b : flat placeBytes (decode (take (i + 1) places)) ≡ flat placeBytes P ++ (u16Bytes 6 ++ u16Bytes 32 ++ u16Bytes (code / 2) ++ u16Bytes (code % 2)) =
+      ap (flat placeBytes) k ∙ flat-append placeBytes P (coded code ∷ []) ∙ ap (λ (m : ℕ). flat placeBytes P ++ (u16Bytes 6 ++ u16Bytes 32 ++ u16Bytes (code / 2) ++ u16Bytes m)) (outcome-code code) in
+      placed-then d o o′ 6 (flat placeBytes P) (u16Bytes 6 ++ u16Bytes 32 ++ u16Bytes (code / 2) ++ u16Bytes (code % 2)) (6 + 8 * i) e f (omega arith) room
+      ∙ ap (bytes.placed d 6) (sym b)
+
+  -- ---- the place of t
+
+  before-all : (t : ℕ) (J : List Place) → placed t J ≡ false → before t J ≡ J
+  unfolding before placed any
+  before-all t [] q = refl
+  before-all t (p ∷ J) q = let n : isOf t p ≡ false = nor-l _ _ q in rw n (ap (λ (l : List Place). p ∷ l) (before-all t J (nor-r _ _ q)))
+
+  pub place-none : (t count : ℕ) → count ≤ 10 → placed t (decode (take count places)) ≡ false → count ≡ placeOf t (decode (take count places))
+  unfolding placeOf
+  place-none t count l q =
+      rw (before-all t (decode (take count places)) q, decode-length (take count places), length-take-le count places (omega arith))
+
+  pub place-here : (t count i code : ℕ) → i < count → count ≤ 10 → code ≡ getD places i 0 → code / 2 ≡ t → placed t (decode (take i places)) ≡ false
+      → i ≡ placeOf t (decode (take count places))
+  unfolding placeOf decode
+  place-here t count i code li lc c h q =
+      let s : List ℕ = take count places in
+      let n : length s ≡ count = length-take-le count places (omega arith) in
+      let g : getD s i 0 ≡ code = getD-take count places i 0 li ∙ sym c in
+      let cut : s ≡ take i places ++ (code ∷ drop (suc i) s) =
+      sym (take-append-drop i s) ∙ ap₂ (λ (a b : List ℕ). a ++ b) (take-take i count places (omega arith)) (drop-cons s i 0 (omega arith) ∙ ap (λ (m : ℕ). m ∷ drop (suc i) s) g) in
+      let d : decode s ≡ decode (take i places) ++ (coded code ∷ decode (drop (suc i) s)) = ap decode cut ∙ decode-append (take i places) (code ∷ drop (suc i) s) in
+      let b : before t (decode s) ≡ decode (take i places) =
+      ap (before t) d ∙ ap (λ (m : ℕ). before m (decode (take i places) ++ (coded code ∷ decode (drop (suc i) s)))) (sym h)
+      ∙ before-here (decode (take i places)) (coded code) (decode (drop (suc i) s)) (ap (λ (m : ℕ). placed m (decode (take i places))) h ∙ q) in
+      sym (ap length b ∙ decode-length (take i places) ∙ length-take-le i places (omega arith))
+
+  pub not-yet : (t i code : ℕ) → i < 10 → code ≡ getD places i 0 → (code / 2 ≡ t → ⊥) → placed t (decode (take i places)) ≡ false → placed t (decode (take (i + 1) places)) ≡ false
+  not-yet t i code l c n q =
+      ap (λ (m : ℕ). placed t (decode (take m places))) (add-one i) ∙ ap (λ (s : List ℕ). placed t (decode s)) (take-suc places i 0 (omega arith))
+      ∙ ap (placed t) (decode-snoc (take i places) (getD places i 0)) ∙ placed-snoc t (decode (take i places)) (coded (getD places i 0))
+      ∙ nor-i _ _ q (ne-eqb _ _ (λ e. n (ap (λ (m : ℕ). m / 2) c ∙ e)))

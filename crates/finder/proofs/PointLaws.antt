@@ -1,0 +1,222 @@
+-- The points of a marking, one event more at a time.
+-- Assumes nothing.
+use mathlib.Core.Path.{_≡_, refl, sym, ap, ap₂, _∙_}
+use mathlib.Core.Logic.{⊎-elim}
+use Prim.Native.Nat.{ℕ, zero, suc, _+_, _*_, _-_, _≤_, _<_}
+use native.Mathlib.Nat.{le-refl, le-of-lt, le-of-suc-le-suc, eq-or-lt-of-le}
+use native.Mathlib.Decide.{decLe}
+use native.Mathlib.Numerals.{add-one}
+use native.Mathlib.Omega.{arith}
+use mathlib.Core.Bool.{Bool, true, false}
+use mathlib.Core.List.{List, [], _∷_, _++_, map}
+use mathlib.Core.Option.{Option, none, some}
+use lib.ListN.{length, take, drop, getD, length-append}
+use lib.Dec.{eqb}
+use lib.Seq.{length-take-le}
+use Rattle.events.specs.Questions.{readable}
+use Rattle.events.proofs.QuestionLaws.{asked-at}
+use borrow.Author.Tests.{ne-eqb}
+use Rattle.events.specs.Lists.{_and_, isNone, push, keep, range}
+use Rattle.events.specs.declared.event.Event.{Event}
+use Rattle.events.specs.Events.{eventAt, isRead}
+use Rattle.opacity.specs.Transactions.{lastWrite, isStoreRead, storeReads}
+use Rattle.events.specs.Columns.{Columns, entry, history}
+use Rattle.opacity.specs.Counts.{ofKind}
+use Rattle.opacity.specs.Justification.{Place}
+use Rattle.opacity.specs.Marking.{Point, placeOf, marked}
+use Rattle.events.proofs.ListLaws.{keep-append}
+use Rattle.events.proofs.ColumnLaws.{history-length, history-at, history-take}
+use Rattle.opacity.proofs.Prefixes.{store-read-at}
+use Rattle.tables.specs.declared.Tables.{Tables}
+use Rattle.tables.specs.Tables.{next, empty, goThrough, tablesOf}
+use Rattle.tables.specs.Order.{decode, Judged}
+use Rattle.events.specs.Bytes as bytes
+use Rattle.events.specs.Bytes.{over}
+use Rattle.opacity.specs.Marking.{markingHead, placeBytes, pointBytes, flat, markingBytes}
+use Rattle.finder.specs.Points.{readBytes, pointsTo, pointsOf}
+use Rattle.tables.proofs.TableLaws.{tables-more}
+use Rattle.tables.proofs.Meaning.{Fine, plus, written-holds}
+use Rattle.tables.proofs.GoodHistory.{good}
+use Rattle.finder.proofs.RunLaws.{placed-then, placed-nothing}
+use Rattle.finder.proofs.MarkLaws.{flat-append, places-length}
+
+-- ---- the points of the definition
+
+map-append : {A B : Type 0} (f : A → B) (xs ys : List A) → map f (xs ++ ys) ≡ map f xs ++ map f ys
+map-append f [] ys = refl
+map-append f (x ∷ xs) ys = ap (λ (l : List _). f x ∷ l) (map-append f xs ys)
+
+points-are : (store : ℕ → Bool) (gap : ℕ → ℕ) (n : ℕ)
+    → flat pointBytes (map (λ i. record { event = i; gap = gap i }) (keep store (range n))) ≡ pointsTo store gap n
+unfolding flat keep range pointsTo
+points-are store gap zero = refl
+points-are store gap (suc n) =
+    let f : ℕ → Point = λ (i : ℕ). record { event = i; gap = gap i } in
+    ap (λ (l : List ℕ). flat pointBytes (map f l)) (keep-append store (range n) (n ∷ []))
+    ∙ ap (flat pointBytes) (map-append f (keep store (range n)) (keep store (n ∷ [])))
+    ∙ flat-append pointBytes (map f (keep store (range n))) (map f (keep store (n ∷ [])))
+    ∙ ap₂ (λ (a b : List ℕ). a ++ b) (points-are store gap n) (last (store n))
+  where
+    last : (b : Bool) → flat pointBytes (map (λ i. record { event = i; gap = gap i }) (push b n [])) ≡ readBytes b n (gap n)
+    last true = refl
+    last false = refl
+
+pub marking-is : (h : List Event) (J : List Place) → markingBytes (marked h J) ≡ markingHead ++ (flat placeBytes J ++ pointsOf h J (length h))
+unfolding markingBytes marked storeReads
+marking-is h J = ap (λ (l : List ℕ). markingHead ++ (flat placeBytes J ++ l)) (points-are (isStoreRead h) (λ i. placeOf (eventAt h i .transaction) J) (length h))
+
+points-le : (store : ℕ → Bool) (gap : ℕ → ℕ) (n i : ℕ) → i ≤ n → length (pointsTo store gap i) ≤ length (pointsTo store gap n)
+unfolding pointsTo
+points-le store gap zero i l = let e : i ≡ 0 = omega arith in rw e (le-refl 0)
+points-le store gap (suc n) i l =
+    ⊎-elim
+    (λ e. rw e (le-refl (length (pointsTo store gap (suc n)))))
+    (λ m. omega (arith, points-le store gap n i (le-of-suc-le-suc m), length-append (pointsTo store gap n) (readBytes (store n) n (gap n))))
+    (eq-or-lt-of-le l)
+
+-- ---- the points as they are written
+
+none-is : (o : Option ℕ) → eqb (plus o) 0 ≡ isNone o
+none-is none = refl
+none-is (some v) = ne-eqb (v + 1) 0 (λ e. omega arith)
+
+-- a store read, as the tables of the events before it tell
+pub store-at : (c : Columns) (n : ℕ) → Judged c n → (i : ℕ) → i < n → (s : Tables) (store : Bool) → s ≡ tablesOf (history c i)
+    → store ≡ (isRead (ofKind (entry c i .kind)) and eqb (getD (s .written) (entry c i .transaction * 32 + entry c i .register) 0) 0)
+    → store ≡ isStoreRead (history c n) i
+unfolding isRead
+store-at c n j i l s store tables reads =
+    let h = history c n in
+    let inside : i < length h = rw (history-length c n) l in
+    let its : Fine (take i h) (eventAt h i) = good h (j .readable) (j .few) i inside in
+    let a : eventAt h i ≡ entry c i = history-at c n i l in
+    let f : Fine (take i h) (entry c i) = rw a at its in
+    let w : getD (tablesOf (take i h) .written) (entry c i .transaction * 32 + entry c i .register) 0 ≡ plus (lastWrite (take i h) (entry c i .transaction) (entry c i .register)) =
+    written-holds h (good h (j .readable) (j .few)) i (le-of-lt inside) (entry c i .transaction) (entry c i .register) (f .transaction) (f .register) in
+    let v : getD (s .written) (entry c i .transaction * 32 + entry c i .register) 0 ≡ plus (lastWrite (history c i) (entry c i .transaction) (entry c i .register)) =
+    ap (λ (x : Tables). getD (x .written) (entry c i .transaction * 32 + entry c i .register) 0) tables ∙ (rw (history-take c n i (le-of-lt l)) at w) in
+    reads
+    ∙ ap (λ (b : Bool). isRead (ofKind (entry c i .kind)) and b) (ap (λ (m : ℕ). eqb m 0) v ∙ none-is (lastWrite (history c i) (entry c i .transaction) (entry c i .register)))
+    ∙ sym (store-read-at c n i l)
+
+-- the events below i have their points in the buffer
+pub record Pointing (c : Columns) (n : ℕ) (J : List Place) (d : List ℕ) (from i : ℕ) (out : List ℕ) (s : Tables) (to : ℕ) : Type 0 where
+  pub passed : i ≤ n
+  pub tables : s ≡ tablesOf (history c i)
+  pub long : length out ≡ length d
+  pub ends : to ≡ from + length (pointsOf (history c n) J i)
+  pub bytes : out ≡ bytes.placed d from (pointsOf (history c n) J i)
+
+module _ (c : Columns) (n : ℕ) (J : List Place) (d : List ℕ) (from : ℕ) where
+  pub pointing-none : (s : Tables) → s ≡ empty → Pointing c n J d from 0 d s from
+  unfolding pointsTo history tablesOf goThrough
+  pointing-none s e = record { passed = omega arith; tables = e; long = refl; ends = omega arith; bytes = placed-nothing d from }
+
+  module _ (j : Judged c n) (room : from + length (pointsOf (history c n) J n) ≤ length d) (i : ℕ) (l : i < n) (out : List ℕ) (s : Tables) (to : ℕ)
+      (p : Pointing c n J d from i out s to) (store : Bool) (gap : ℕ)
+      (reads : store ≡ (isRead (ofKind (entry c i .kind)) and eqb (getD (s .written) (entry c i .transaction * 32 + entry c i .register) 0) 0))
+      (place : gap ≡ placeOf (entry c i .transaction) J) where
+    store-is : store ≡ isStoreRead (history c n) i
+    store-is = store-at c n j i l s store (p .tables) reads
+
+    gap-is : gap ≡ placeOf (eventAt (history c n) i .transaction) J
+    gap-is = place ∙ ap (λ (e : Event). placeOf (e .transaction) J) (sym (history-at c n i l))
+
+    bytes-are : readBytes store i gap ≡ readBytes (isStoreRead (history c n) i) i (placeOf (eventAt (history c n) i .transaction) J)
+    bytes-are = ap₂ (λ (b : Bool) (g : ℕ). readBytes b i g) store-is gap-is
+
+    more : pointsOf (history c n) J (i + 1) ≡ pointsOf (history c n) J i ++ readBytes store i gap
+    unfolding pointsTo
+    more = rw (add-one, bytes-are)
+
+    fits : from + length (pointsOf (history c n) J i) + length (readBytes store i gap) ≤ length d
+    fits =
+        let a : length (pointsOf (history c n) J (i + 1)) ≤ length (pointsOf (history c n) J n) =
+        points-le (isStoreRead (history c n)) (λ i. placeOf (eventAt (history c n) i .transaction) J) n (i + 1) (omega arith) in
+        let b : length (pointsOf (history c n) J (i + 1)) ≡ length (pointsOf (history c n) J i) + length (readBytes store i gap) =
+        ap length more ∙ length-append (pointsOf (history c n) J i) (readBytes store i gap) in
+        omega arith
+
+    pub pointing-room : to + length (readBytes store i gap) ≤ length out
+    pointing-room = rw (p .long, p .ends) fits
+
+    pub pointing-more : (out′ : List ℕ) (s′ : Tables) (to′ : ℕ) → length out′ ≡ length out → out′ ≡ bytes.placed out to (readBytes store i gap)
+        → to′ ≡ to + length (readBytes store i gap) → s′ ≡ next s (entry c i) → Pointing c n J d from (i + 1) out′ s′ to′
+    pointing-more out′ s′ to′ k e f g =
+        let b : length (pointsOf (history c n) J (i + 1)) ≡ length (pointsOf (history c n) J i) + length (readBytes store i gap) =
+        ap length more ∙ length-append (pointsOf (history c n) J i) (readBytes store i gap) in
+        let a = p .ends in
+        record {
+          passed = omega arith;
+          tables = tables-more c i s s′ (p .tables) g;
+          long = k ∙ p .long;
+          ends = omega arith;
+          bytes = rw more (placed-then d out out′ from (pointsOf (history c n) J i) (readBytes store i gap) to (p .bytes) e (sym a) (let q = fits in omega arith));
+        }
+
+-- ---- the marking
+
+module _ (c : Columns) (n : ℕ) (places : List ℕ) (size : length places ≡ 10) (count : ℕ) (few : count ≤ 10) where
+  J : List Place
+  J = decode (take count places)
+
+  pub marking-here : markingBytes (marked (history c n) (decode (take count places)))
+      ≡ markingHead ++ (flat placeBytes (decode (take count places)) ++ pointsOf (history c n) (decode (take count places)) n)
+  marking-here =
+      marking-is (history c n) (decode (take count places))
+      ∙ ap (λ (k : ℕ). markingHead ++ (flat placeBytes (decode (take count places)) ++ pointsOf (history c n) (decode (take count places)) k)) (history-length c n)
+
+  pub marking-length : length (markingBytes (marked (history c n) (decode (take count places)))) ≡ 6 + 8 * count + length (pointsOf (history c n) (decode (take count places)) n)
+  marking-length =
+      let a = ap length marking-here in
+      let b = length-append (flat placeBytes (decode (take count places))) (pointsOf (history c n) (decode (take count places)) n) in
+      let d = places-length places size count few in
+      omega arith
+
+  pub marking-written : (d o₁ o₂ o₃ : List ℕ) → length (markingBytes (marked (history c n) (decode (take count places)))) ≤ length d
+      → o₁ ≡ bytes.placed d 0 markingHead → o₂ ≡ bytes.placed o₁ 6 (flat placeBytes (decode (take count places)))
+      → o₃ ≡ bytes.placed o₂ (6 + 8 * count) (pointsOf (history c n) (decode (take count places)) n)
+      → o₃ ≡ over (markingBytes (marked (history c n) (decode (take count places)))) d
+  marking-written d o₁ o₂ o₃ room e₁ e₂ e₃ =
+      let F = flat placeBytes (decode (take count places)) in
+      let k = marking-length in
+      let m = places-length places size count few in
+      let a : o₂ ≡ bytes.placed d 0 (markingHead ++ F) = placed-then d o₁ o₂ 0 markingHead F 6 e₁ e₂ refl (omega arith) in
+      let b : o₃ ≡ bytes.placed d 0 ((markingHead ++ F) ++ pointsOf (history c n) (decode (take count places)) n) =
+      placed-then d o₂ o₃ 0 (markingHead ++ F) (pointsOf (history c n) (decode (take count places)) n) (6 + 8 * count) a e₃ (omega arith) (omega arith) in
+      b ∙ ap (λ (l : List ℕ). bytes.placed d 0 l) (sym marking-here) ∙ starts d (markingBytes (marked (history c n) (decode (take count places))))
+    where
+      starts : (d xs : List ℕ) → bytes.placed d 0 xs ≡ over xs d
+      starts d xs = let z : 0 + length xs ≡ length xs = omega arith in ap (λ (k : ℕ). xs ++ drop k d) z
+
+-- a readable history has at most 2,048 events, and no more store reads
+pub events-low : (h : List Event) → readable h ≡ true → length h ≤ 2048
+events-low h r =
+    elim (decLe (length h) 2048) [
+      | yes x ↦ x
+      | no x ↦
+          let l : 2048 < length h = omega arith in
+          let q : length (take 2048 h) < 2048 = asked-at h r 2048 l .room in
+          absurd (omega (arith, length-take-le 2048 h (le-of-lt l)))
+    ]
+
+keep-le : {A : Type 0} (p : A → Bool) (xs : List A) → length (keep p xs) ≤ length xs
+unfolding keep
+keep-le p [] = le-refl 0
+keep-le p (x ∷ xs) = go (p x) (keep-le p xs)
+  where
+    go : (b : Bool) → length (keep p xs) ≤ length xs → length (push b x (keep p xs)) ≤ suc (length xs)
+    go true ih = omega arith
+    go false ih = omega arith
+
+range-length : (n : ℕ) → length (range n) ≡ n
+unfolding range
+range-length zero = refl
+range-length (suc n) = omega (arith, length-append (range n) (n ∷ []), range-length n)
+
+pub reads-low : (h : List Event) → readable h ≡ true → length (storeReads h) ≤ 2048
+unfolding storeReads
+reads-low h r = omega (arith, keep-le (isStoreRead h) (range (length h)), range-length (length h), events-low h r)
+
+pub low-count : (c : Columns) (n : ℕ) → Judged c n → n ≤ 2048
+low-count c n j = rw (history-length c n) at (events-low (history c n) (j .readable))

@@ -1,0 +1,157 @@
+-- What the finder's answer means, in both directions. `find_marking` gives `foundAnswer`, so each theorem is one about its result and its
+-- output. Assumes nothing.
+use mathlib.Core.Path.{_≡_, refl, sym, ap, ap₂, _∙_}
+use mathlib.Core.Logic.{_↔_}
+use Prim.Native.Nat.{ℕ, _≤_}
+use mathlib.Core.Bool.{true}
+use mathlib.Core.List.{List}
+use mathlib.Core.Option.{Option, none, some}
+use lib.ListN.{length, take, drop}
+use lib.Seq.{take-at, drop-at}
+use Rattle.events.specs.declared.event.Event.{Event}
+use Rattle.events.specs.declared.columns.Checked.{Checked}
+use Rattle.events.specs.Bytes.{over}
+use Rattle.events.specs.Columns.{Columns, history, hold}
+use Rattle.events.specs.Questions.{readable}
+use Rattle.events.proofs.ColumnLaws.{history-length}
+use Rattle.events.proofs.QuestionLaws.{readable-take}
+use Rattle.opacity.specs.Justification.{Place, Justified}
+use Rattle.opacity.specs.Lowest.{LowestJustified}
+use Rattle.opacity.specs.Serial.{Serial, LowestSerial}
+use Rattle.opacity.specs.Marking.{ReadableFor, marked, markingBytes, verdict}
+use Rattle.opacity.specs.declared.verdict.Verdict.{Verdict}
+use Rattle.opacity.proofs.Least.{lowest-least}
+use Rattle.opacity.proofs.Theorems.{lowest-some, lowest-none, prefix-lowest-serial, prefix-none-serial, marked-is-readable, marked-is-accepted}
+use Rattle.finder.specs.declared.Found.{Found}
+use Rattle.finder.specs.Answer.{Given, gives, decided, findRefusal, lowestMarking, foundAnswer}
+use Rattle.finder.proofs.AnswerLaws.{decided-refused, decided-marking, decided-none, marking-e, none-e, refused-e, passed, marking-some, some-marking, none-marking, marking-none}
+
+-- every register is 0 before any writer
+abbrev pub zeros : ℕ → ℕ
+zeros r = 0
+
+-- a call: columns, count, prefix length, and the output as it was
+module _ (c : Columns) (count prefix : ℕ) (output : List ℕ) where
+  -- the events judged: the first `prefix` of the first `count`
+  abbrev pub judged : List Event
+  judged = take prefix (history c count)
+
+  -- no question says no
+  abbrev pub Passes : Type 0
+  Passes = findRefusal c count prefix (length output) ≡ Checked.Readable
+
+  inside : Passes → prefix ≤ length (history c count)
+  inside x = rw (history-length c count) (passed c count prefix (length output) x .inside)
+
+  judged-readable : Passes → readable judged ≡ true
+  judged-readable x = readable-take (history c count) prefix (inside x) (passed c count prefix (length output) x .readable)
+
+  -- A question refuses exactly where it is the first that says no, and then the output is as it was.
+  pub refused-exactly : (q e : ℕ) → (foundAnswer c count prefix output .result ≡ Found.Refused q e) ↔ (findRefusal c count prefix (length output) ≡ Checked.Refused q e)
+  unfolding foundAnswer
+  refused-exactly q e = (
+    λ x. refused-e _ _ output q e x .0,
+    λ x. ap (λ (g : Given). g .result) (sym (decided-refused (lowestMarking zeros judged) output x)),
+  )
+
+  pub refused-unchanged : (q e : ℕ) → foundAnswer c count prefix output .result ≡ Found.Refused q e → foundAnswer c count prefix output .output ≡ output
+  unfolding foundAnswer
+  refused-unchanged q e x = refused-e _ _ output q e x .1
+
+  -- A marking is found exactly where the prefix has a justification,
+  pub marking-exactly : Passes → ((n : ℕ) × (foundAnswer c count prefix output .result ≡ Found.Marking n)) ↔ ((J : List Place) × Justified zeros judged J)
+  unfolding foundAnswer
+  marking-exactly x = (
+    λ w.
+        let m = marking-e _ _ output (w .0) (w .1) in
+        let s = marking-some zeros judged (m .found) in
+        (s .0, lowest-some zeros judged (judged-readable x) (s .0) .0 (s .1) .justifies),
+    λ w.
+        let l = lowest-least zeros judged (w .1) in
+        let g = decided-marking _ output _ x (some-marking zeros judged (l .1)) refl refl in
+        (length (markingBytes (marked judged (l .0))), ap (λ (v : Given). v .result) (sym g)),
+  )
+
+  -- and none exactly where it has none; with none the output is as it was.
+  pub none-exactly : Passes → (foundAnswer c count prefix output .result ≡ Found.None) ↔ ((J : List Place) → Justified zeros judged J → ⊥)
+  unfolding foundAnswer
+  none-exactly x =
+      let e = lowest-none zeros judged (judged-readable x) in (
+        λ w. e .0 (marking-none zeros judged (none-e _ _ output w .1)),
+        λ f. ap (λ (v : Given). v .result) (sym (decided-none output x (none-marking zeros judged (e .1 f)))),
+      )
+
+  pub none-unchanged : foundAnswer c count prefix output .result ≡ Found.None → foundAnswer c count prefix output .output ≡ output
+  unfolding foundAnswer
+  none-unchanged x = none-e _ _ output x .2
+
+  -- The lowest justification's marking is what is written, from the output's first byte, and its length is what is returned.
+  pub lowest-written : Passes → (J : List Place) → LowestJustified zeros judged J
+      → foundAnswer c count prefix output ≡ gives (Found.Marking (length (markingBytes (marked judged J)))) (over (markingBytes (marked judged J)) output)
+  unfolding foundAnswer
+  lowest-written x J j = sym (decided-marking _ output _ x (some-marking zeros judged (lowest-some zeros judged (judged-readable x) J .1 j)) refl refl)
+
+  -- What is written is the marking of the lowest justification. It is readable for the prefix, and the rules accept it.
+  pub record Written (n : ℕ) : Type 0 where
+    pub passes : Passes
+    pub order : List Place
+    pub lowest : LowestJustified zeros judged order
+    pub bytes : take n (foundAnswer c count prefix output .output) ≡ markingBytes (marked judged order)
+    pub behind : drop n (foundAnswer c count prefix output .output) ≡ drop n output
+    pub readable : ReadableFor judged (marked judged order)
+    pub accepted : verdict zeros judged (marked judged order) ≡ Verdict.Accepted
+
+  pub written : (n : ℕ) → foundAnswer c count prefix output .result ≡ Found.Marking n → Written n
+  unfolding foundAnswer
+  written n x =
+      let m = marking-e _ _ output n x in
+      let s = marking-some zeros judged (m .found) in
+      let r = judged-readable (m .passes) in
+      let l = lowest-some zeros judged r (s .0) .0 (s .1) in
+      let k : length (m .bytes) ≡ n = sym (m .size) in
+      record {
+        passes = m .passes;
+        order = s .0;
+        lowest = l;
+        bytes = rw (m .output) (take-at (m .bytes) (drop (length (m .bytes)) output) n k ∙ s .2);
+        behind = rw (m .output) (drop-at (m .bytes) (drop (length (m .bytes)) output) n k ∙ ap (λ (i : ℕ). drop i output) k);
+        readable = marked-is-readable zeros judged r (s .0) (l .justifies);
+        accepted = marked-is-accepted zeros judged r (s .0) (l .justifies);
+      }
+
+  -- The same in the words of a machine that runs the transactions one at a time: the marking is that of the lowest order that explains
+  -- the prefix, and none is found exactly where no order explains it.
+  pub lowest-serial-written : Passes → (J : List Place) → LowestSerial zeros judged J
+      → foundAnswer c count prefix output ≡ gives (Found.Marking (length (markingBytes (marked judged J)))) (over (markingBytes (marked judged J)) output)
+  unfolding foundAnswer
+  lowest-serial-written x J s =
+      let e = prefix-lowest-serial zeros (history c count) (passed c count prefix (length output) x .readable) prefix (inside x) J .1 s in
+      sym (decided-marking _ output _ x (some-marking zeros judged e) refl refl)
+
+  pub none-serial : Passes → (foundAnswer c count prefix output .result ≡ Found.None) ↔ ((K : List Place) → Serial zeros judged K → ⊥)
+  unfolding foundAnswer
+  none-serial x =
+      let e = prefix-none-serial zeros (history c count) (passed c count prefix (length output) x .readable) prefix (inside x) in (
+        λ w. e .0 (marking-none zeros judged (none-e _ _ output w .1)),
+        λ f. ap (λ (v : Given). v .result) (sym (decided-none output x (none-marking zeros judged (e .1 f)))),
+      )
+
+refusal-same : (c d : Columns) (count prefix : ℕ) {m n : ℕ} → hold c count ≡ hold d count → history c count ≡ history d count → m ≡ n
+    → findRefusal c count prefix m ≡ findRefusal d count prefix n
+unfolding findRefusal
+refusal-same c d count prefix e f g = rw (e, f, g)
+
+result-same : (x : Checked) (m : Option (List ℕ)) (o p : List ℕ) → decided x m o .result ≡ decided x m p .result
+unfolding decided
+result-same (Checked.Refused q e) m o p = refl
+result-same Checked.Readable none o p = refl
+result-same Checked.Readable (some bytes) o p = refl
+
+-- What stands in the columns past the count, and what the output held, make no difference: columns that hold the same events below the
+-- count, and an output of the same length, give the same result.
+pub past-count : (c d : Columns) (count prefix : ℕ) (output before : List ℕ) → hold c count ≡ hold d count → history c count ≡ history d count → length output ≡ length before
+    → foundAnswer c count prefix output .result ≡ foundAnswer d count prefix before .result
+unfolding foundAnswer
+past-count c d count prefix output before e f g =
+    ap₂ (λ (x : Checked) (m : Option (List ℕ)). decided x m output .result) (refusal-same c d count prefix e f g) (ap (λ (h : List Event). lowestMarking zeros (take prefix h)) f)
+    ∙ result-same (findRefusal d count prefix (length before)) (lowestMarking zeros (take prefix (history d count))) output before

@@ -1,0 +1,56 @@
+-- `finder::records::put_point` meets its contract.
+-- Assumes nothing.
+use mathlib.Core.Path.{refl}
+use mathlib.Core.List.{_++_}
+use Prim.Native.Nat.{_+_, _-_}
+use native.Mathlib.Omega.{arith}
+use denote.Ref.{now}
+use Rattle.events.specs.Bytes.{u16Bytes, u32Bytes}
+use Rattle.finder.proofs.RunLaws.{placed-then}
+use borrow.Author.Needs.{needs}
+use Rattle.finder.proofs.records.put_point.Statement.{statement}
+use Rattle.finder.proofs.records.put_point.Tie as tie
+
+put-u16-requires : tie.Need-put-u16-requires
+put-u16-requires c κs = search needs
+
+add-put-u16 : tie.Need-add-put-u16
+add-put-u16 c = search needs
+
+put-u16-requires-2 : tie.Need-put-u16-requires-2
+put-u16-requires-2 c κs = search needs
+
+add-put-u32 : tie.Need-add-put-u32
+add-put-u32 c = search needs
+
+put-u32-requires : tie.Need-put-u32-requires
+put-u32-requires c κs = search needs
+
+add-put-u16-2 : tie.Need-add-put-u16-2
+add-put-u16-2 c = search needs
+
+put-u16-requires-3 : tie.Need-put-u16-requires-3
+put-u16-requires-3 c κs = search needs
+
+same-length : tie.Need-same-length
+same-length c = search needs
+
+returns : tie.Need-returns
+returns c =
+    let start = c .before .before .before .before .before .before .before .before .before .before .before .before .before .before .before .before .before in
+    let room = start .pre in
+    (placed-then (now (start .args .out)) _ _ (start .args .at) (u16Bytes 8 ++ u16Bytes 33 ++ u32Bytes (start .args .event)) (u16Bytes (start .args .gap)) ((start .args .at) + 8) (placed-then (now (start .args .out)) _ _ (start .args .at) (u16Bytes 8 ++ u16Bytes 33) (u32Bytes (start .args .event)) ((start .args .at) + 4) (placed-then (now (start .args .out)) _ _ (start .args .at) (u16Bytes 8) (u16Bytes 33) ((start .args .at) + 2) (c .before .before .before .before .before .before .before .before .before .before .before .before .before .before .put-u16 .ensures) (c .before .before .before .before .before .before .before .before .before .before .put-u162 .ensures) refl (omega arith)) (c .before .before .before .before .before .before .put-u32 .ensures) refl (omega arith)) (c .before .before .put-u163 .ensures) refl (omega arith))
+
+pub put-point-spec : {M : Type 1} → statement M
+put-point-spec =
+    tie.close
+    (tie.spec
+    put-u16-requires
+    add-put-u16
+    put-u16-requires-2
+    add-put-u32
+    put-u32-requires
+    add-put-u16-2
+    put-u16-requires-3
+    same-length
+    returns)

@@ -1,0 +1,28 @@
+-- `finder::writer::put_read` meets its contract.
+-- Assumes nothing.
+use mathlib.Core.Path.{refl}
+use Prim.Native.Nat.{_-_}
+use native.Mathlib.Omega.{arith}
+use denote.Ref.{now}
+use Rattle.finder.proofs.RunLaws.{placed-nothing}
+use borrow.Author.Needs.{needs}
+use Rattle.finder.proofs.writer.put_read.Statement.{statement}
+use Rattle.finder.proofs.writer.put_read.Tie as tie
+
+put-point-requires : tie.Need-put-point-requires
+put-point-requires c κs = rw (c .before .if1 .taken) at (c .before .before .before .pre)
+
+add-result : tie.Need-add-result
+add-result c = search needs
+
+same-length : tie.Need-same-length
+same-length c = search needs
+
+returns : tie.Need-returns
+returns c = simp (c .before .before .before .before .if1 .taken) (c .before .before .put-point .ensures, refl)
+
+returns-2 : tie.Need-returns-2
+returns-2 c = simp (c .if1 .left) (placed-nothing (now (c .before .before .args .out)) (c .before .before .args .at), (omega arith))
+
+pub put-read-spec : {M : Type 1} → statement M
+put-read-spec = tie.close (tie.spec put-point-requires add-result same-length returns returns-2)

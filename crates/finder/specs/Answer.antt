@@ -1,0 +1,74 @@
+-- The finder's answer ("Finder"): the marking of the lowest justification of a prefix, or none, or the first question that says no.
+-- Assumes nothing.
+use mathlib.Core.Path.{_≡_}
+use Prim.Native.Nat.{ℕ, _+_, _*_, _≤_}
+use mathlib.Core.Bool.{true}
+use mathlib.Core.List.{List, [], _∷_}
+use mathlib.Core.Option.{Option, none, some}
+use lib.Dec.{leb}
+use lib.ListN.{length, take}
+use Rattle.events.specs.declared.event.Event.{Event}
+use Rattle.events.specs.declared.columns.Checked.{Checked}
+use Rattle.events.specs.Bytes.{over}
+use Rattle.events.specs.Events.{begins}
+use Rattle.events.specs.Columns.{Columns, history, hold}
+use Rattle.events.specs.Questions.{ask, readable, eventsAnswer}
+use Rattle.opacity.specs.Transactions.{storeReads}
+use Rattle.opacity.specs.Justification.{Place}
+use Rattle.opacity.specs.Lowest.{lowestOf}
+use Rattle.opacity.specs.Marking.{marked, markingBytes}
+use Rattle.tables.specs.Calls.{askedOf, thenChecked}
+use Rattle.finder.specs.declared.Found.{Found}
+
+-- What a call gives: its result, and the output afterwards.
+pub record Given : Type 0 where
+  pub result : Found
+  pub output : List ℕ
+
+abbrev pub gives : Found → List ℕ → Given
+gives r o = record { result = r; output = o }
+
+-- the paper's number of an answer, the question that says no or 0, and its values: the length of the marking, or the event
+unfoldable pub number : Found → ℕ
+number (Found.Marking n) = 0
+number Found.None = 0
+number (Found.Refused q e) = q
+
+unfoldable pub values : Found → List ℕ
+values (Found.Marking n) = n ∷ []
+values Found.None = []
+values (Found.Refused q e) = e ∷ []
+
+-- the bytes of a marking: the head, its transactions and its store reads
+abbrev pub markingSize : List Event → ℕ
+markingSize h = 6 + 8 * begins h + 10 * length (storeReads h)
+
+-- 31 and 32, of the events of the prefix
+unfoldable pub prefixRefusal : List Event → ℕ → ℕ → Checked
+prefixRefusal h count room =
+    askedOf count (ask 31 (leb (begins h) 10) ∷ ask 32 (leb (markingSize h) room) ∷ [])
+
+-- 17 and 18; every event below the count; 31 and 32: the first that says no, with its event
+unfoldable pub findRefusal : Columns → ℕ → ℕ → ℕ → Checked
+findRefusal c count prefix room =
+    thenChecked (askedOf count (ask 17 (hold c count) ∷ ask 18 (leb prefix count) ∷ []))
+    (thenChecked (eventsAnswer (history c count))
+    (prefixRefusal (take prefix (history c count)) count room))
+
+abbrev pub markingOf : List Event → Option (List Place) → Option (List ℕ)
+markingOf h none = none
+markingOf h (some J) = some (markingBytes (marked h J))
+
+-- the marking of the lowest justification
+unfoldable pub lowestMarking : (ℕ → ℕ) → List Event → Option (List ℕ)
+lowestMarking start h = markingOf h (lowestOf start h)
+
+-- A refusal and none leave the output alone; a marking is written from its first byte, and nothing behind it changes.
+unfoldable pub decided : Checked → Option (List ℕ) → List ℕ → Given
+decided (Checked.Refused q e) m o = gives (Found.Refused q e) o
+decided Checked.Readable none o = gives Found.None o
+decided Checked.Readable (some bytes) o = gives (Found.Marking (length bytes)) (over bytes o)
+
+unfoldable pub foundAnswer : Columns → ℕ → ℕ → List ℕ → Given
+foundAnswer c count prefix output =
+    decided (findRefusal c count prefix (length output)) (lowestMarking (λ r. 0) (take prefix (history c count))) output

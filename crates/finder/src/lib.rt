@@ -1,0 +1,132 @@
+// The finder: the lowest justification of a prefix, as a marking.
+ghost use mathlib.Core.Path.{_≡_};
+ghost use Prim.Native.Nat.{_≤_};
+ghost use lib.ListN.{length};
+ghost use Rattle.events.specs.Columns.{columns, history};
+ghost use Rattle.events.specs.declared.columns.Checked.{Checked};
+ghost use Rattle.opacity.specs.Counts.{HoldsReadable};
+ghost use Rattle.tables.specs.Order.{startOf, Judged};
+ghost use Rattle.finder.specs.Answer.{markingSize, lowestMarking, gives, decided, prefixRefusal, foundAnswer};
+
+pub mod records;
+pub mod writer;
+
+use events::columns::Checked;
+
+// Question 31: at most this many transactions are searched.
+const SEARCHED: usize = 10;
+
+// The finder's answer: the length of the marking written, none, or the question that says no with its event.
+pub enum Found {
+    Marking(usize),
+    None,
+    Refused { question: u8, event: usize },
+}
+
+// The lowest marking of the first n events, if they have one, put into an output that has room for any.
+fn find_lowest(
+    initial: &[u32; 32],
+    kinds: &[u16],
+    transactions: &[u16],
+    registers: &[u16],
+    values: &[u32],
+    n: usize,
+    output: &mut [u8],
+) -> Found
+    requires { ⌜ Judged (columns (now kinds) (now transactions) (now registers) (now values)) n ⌝ }
+    requires { ⌜ markingSize (history (columns (now kinds) (now transactions) (now registers) (now values)) n) ≤ length (now output) ⌝ }
+    ensures { λ r. ⌜ gives r (now (output .exit)) ≡ decided Checked.Readable (lowestMarking (startOf (now (initial .entry))) (history (columns (now (kinds .entry)) (now (transactions .entry)) (now (registers .entry)) (now (values .entry))) n)) (now (output .entry)) ⌝ }
+{
+    let a = tables::find_order(initial, kinds, transactions, registers, values, n);
+    if !a.found {
+        return Found::None;
+    }
+    let s = a.search;
+    let places = s.placed;
+    let count = opacity::counts::transactions_begun(kinds, transactions, registers, values, n);
+    let length = writer::write_marking(
+        kinds,
+        transactions,
+        registers,
+        values,
+        n,
+        places,
+        count,
+        output,
+    );
+    Found::Marking(length)
+}
+
+// Questions 31 and 32, with the count as their event, and then the lowest marking, of the first n events.
+fn find_readable(
+    initial: &[u32; 32],
+    kinds: &[u16],
+    transactions: &[u16],
+    registers: &[u16],
+    values: &[u32],
+    count: usize,
+    n: usize,
+    output: &mut [u8],
+) -> Found
+    requires { ⌜ HoldsReadable (columns (now kinds) (now transactions) (now registers) (now values)) count ⌝ }
+    requires { ⌜ n ≤ count ⌝ }
+    ensures { λ r. ⌜ gives r (now (output .exit)) ≡ decided (prefixRefusal (history (columns (now (kinds .entry)) (now (transactions .entry)) (now (registers .entry)) (now (values .entry))) n) count (length (now (output .entry)))) (lowestMarking (startOf (now (initial .entry))) (history (columns (now (kinds .entry)) (now (transactions .entry)) (now (registers .entry)) (now (values .entry))) n)) (now (output .entry)) ⌝ }
+{
+    let begun = opacity::counts::transactions_begun(kinds, transactions, registers, values, n);
+    if begun > SEARCHED {
+        return Found::Refused {
+            question: 31,
+            event: count,
+        };
+    }
+    let reads = opacity::counts::store_reads(kinds, transactions, registers, values, n);
+    if output.len() < 6 + 8 * begun + 10 * reads {
+        return Found::Refused {
+            question: 32,
+            event: count,
+        };
+    }
+    find_lowest(initial, kinds, transactions, registers, values, n, output)
+}
+
+// The lowest marking of the first `prefix` of the first `count` events, written from the output's first byte. Every register
+// is 0 before any writer.
+pub fn find_marking(
+    kinds: &[u16],
+    transactions: &[u16],
+    registers: &[u16],
+    values: &[u32],
+    count: usize,
+    prefix: usize,
+    output: &mut [u8],
+) -> Found
+    ensures { λ r. ⌜ gives r (now (output .exit)) ≡ foundAnswer (columns (now (kinds .entry)) (now (transactions .entry)) (now (registers .entry)) (now (values .entry))) count prefix (now (output .entry)) ⌝ }
+{
+    if !events::columns::columns_hold(kinds, transactions, registers, values, count) {
+        return Found::Refused {
+            question: 17,
+            event: count,
+        };
+    }
+    if prefix > count {
+        return Found::Refused {
+            question: 18,
+            event: count,
+        };
+    }
+    let checked = events::columns::check_columns(kinds, transactions, registers, values, count);
+    if let Checked::Refused { question, event } = checked {
+        return Found::Refused { question, event };
+    }
+    let initial = [0u32; 32];
+    find_readable(
+        &initial,
+        kinds,
+        transactions,
+        registers,
+        values,
+        count,
+        prefix,
+        output,
+    )
+}

@@ -1,0 +1,40 @@
+// The records of a marking file, put into an output.
+ghost use mathlib.Core.Path.{_≡_};
+ghost use mathlib.Core.List.{_++_};
+ghost use Prim.Native.Nat.{_+_, _≤_};
+ghost use lib.ListN.{length};
+ghost use Rattle.events.specs.Bytes.{u16Bytes, u32Bytes, placed};
+ghost use Rattle.opacity.specs.Marking.{markingHead};
+use events::fields;
+use events::record::Record;
+
+pub fn put_head(out: &mut [u8])
+    requires { ⌜ 6 ≤ length (now out) ⌝ }
+    ensures { λ _. ⌜ now (out .exit) ≡ placed (now (out .entry)) 0 markingHead ⌝ }
+{
+    fields::put_u16(out, 0, 4);
+    fields::put_u16(out, 2, Record::MARKING_HEAD);
+    fields::put_u16(out, 4, Record::EDITION);
+}
+
+// A transaction and its outcome, 0 aborted or 1 committed.
+pub fn put_place(out: &mut [u8], at: usize, transaction: u16, outcome: u16)
+    requires { ⌜ at + 8 ≤ length (now out) ⌝ }
+    ensures { λ _. ⌜ now (out .exit) ≡ placed (now (out .entry)) at (u16Bytes 6 ++ u16Bytes 32 ++ u16Bytes transaction ++ u16Bytes outcome) ⌝ }
+{
+    fields::put_u16(out, at, 6);
+    fields::put_u16(out, at + 2, Record::PLACE);
+    fields::put_u16(out, at + 4, transaction);
+    fields::put_u16(out, at + 6, outcome);
+}
+
+// A read point: the event of a store read, and its gap.
+pub fn put_point(out: &mut [u8], at: usize, event: u32, gap: u16)
+    requires { ⌜ at + 10 ≤ length (now out) ⌝ }
+    ensures { λ _. ⌜ now (out .exit) ≡ placed (now (out .entry)) at (u16Bytes 8 ++ u16Bytes 33 ++ u32Bytes event ++ u16Bytes gap) ⌝ }
+{
+    fields::put_u16(out, at, 8);
+    fields::put_u16(out, at + 2, Record::POINT);
+    fields::put_u32(out, at + 4, event);
+    fields::put_u16(out, at + 8, gap);
+}

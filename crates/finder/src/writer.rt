@@ -1,0 +1,144 @@
+// The marking of an order of places, put into an output: head, places, and each read point at its reader's place.
+ghost use mathlib.Core.Path.{_≡_};
+ghost use Prim.Native.Nat.{_+_, _*_, _≤_, _<_};
+ghost use lib.Dec.{eqb};
+ghost use lib.ListN.{length, getD, take};
+ghost use Rattle.events.specs.Lists.{_and_};
+ghost use Rattle.events.specs.Bytes.{placed, over};
+ghost use Rattle.events.specs.Events.{isRead};
+ghost use Rattle.events.specs.Columns.{columns, history};
+ghost use Rattle.opacity.specs.Counts.{ofKind};
+ghost use Rattle.opacity.specs.Marking.{flat, placeBytes, placeOf, marked, markingBytes};
+ghost use Rattle.tables.specs.Order.{decode, Judged};
+ghost use Rattle.finder.specs.Points.{readBytes, pointsOf};
+use crate::records;
+use events::record::Record;
+
+fn wide(x: u8) -> u16
+    ensures { λ r. ⌜ r ≡ x ⌝ }
+{
+    x as u16
+}
+
+// The places, from byte 6 on.
+fn put_places(out: &mut [u8], places: [u8; 10], count: usize)
+    requires { ⌜ count ≤ 10 ⌝ }
+    requires { ⌜ 6 + 8 * count ≤ length (now out) ⌝ }
+    ensures { λ _. ⌜ now (out .exit) ≡ placed (now (out .entry)) 6 (flat placeBytes (decode (take count places))) ⌝ }
+{
+    let mut i: usize = 0;
+    while i < count {
+        let code = wide(places[i]);
+        records::put_place(out, 6 + 8 * i, code / 2, code % 2);
+        i += 1;
+    }
+}
+
+// The place of t among the first so many, or their number.
+fn place_of(places: [u8; 10], count: usize, t: u16) -> usize
+    requires { ⌜ count ≤ 10 ⌝ }
+    ensures { λ r. ⌜ (r ≡ placeOf t (decode (take count places))) × (r ≤ count) ⌝ }
+{
+    let mut i: usize = 0;
+    while i < count {
+        let code = wide(places[i]);
+        if code / 2 == t {
+            return i;
+        }
+        i += 1;
+    }
+    i
+}
+
+// Is it a read of the store, after the events of the tables?
+fn reads_store(s: tables::Tables, kind: u16, t: u16, r: u16) -> bool
+    requires { ⌜ t < 10 ⌝ }
+    requires { ⌜ r < 32 ⌝ }
+    ensures { λ b. ⌜ b ≡ (isRead (ofKind kind) and eqb (getD (s .written) (t * 32 + r) 0) 0) ⌝ }
+{
+    if kind != Record::READ_RETURNED {
+        return false;
+    }
+    let at = tables::slot(t, r);
+    let written = s.written;
+    written[at] == 0
+}
+
+// The point of an event, if it is a store read; and where the next one goes.
+fn put_read(out: &mut [u8], at: usize, store: bool, event: u32, gap: u16) -> usize
+    requires { ⌜ at + length (readBytes store event gap) ≤ length (now out) ⌝ }
+    ensures { λ _. ⌜ now (out .exit) ≡ placed (now (out .entry)) at (readBytes store event gap) ⌝ }
+    ensures { λ r. ⌜ r ≡ at + length (readBytes store event gap) ⌝ }
+{
+    if store {
+        records::put_point(out, at, event, gap);
+        return at + 10;
+    }
+    at
+}
+
+// The points of the store reads among the first n events, from byte `from` on; and where they end.
+fn put_points(
+    kinds: &[u16],
+    transactions: &[u16],
+    registers: &[u16],
+    values: &[u32],
+    n: usize,
+    places: [u8; 10],
+    count: usize,
+    from: usize,
+    out: &mut [u8],
+) -> usize
+    requires { ⌜ Judged (columns (now kinds) (now transactions) (now registers) (now values)) n ⌝ }
+    requires { ⌜ count ≤ 10 ⌝ }
+    requires { ⌜ from + length (pointsOf (history (columns (now kinds) (now transactions) (now registers) (now values)) n) (decode (take count places)) n) ≤ length (now out) ⌝ }
+    ensures { λ _. ⌜ now (out .exit) ≡ placed (now (out .entry)) from (pointsOf (history (columns (now (kinds .entry)) (now (transactions .entry)) (now (registers .entry)) (now (values .entry))) n) (decode (take count places)) n) ⌝ }
+    ensures { λ r. ⌜ r ≡ from + length (pointsOf (history (columns (now (kinds .entry)) (now (transactions .entry)) (now (registers .entry)) (now (values .entry))) n) (decode (take count places)) n) ⌝ }
+{
+    let mut s = tables::no_tables();
+    let mut at = from;
+    let mut i: usize = 0;
+    while i < n {
+        let kind = kinds[i];
+        let t = transactions[i];
+        let r = registers[i];
+        let store = reads_store(s, kind, t, r);
+        let gap = place_of(places, count, t);
+        at = put_read(out, at, store, i as u32, gap as u16);
+        s = s.step(kind, t, r, values[i]);
+        i += 1;
+    }
+    at
+}
+
+// Writes the marking of the first n events with so many places, for which there is room; its length.
+pub fn write_marking(
+    kinds: &[u16],
+    transactions: &[u16],
+    registers: &[u16],
+    values: &[u32],
+    n: usize,
+    places: [u8; 10],
+    count: usize,
+    out: &mut [u8],
+) -> usize
+    requires { ⌜ Judged (columns (now kinds) (now transactions) (now registers) (now values)) n ⌝ }
+    requires { ⌜ count ≤ 10 ⌝ }
+    requires { ⌜ length (markingBytes (marked (history (columns (now kinds) (now transactions) (now registers) (now values)) n) (decode (take count places)))) ≤ length (now out) ⌝ }
+    ensures { λ _. ⌜ now (out .exit) ≡ over (markingBytes (marked (history (columns (now (kinds .entry)) (now (transactions .entry)) (now (registers .entry)) (now (values .entry))) n) (decode (take count places)))) (now (out .entry)) ⌝ }
+    ensures { λ r. ⌜ r ≡ length (markingBytes (marked (history (columns (now (kinds .entry)) (now (transactions .entry)) (now (registers .entry)) (now (values .entry))) n) (decode (take count places)))) ⌝ }
+{
+    records::put_head(out);
+    put_places(out, places, count);
+    put_points(
+        kinds,
+        transactions,
+        registers,
+        values,
+        n,
+        places,
+        count,
+        6 + 8 * count,
+        out,
+    )
+}

@@ -1,0 +1,123 @@
+-- `h0_short` meets its contract. Assumes nothing.
+use lib.ListN.{length-take}
+use borrow.Author.Needs.{needs}
+use native.Mathlib.Omega.{arith}
+use Rattle.histories.proofs.h0_short.Statement.{statement}
+use Rattle.histories.proofs.h0_short.Tie as tie
+
+returns : tie.Need-returns
+returns c = search needs
+
+slice-aggregate-h0 : tie.Need-slice-aggregate-h0
+slice-aggregate-h0 c = simp length-take (omega arith)
+
+slice-aggregate-say : tie.Need-slice-aggregate-say
+slice-aggregate-say c = search needs
+
+say-requires : tie.Need-say-requires
+say-requires c κs = search needs
+
+slice-aggregate-read-history : tie.Need-slice-aggregate-read-history
+slice-aggregate-read-history c = search needs
+
+slice-aggregate-read-history-2 : tie.Need-slice-aggregate-read-history-2
+slice-aggregate-read-history-2 c = search needs
+
+slice-aggregate-read-history-3 : tie.Need-slice-aggregate-read-history-3
+slice-aggregate-read-history-3 c = search needs
+
+slice-aggregate-read-history-4 : tie.Need-slice-aggregate-read-history-4
+slice-aggregate-read-history-4 c = search needs
+
+read-history-requires : tie.Need-read-history-requires
+read-history-requires c κs = search needs
+
+say-reading-requires : tie.Need-say-reading-requires
+say-reading-requires c κs = search needs
+
+slice-aggregate-say-2 : tie.Need-slice-aggregate-say-2
+slice-aggregate-say-2 c = search needs
+
+say-requires-2 : tie.Need-say-requires-2
+say-requires-2 c κs = search needs
+
+slice-aggregate-read-history-5 : tie.Need-slice-aggregate-read-history-5
+slice-aggregate-read-history-5 c = search needs
+
+slice-aggregate-read-history-6 : tie.Need-slice-aggregate-read-history-6
+slice-aggregate-read-history-6 c = search needs
+
+slice-aggregate-read-history-7 : tie.Need-slice-aggregate-read-history-7
+slice-aggregate-read-history-7 c = search needs
+
+slice-aggregate-read-history-8 : tie.Need-slice-aggregate-read-history-8
+slice-aggregate-read-history-8 c = search needs
+
+read-history-requires-2 : tie.Need-read-history-requires-2
+read-history-requires-2 c κs = search needs
+
+say-reading-requires-2 : tie.Need-say-reading-requires-2
+say-reading-requires-2 c κs = search needs
+
+slice-aggregate-say-3 : tie.Need-slice-aggregate-say-3
+slice-aggregate-say-3 c = search needs
+
+say-requires-3 : tie.Need-say-requires-3
+say-requires-3 c κs = search needs
+
+slice-aggregate-write-history : tie.Need-slice-aggregate-write-history
+slice-aggregate-write-history c = search needs
+
+slice-aggregate-write-history-2 : tie.Need-slice-aggregate-write-history-2
+slice-aggregate-write-history-2 c = search needs
+
+slice-aggregate-write-history-3 : tie.Need-slice-aggregate-write-history-3
+slice-aggregate-write-history-3 c = search needs
+
+slice-aggregate-write-history-4 : tie.Need-slice-aggregate-write-history-4
+slice-aggregate-write-history-4 c = search needs
+
+slice-aggregate-write-history-5 : tie.Need-slice-aggregate-write-history-5
+slice-aggregate-write-history-5 c = search needs
+
+write-history-requires : tie.Need-write-history-requires
+write-history-requires c κs = search needs
+
+say-writing-requires : tie.Need-say-writing-requires
+say-writing-requires c κs = search needs
+
+returns-2 : tie.Need-returns-2
+returns-2 c = search needs
+
+pub h0-short-spec : {M : Type 1} → statement M
+h0-short-spec =
+    tie.close
+    (tie.spec
+    returns
+    slice-aggregate-h0
+    slice-aggregate-say
+    say-requires
+    slice-aggregate-read-history
+    slice-aggregate-read-history-2
+    slice-aggregate-read-history-3
+    slice-aggregate-read-history-4
+    read-history-requires
+    say-reading-requires
+    slice-aggregate-say-2
+    say-requires-2
+    slice-aggregate-read-history-5
+    slice-aggregate-read-history-6
+    slice-aggregate-read-history-7
+    slice-aggregate-read-history-8
+    read-history-requires-2
+    say-reading-requires-2
+    slice-aggregate-say-3
+    say-requires-3
+    slice-aggregate-write-history
+    slice-aggregate-write-history-2
+    slice-aggregate-write-history-3
+    slice-aggregate-write-history-4
+    slice-aggregate-write-history-5
+    write-history-requires
+    say-writing-requires
+    returns-2)

@@ -1,0 +1,42 @@
+-- Two small histories, by computation, for what no theorem can refuse in the definitions: a pending commit may go either way, and a reader
+-- is none of the writers of rule D. The list of worked histories is in the crate `worked`.
+-- Assumes nothing.
+use Prim.Native.Nat.{ℕ}
+use mathlib.Core.Path.{_≡_, refl}
+use mathlib.Core.Bool.{true}
+use mathlib.Core.List.{List, [], _∷_}
+use Rattle.events.specs.Lists.{_and_, _or_, _implies_, any, all, keep, latest, every, lowest, first, last, range}
+use Rattle.events.specs.declared.event.Event.{Event}
+use Rattle.events.specs.Events.{isBegin, isRead, isWrite, asksCommit, isCommit, isAbort, isEnd, by, has, begins}
+use Rattle.opacity.specs.Transactions.{status, allows, precedes, lastWrite, ownWrite, isOwnRead, isStoreRead, ownRight}
+use Rattle.opacity.specs.Justification.{placed, before, outcome, written, contents, outcomeKept, preceded, legalOver, realTimeKept}
+use Rattle.opacity.specs.Lowest.{place, fits, lowestPlace, goOn, lowestOf}
+use Rattle.opacity.specs.Marking.{Marking, gapOf, placeOf, others, between, noWriterBetween, valueAtGap, Accepted, lastEvent, beginOf, broke, verdict}
+use Rattle.opacity.specs.Scan.{Opaque, cause, scan}
+
+event : ℕ → ℕ → ℕ → ℕ → Event
+event k t r v = record { kind = k; transaction = t; register = r; value = v }
+
+-- T0 writes 5 and calls commit; T1 reads 5
+pub pair : List Event
+unfolding event
+pair =
+    event 16 0 0 0 ∷ event 19 0 0 5 ∷ event 20 0 0 0 ∷ event 21 0 0 0
+    ∷ event 16 1 1 0 ∷ event 17 1 0 0 ∷ event 18 1 0 5 ∷ []
+
+pub pending-may-commit : scan (λ r. 0) pair ≡ Opaque
+unfolding _and_ _or_ _implies_ any all keep latest every lowest first last range isBegin isRead isWrite asksCommit isCommit isAbort isEnd by has begins status allows precedes lastWrite ownWrite isOwnRead isStoreRead ownRight placed before outcome written contents outcomeKept preceded legalOver realTimeKept fits lowestPlace goOn lowestOf cause scan pair
+pending-may-commit = refl
+
+-- T0 reads 0, writes 5 and commits; its point stands behind it
+pub reader : List Event
+unfolding event
+reader =
+    event 16 0 0 0 ∷ event 17 0 0 0 ∷ event 18 0 0 0 ∷ event 19 0 0 5 ∷ event 20 0 0 0 ∷ event 21 0 0 0 ∷ event 22 0 0 0 ∷ []
+
+pub behind : Marking
+behind = record { places = place 0 true ∷ []; points = record { event = 2; gap = 1 } ∷ [] }
+
+pub reader-is-no-writer : verdict (λ r. 0) reader behind ≡ Accepted
+unfolding _and_ _or_ _implies_ any all keep latest every lowest first last range isBegin isRead isWrite asksCommit isCommit isAbort isEnd by has begins status allows precedes lastWrite ownWrite isOwnRead isStoreRead ownRight placed before outcome written contents outcomeKept preceded legalOver realTimeKept gapOf placeOf others between noWriterBetween valueAtGap lastEvent beginOf broke verdict reader behind
+reader-is-no-writer = refl

@@ -1,0 +1,180 @@
+-- Laws of orders of places: where a transaction's place is, and that an order of n places fills all.
+-- Assumes nothing.
+use Prim.Native.Nat.{ℕ, zero, suc, _+_, _≤_, _<_}
+use native.Mathlib.Nat.{not-suc-le-zero, le-step, lt-suc-self}
+use native.Mathlib.Omega.{arith}
+use mathlib.Core.Path.{_≡_, refl, sym, ap, ap₂, _∙_}
+use mathlib.Core.Logic.{⊎-elim}
+use mathlib.Core.Bool.{Bool, true, false, not, false≢true}
+use mathlib.Core.List.{List, [], _∷_, _++_, append-nil, append-assoc}
+use lib.Dec.{eqb, ltb}
+use lib.ListN.{length}
+use borrow.Author.Tests.{ne-eqb, eqb-true, ltb-true}
+use Rattle.events.specs.Lists.{_or_, _and_, any, all, every}
+use Rattle.opacity.specs.Justification.{Place, isOf, placed, before, outcome, distinct, isOrder}
+use Rattle.opacity.specs.Lowest.{follows}
+use Rattle.events.proofs.ListLaws.{and-l, and-r, and-i, nor-l, nor-r, nor-i, or-false, not-true, eqb-self, eqb-sym, contra, below-cases, any-append, any-weaken, none-append, none-back}
+
+-- t has no place in P
+abbrev pub Fresh : ℕ → List Place → Type 0
+Fresh t P = placed t P ≡ false
+
+pub before-here : (P : List Place) (p : Place) (S : List Place) → Fresh (p .transaction) P → before (p .transaction) (P ++ p ∷ S) ≡ P
+unfolding before placed any
+before-here [] p S f = rw (eqb-self (p .transaction))
+before-here (q ∷ P) p S f =
+    let e : isOf (p .transaction) q ≡ false = nor-l _ _ f in
+    rw e (ap (λ (l : List Place). q ∷ l) (before-here P p S (nor-r _ _ f)))
+
+-- a transaction without a place has no outcome committed
+pub no-outcome : (t : ℕ) (P : List Place) → Fresh t P → outcome t P ≡ false
+unfolding outcome placed
+no-outcome t P f = any-weaken (isOf t) (λ (p : Place). isOf t p and p .committed) P (λ x. and-l (isOf t x) (x .committed)) f
+
+pub outcome-here : (P : List Place) (p : Place) (S : List Place) → Fresh (p .transaction) P → Fresh (p .transaction) S → outcome (p .transaction) (P ++ p ∷ S) ≡ p .committed
+unfolding outcome any _and_ _or_
+outcome-here P p S f g =
+    any-append (λ (q : Place). isOf (p .transaction) q and q .committed) P (p ∷ S)
+    ∙ simp (no-outcome (p .transaction) P f, no-outcome (p .transaction) S g, eqb-self (p .transaction), or-false)
+
+-- t is not u: the two ways to test it
+other-way : (t u : ℕ) → eqb t u ≡ false → eqb u t ≡ false
+other-way t u f = contra (eqb u t) (eqb t u) (eqb-sym u t) f
+
+pub distinct-at : (P : List Place) (p : Place) (S : List Place) → distinct (P ++ p ∷ S) ≡ true → Fresh (p .transaction) P × Fresh (p .transaction) S
+unfolding distinct placed any
+distinct-at [] p S d = (refl, not-true _ (and-l _ _ d))
+distinct-at (q ∷ P) p S d =
+    let r = distinct-at P p S (and-r _ _ d) in
+    let e : eqb (p .transaction) (q .transaction) ≡ false = nor-l _ _ (none-back (isOf (q .transaction)) P (p ∷ S) (not-true _ (and-l _ _ d))) in
+    (nor-i _ _ (other-way (p .transaction) (q .transaction) e) (r .0), r .1)
+
+pub distinct-snoc : (P : List Place) (p : Place) → distinct P ≡ true → Fresh (p .transaction) P → distinct (P ++ (p ∷ [])) ≡ true
+unfolding distinct placed any
+distinct-snoc [] p d f = and-i _ _ refl refl
+distinct-snoc (q ∷ P) p d f =
+    let e : eqb (q .transaction) (p .transaction) ≡ false = nor-l _ _ f in
+    and-i _ _
+    (ap not (none-append (isOf (q .transaction)) P (p ∷ []) (not-true _ (and-l _ _ d)) (nor-i _ _ (other-way (q .transaction) (p .transaction) e) refl)))
+    (distinct-snoc P p (and-r _ _ d) (nor-r _ _ f))
+
+-- the place of a transaction that has one
+pub record Split (t : ℕ) (J : List Place) : Type 0 where
+  pub front : List Place
+  pub here : Place
+  pub back : List Place
+  pub cut : J ≡ front ++ here ∷ back
+  pub names : here .transaction ≡ t
+  pub fresh : Fresh t front
+
+pub split : (t : ℕ) (J : List Place) → placed t J ≡ true → Split t J
+unfolding placed any _or_
+split t [] h = absurd (false≢true h)
+split t (p ∷ J) h = go (isOf t p) refl (λ k. split t J k)
+  where
+    go : (b : Bool) → isOf t p ≡ b → (placed t J ≡ true → Split t J) → Split t (p ∷ J)
+    go true e ih = record { front = []; here = p; back = J; cut = refl; names = eqb-true (p .transaction) t e; fresh = refl }
+    go false e ih =
+        let r = ih (rw e at h) in
+        record {
+          front = p ∷ r .front;
+          here = r .here;
+          back = r .back;
+          cut = ap (λ (l : List Place). p ∷ l) (r .cut);
+          names = r .names;
+          fresh = rw e (r .fresh);
+        }
+
+-- a place that comes next in its turn
+pub follows-at : (ok : List Place → Place → Bool) (Q P : List Place) (p : Place) (S : List Place) → follows ok Q (P ++ p ∷ S) ≡ true → ok (Q ++ P) p ≡ true
+unfolding follows
+follows-at ok Q [] p S t = rw append-nil (and-l _ _ t)
+follows-at ok Q (q ∷ P) p S t =
+    rw append-assoc at (follows-at ok (Q ++ (q ∷ [])) P p S (and-r _ _ t))
+
+-- ---- how many of the transactions below n have a place
+
+bit : Bool → ℕ
+bit true = 1
+bit false = 0
+
+count : (ℕ → Bool) → ℕ → ℕ
+unfolding bit
+count p zero = 0
+count p (suc n) = count p n + bit (p n)
+
+count-le : (p : ℕ → Bool) (n : ℕ) → count p n ≤ n
+unfolding count bit
+count-le p zero = omega arith
+count-le p (suc n) = go (p n) (count-le p n)
+  where
+    go : (b : Bool) → count p n ≤ n → count p n + bit b ≤ suc n
+    go true h = omega arith
+    go false h = omega arith
+
+-- all are counted exactly if all pass
+count-all : (p : ℕ → Bool) (n : ℕ) → count p n ≡ n → every p n ≡ true
+unfolding count bit every
+count-all p zero e = refl
+count-all p (suc n) e = go (p n) (λ q. count-all p n q) (count-le p n) e
+  where
+    go : (b : Bool) → (count p n ≡ n → every p n ≡ true) → count p n ≤ n → count p n + bit b ≡ suc n → (every p n and b) ≡ true
+    go true ih l q = and-i _ _ (ih (omega arith)) refl
+    go false ih l q = absurd (omega arith)
+
+all-count : (p : ℕ → Bool) (n : ℕ) → every p n ≡ true → count p n ≡ n
+unfolding count bit every
+all-count p zero t = refl
+all-count p (suc n) t =
+    let i : count p n ≡ n = all-count p n (and-l _ _ t) in
+    let q : p n ≡ true = and-r _ _ t in
+    rw q (omega arith)
+
+-- one more passes
+count-same : (p q : ℕ → Bool) (n : ℕ) → ((k : ℕ) → k < n → p k ≡ q k) → count p n ≡ count q n
+unfolding count bit
+count-same p q zero f = refl
+count-same p q (suc n) f = ap₂ _+_ (count-same p q n (λ k h. f k (le-step h))) (ap bit (f n (lt-suc-self n)))
+
+count-more : (p q : ℕ → Bool) (n t : ℕ) → t < n → p t ≡ true → q t ≡ false → ((k : ℕ) → (k ≡ t → ⊥) → p k ≡ q k) → count p n ≡ suc (count q n)
+unfolding count bit
+count-more p q zero t h a b f = absurd (not-suc-le-zero h)
+count-more p q (suc n) t h a b f =
+    ⊎-elim
+    (λ e.
+    let apart : (k : ℕ) → k < n → k ≡ t → ⊥ = λ k l w. omega arith in
+    let c : count p n ≡ count q n = count-same p q n (λ k l. f k (apart k l)) in
+    let pn : p n ≡ true = ap p (sym e) ∙ a in
+    let qn : q n ≡ false = ap q (sym e) ∙ b in
+    rw (pn, qn) (omega arith))
+    (λ l.
+    let c : count p n ≡ suc (count q n) = count-more p q n t l a b f in
+    let apart : n ≡ t → ⊥ = λ w. omega arith in
+    rw (f n apart) (omega arith))
+    (below-cases h)
+
+count-none : (n : ℕ) → count (λ t. false) n ≡ 0
+unfolding count bit
+count-none zero = refl
+count-none (suc n) = rw (count-none n)
+
+-- each place counts once
+count-places : (n : ℕ) (J : List Place) → all (λ p. ltb (p .transaction) n) J ≡ true → distinct J ≡ true → count (λ t. placed t J) n ≡ length J
+unfolding all distinct placed any _or_
+count-places n [] k d = count-none n
+count-places n (p ∷ J) k d =
+    count-more (λ t. placed t (p ∷ J)) (λ t. placed t J) n (p .transaction) (ltb-true (p .transaction) n (and-l _ _ k))
+    (rw (eqb-self (p .transaction)))
+    (not-true _ (and-l _ _ d))
+    (λ t u. rw (ne-eqb (p .transaction) t (λ e. u (sym e))))
+    ∙ ap suc (count-places n J (and-r _ _ k) (and-r _ _ d))
+
+-- an order with n places fills all, and one that fills all has n places
+pub fills : (n : ℕ) (J : List Place) → all (λ p. ltb (p .transaction) n) J ≡ true → distinct J ≡ true → length J ≡ n → every (λ t. placed t J) n ≡ true
+fills n J k d e = count-all (λ t. placed t J) n (count-places n J k d ∙ e)
+
+pub filled : (n : ℕ) (J : List Place) → isOrder n J ≡ true → length J ≡ n
+unfolding isOrder
+filled n J o =
+    let d = and-r (all (λ p. ltb (p .transaction) n) J) _ o in
+    sym (count-places n J (and-l _ _ o) (and-l _ _ d)) ∙ all-count (λ t. placed t J) n (and-r _ _ d)

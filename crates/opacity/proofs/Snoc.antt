@@ -1,0 +1,126 @@
+-- What one event more changes in what a history says: of the events before it, of its transactions, and, where it is no read returned, of own
+-- reads and of legal reads.
+-- Assumes nothing.
+use Prim.Native.Nat.{ℕ, _<_}
+use native.Mathlib.Nat.{le-of-lt}
+use native.Mathlib.Omega.{arith}
+use mathlib.Core.Path.{_≡_, refl, ap, ap₂, _∙_}
+use mathlib.Core.Logic.{_⊎_, ⊎-elim}
+use mathlib.Core.Bool.{Bool, true, false, cond, false≢true}
+use mathlib.Core.List.{List, [], _∷_, _++_}
+use mathlib.Core.Option.{Option, none, some, Option·getD}
+use lib.Dec.{eqb}
+use lib.ListN.{length, take, length-append, List·getD-append}
+use lib.Seq.{take-append-le, getD-append-seam}
+use Rattle.events.specs.Lists.{_and_, _or_, orElse, any, latest}
+use Rattle.events.specs.declared.event.Event.{Event}
+use Rattle.events.specs.Events.{noEvent, eventAt, isBegin, isRead, isWrite, asksCommit, isCommit, isAbort, by, has}
+use Rattle.events.proofs.ListLaws.{and-l, and-false-r, imp-i, nor-i, nor-l, nor-r, or-l, clash, any-append, latest-snoc, below-cases}
+use Rattle.opacity.specs.Transactions.{committed, aborted, pending, live, status, allows, precedes, lastWrite, ownWrite, isOwnRead, isStoreRead, ownRight}
+use Rattle.opacity.specs.Justification.{Place, before, written, contents, legalOver, legal}
+
+pub or-none : (a b : Bool) → b ≡ false → (a or b) ≡ a
+unfolding _or_
+or-none true b e = refl
+or-none false b e = e
+
+module _ (h : List Event) (e : Event) where
+  -- u has such an event with e if and only if without it, where e is none
+  pub has-snoc : (p : Event → Bool) (u : ℕ) → by p u e ≡ false → has p u (h ++ (e ∷ [])) ≡ has p u h
+  unfolding has any
+  has-snoc p u n = any-append (by p u) h (e ∷ []) ∙ or-none _ _ (nor-i _ _ n refl)
+
+  pub has-quiet : (p : Event → Bool) (u : ℕ) → p e ≡ false → has p u (h ++ (e ∷ [])) ≡ has p u h
+  unfolding by
+  has-quiet p u n = has-snoc p u (and-false-r _ _ n)
+
+  has-more : (p : Event → Bool) (u : ℕ) → has p u h ≡ true → has p u (h ++ (e ∷ [])) ≡ true
+  unfolding has
+  has-more p u t = any-append (by p u) h (e ∷ []) ∙ or-l _ _ t
+
+  -- an event that ends no transaction keeps the outcomes that are allowed
+  pub status-snoc : (u : ℕ) (c : Bool) → isCommit e ≡ false → isAbort e ≡ false → allows (status h u) c ≡ true → allows (status (h ++ (e ∷ [])) u) c ≡ true
+  unfolding status allows
+  status-snoc u c n m t =
+      rw (has-quiet isCommit u n, has-quiet isAbort u m)
+      (go (has isCommit u h) (has isAbort u h) (has asksCommit u h) (has asksCommit u (h ++ (e ∷ []))) (has-more asksCommit u) t)
+    where
+      go : (a b d d′ : Bool) → (d ≡ true → d′ ≡ true) → allows (cond a committed (cond b aborted (cond d pending live))) c ≡ true
+          → allows (cond a committed (cond b aborted (cond d′ pending live))) c ≡ true
+      go true b d d′ f t′ = t′
+      go false true d d′ f t′ = t′
+      go false false d true f t′ = refl
+      go false false true false f t′ = absurd (false≢true (f refl))
+      go false false false false f t′ = t′
+
+  -- a place that the event gives no write to writes the same with it and without it
+  written-snoc : (r : ℕ) (p : Place) → (p .committed and by isWrite (p .transaction) e) ≡ false → written (h ++ (e ∷ [])) r p ≡ written h r p
+  unfolding written lastWrite _and_
+  written-snoc r p n = go (p .committed) n
+    where
+      f : Event → Option ℕ
+      f x = cond (by isWrite (p .transaction) x and eqb (x .register) r) (some (x .value)) none
+
+      go : (c : Bool) → (c and by isWrite (p .transaction) e) ≡ false → cond c (latest f (h ++ (e ∷ []))) none ≡ cond c (latest f h) none
+      go false m = refl
+      go true m = rw (latest-snoc f h e, m)
+
+  pub contents-snoc : (start : ℕ → ℕ) (P : List Place) → any (λ p. p .committed and by isWrite (p .transaction) e) P ≡ false → (r : ℕ)
+      → contents start (h ++ (e ∷ [])) P r ≡ contents start h P r
+  unfolding contents any latest
+  contents-snoc start P n r = ap (λ (o : Option ℕ). Option·getD o (start r)) (go P n)
+    where
+      go : (Q : List Place) → any (λ p. p .committed and by isWrite (p .transaction) e) Q ≡ false
+          → latest (written (h ++ (e ∷ [])) r) Q ≡ latest (written h r) Q
+      go [] m = refl
+      go (p ∷ Q) m = ap₂ orElse (go Q (nor-r _ _ m)) (written-snoc r p (nor-l _ _ m))
+
+  -- the events are those of h, and e
+  pub old-or-new : (i : ℕ) → i < length (h ++ (e ∷ [])) → (i ≡ length h) ⊎ (i < length h)
+  old-or-new i l = below-cases (omega (arith, length-append h (e ∷ [])))
+
+  event-old : (i : ℕ) → i < length h → eventAt (h ++ (e ∷ [])) i ≡ eventAt h i
+  event-old i l = List·getD-append h (e ∷ []) noEvent i l
+
+  take-old : (i : ℕ) → i < length h → take i (h ++ (e ∷ [])) ≡ take i h
+  take-old i l = take-append-le i h (e ∷ []) (le-of-lt l)
+
+  store-read-old : (i : ℕ) → i < length h → isStoreRead (h ++ (e ∷ [])) i ≡ isStoreRead h i
+  unfolding isStoreRead ownWrite
+  store-read-old i l = rw (event-old i l, take-old i l)
+
+  own-right-old : (i : ℕ) → i < length h → ownRight (h ++ (e ∷ [])) i ≡ ownRight h i
+  unfolding ownRight isOwnRead ownWrite
+  own-right-old i l = rw (event-old i l, take-old i l)
+
+  module _ (r : isRead e ≡ false) where
+    no-read : (i : ℕ) → i ≡ length h → isRead (eventAt (h ++ (e ∷ [])) i) ≡ true → ⊥
+    no-read i q t =
+        clash t (ap (λ (k : ℕ). isRead (eventAt (h ++ (e ∷ [])) k)) q ∙ ap isRead (getD-append-seam h e [] noEvent) ∙ r)
+
+    pub own-snoc : ((i : ℕ) → i < length h → ownRight h i ≡ true) → (i : ℕ) → i < length (h ++ (e ∷ [])) → ownRight (h ++ (e ∷ [])) i ≡ true
+    unfolding ownRight isOwnRead
+    own-snoc own i l =
+        ⊎-elim (λ q. imp-i _ _ (λ s. absurd (no-read i q (and-l _ _ s)))) (λ m. own-right-old i m ∙ own i m) (old-or-new i l)
+
+    -- reads that were legal over one order are legal over another, where their registers hold the same
+    pub legal-snoc : (start : ℕ → ℕ) (J K : List Place)
+        → ((i : ℕ) → i < length h
+        → contents start (h ++ (e ∷ [])) (before (eventAt h i .transaction) K) (eventAt h i .register)
+        ≡ contents start h (before (eventAt h i .transaction) J) (eventAt h i .register))
+        → ((i : ℕ) → i < length h → legal start h J i ≡ true)
+        → (i : ℕ) → i < length (h ++ (e ∷ [])) → legal start (h ++ (e ∷ [])) K i ≡ true
+    unfolding legal legalOver isStoreRead
+    legal-snoc start J K alike store i l =
+        ⊎-elim (λ q. imp-i _ _ (λ s. absurd (no-read i q (and-l _ _ s))))
+        (λ m. rw (store-read-old i m, event-old i m, alike i m) (store i m))
+        (old-or-new i l)
+
+-- no begin of u is added: the same transactions precede u
+pub precedes-snoc : (h : List Event) (e : Event) (t u : ℕ) → by isBegin u e ≡ false → precedes (h ++ (e ∷ [])) t u ≡ precedes h t u
+unfolding precedes has any
+precedes-snoc [] e t u n = nor-i _ _ (and-false-r _ _ (nothing u)) refl
+  where
+    nothing : (v : ℕ) → has isBegin v [] ≡ false
+    nothing v = refl
+precedes-snoc (x ∷ h) e t u n = rw (has-snoc h e isBegin u n, precedes-snoc h e t u n)

@@ -1,0 +1,21 @@
+-- `scan::counted` meets its contract.
+-- Assumes nothing.
+use borrow.Author.Tests.{eq-eqb, ne-eqb}
+use Rattle.events.specs.Events.{isBegin}
+use borrow.Author.Needs.{needs}
+use Rattle.scan.proofs.counted.Statement.{statement}
+use Rattle.scan.proofs.counted.Tie as tie
+
+add-result : tie.Need-add-result
+add-result c = search needs
+
+returns : tie.Need-returns
+unfolding isBegin
+returns c = simp (eq-eqb _ _ (c .if1 .taken))
+
+returns-2 : tie.Need-returns-2
+unfolding isBegin
+returns-2 c = simp (ne-eqb _ _ (c .if1 .left))
+
+pub counted-spec : {M : Type 1} → statement M
+counted-spec = tie.close (tie.spec add-result returns returns-2)

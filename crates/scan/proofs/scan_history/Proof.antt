@@ -1,0 +1,45 @@
+-- `scan::scan_history` meets its contract.
+-- Assumes nothing.
+use mathlib.Core.Path.{sym, _∙_}
+use denote.Ref.{now}
+use borrow.Author.Needs.{needs}
+use Rattle.events.specs.Columns.{columns}
+use Rattle.tables.proofs.CallLaws.{columns-e}
+use Rattle.tables.proofs.JudgedLaws.{readable-columns}
+use Rattle.scan.proofs.AnswerLaws.{event-refused, events-decide}
+use Rattle.scan.proofs.scan_history.Statement.{statement}
+use Rattle.scan.proofs.scan_history.Tie as tie
+
+check-columns-requires : tie.Need-check-columns-requires
+check-columns-requires c κs = search needs
+
+enum-known-checked : tie.Need-enum-known-checked
+enum-known-checked c = search needs
+
+returns : tie.Need-returns
+returns c =
+    let start = c .before .before .before .before .before .before .before .before in
+    let cs = columns (now (start .args .kinds)) (now (start .args .transactions)) (now (start .args .registers)) (now (start .args .values)) in
+    event-refused cs (start .args .count) (sym (c .before .before .before .check-columns .ensures) ∙ c .before .checked .given .1)
+
+enum-told : tie.Need-enum-told
+enum-told c = search needs
+
+scan-readable-requires : tie.Need-scan-readable-requires
+scan-readable-requires c κs =
+    let start = c .before .before .before .before .before .before .before in
+    let cs = columns (now (start .args .kinds)) (now (start .args .transactions)) (now (start .args .registers)) (now (start .args .values)) in
+    let r = columns-e cs (start .args .count) (sym (c .before .before .check-columns .ensures) ∙ c .enum-told .given .1) in
+    readable-columns cs (start .args .count) (r .0) (r .1)
+
+returns-2 : tie.Need-returns-2
+returns-2 c =
+    let start = c .before .before .before .before .before .before .before .before in
+    let cs = columns (now (start .args .kinds)) (now (start .args .transactions)) (now (start .args .registers)) (now (start .args .values)) in
+    c .scan-readable .ensures
+    ∙ events-decide cs (start .args .count) (sym (c .before .before .before .check-columns .ensures) ∙ c .before .enum-told .given .1)
+
+pub scan-history-spec : {M : Type 1} → statement M
+scan-history-spec =
+    tie.close
+    (tie.spec check-columns-requires enum-known-checked returns enum-told scan-readable-requires returns-2)

@@ -1,0 +1,151 @@
+-- `scan::scan_prefixes` meets its contract.
+-- Assumes nothing.
+use borrow.Author.Needs.{needs}
+use borrow.Author.Tests.{not-true, not-false}
+use Prim.Native.Nat.{_-_}
+use native.Mathlib.Omega.{arith}
+use denote.Ref.{now}
+use Rattle.events.specs.Columns.{columns, history}
+use Rattle.tables.proofs.GoodHistory.{in-tables, low-number}
+use Rattle.events.proofs.ColumnLaws.{history-length}
+use Rattle.scan.proofs.ScanLaws.{Scanning, scanning-none, few-before, few-begun, scanning-more, scanning-fault, scanning-end}
+use Rattle.scan.proofs.scan_prefixes.Statement.{statement}
+use Rattle.scan.proofs.scan_prefixes.Tie as tie
+
+abbrev Inv-loop : tie.InvT-loop
+Inv-loop initial kinds transactions registers values n s₀ begun₀ i₀ s begun i = Scanning initial (columns kinds transactions registers values) n i s begun
+
+abbrev μ-loop : tie.MeasureT-loop
+μ-loop initial kinds transactions registers values n s₀ begun₀ i₀ s begun i = n - i
+
+no-tables-requires : tie.Need-no-tables-requires Inv-loop μ-loop
+no-tables-requires c κs = search needs
+
+loop-holds : tie.Need-loop-holds Inv-loop μ-loop
+loop-holds c =
+    let start = c .before .before .before .before .before in
+    let o = now (start .args .initial) in
+    let cs = columns (now (start .args .kinds)) (now (start .args .transactions)) (now (start .args .registers)) (now (start .args .values)) in
+    scanning-none o cs (start .args .n) (c .no-tables .result) (c .no-tables .ensures)
+
+mul-kind : tie.Need-mul-kind Inv-loop μ-loop
+mul-kind c = search needs
+
+shared-slice-read-kind : tie.Need-shared-slice-read-kind Inv-loop μ-loop
+shared-slice-read-kind c = search needs
+
+mul-step : tie.Need-mul-step Inv-loop μ-loop
+mul-step c = search needs
+
+shared-slice-read-step : tie.Need-shared-slice-read-step Inv-loop μ-loop
+shared-slice-read-step c = search needs
+
+mul-step-2 : tie.Need-mul-step-2 Inv-loop μ-loop
+mul-step-2 c = search needs
+
+shared-slice-read-step-2 : tie.Need-shared-slice-read-step-2 Inv-loop μ-loop
+shared-slice-read-step-2 c = search needs
+
+mul-step-3 : tie.Need-mul-step-3 Inv-loop μ-loop
+mul-step-3 c = search needs
+
+shared-slice-read-step-3 : tie.Need-shared-slice-read-step-3 Inv-loop μ-loop
+shared-slice-read-step-3 c = search needs
+
+step-requires : tie.Need-step-requires Inv-loop μ-loop
+step-requires c κs =
+    let start = c .before .before .before .before .before .before .before .before .before .before .before in
+    let at = c .before .before .before .before .before .loop in
+    let l = c .before .before .before .before .loop-test .taken in
+    let o = now (start .args .initial) in
+    let cs = columns (now (start .args .kinds)) (now (start .args .transactions)) (now (start .args .registers)) (now (start .args .values)) in
+    let q = in-tables cs (start .args .n) (start .pre) in
+    (q .transaction (at .i) l, q .register (at .i) l)
+
+counted-requires : tie.Need-counted-requires Inv-loop μ-loop
+counted-requires c κs =
+    let start = c .before .before .before .before .before .before .before .before .before .before .before .before in
+    let at = c .before .before .before .before .before .before .loop in
+    let l = c .before .before .before .before .before .loop-test .taken in
+    let o = now (start .args .initial) in
+    let cs = columns (now (start .args .kinds)) (now (start .args .transactions)) (now (start .args .registers)) (now (start .args .values)) in
+    let q = few-before o cs (start .args .n) (at .i) (at .s) (at .begun) (start .pre) (at .inv) in
+    omega arith
+
+complete-requires : tie.Need-complete-requires Inv-loop μ-loop
+complete-requires c κs =
+    let start = c .before .before .before .before .before .before .before .before .before .before .before .before .before in
+    let at = c .before .before .before .before .before .before .before .loop in
+    let l = c .before .before .before .before .before .before .loop-test .taken in
+    let o = now (start .args .initial) in
+    let cs = columns (now (start .args .kinds)) (now (start .args .transactions)) (now (start .args .registers)) (now (start .args .values)) in
+    let few = few-begun o cs (start .args .n) (start .pre) (at .i) l (at .s) (at .begun) (at .inv) (c .before .step .result) (c .counted .result) (c .before .step .ensures) (c .counted .ensures) in
+    omega arith
+
+cause-of-requires : tie.Need-cause-of-requires Inv-loop μ-loop
+cause-of-requires c κs = search needs
+
+returns : tie.Need-returns Inv-loop μ-loop
+returns c =
+    let start = c .before .before .before .before .before .before .before .before .before .before .before .before .before .before .before .before .before in
+    let at = c .before .before .before .before .before .before .before .before .before .before .before .loop in
+    let l = c .before .before .before .before .before .before .before .before .before .before .loop-test .taken in
+    let o = now (start .args .initial) in
+    let cs = columns (now (start .args .kinds)) (now (start .args .transactions)) (now (start .args .registers)) (now (start .args .values)) in
+    scanning-fault o cs (start .args .n) (start .pre) (at .i) l (at .s) (at .begun) (at .inv) (c .before .before .before .before .before .step .result) (c .before .before .before .before .counted .result) (c .before .before .before .before .before .step .ensures) (c .before .before .before .before .counted .ensures) (c .before .before .before .complete .result) (c .before .before .before .complete .ensures) _ (c .cause-of .ensures) (not-true _ (c .before .if1 .taken))
+
+add-i : tie.Need-add-i Inv-loop μ-loop
+add-i c =
+    let start = c .before .before .before .before .before .before .before .before .before .before .before .before .before .before .before .before in
+    let at = c .before .before .before .before .before .before .before .before .before .before .loop in
+    let l = c .before .before .before .before .before .before .before .before .before .loop-test .taken in
+    let cs = columns (now (start .args .kinds)) (now (start .args .transactions)) (now (start .args .registers)) (now (start .args .values)) in
+    let q = low-number (history cs (start .args .n)) (start .pre .readable) (start .pre .few) (at .i) (omega (arith, history-length cs (start .args .n))) in
+    omega arith
+
+loop-less : tie.Need-loop-less Inv-loop μ-loop
+loop-less c = search needs
+
+loop-again : tie.Need-loop-again Inv-loop μ-loop
+loop-again c =
+    let start = c .before .before .before .before .before .before .before .before .before .before .before .before .before .before .before .before in
+    let at = c .before .before .before .before .before .before .before .before .before .before .loop in
+    let l = c .before .before .before .before .before .before .before .before .before .loop-test .taken in
+    let o = now (start .args .initial) in
+    let cs = columns (now (start .args .kinds)) (now (start .args .transactions)) (now (start .args .registers)) (now (start .args .values)) in
+    scanning-more o cs (start .args .n) (start .pre) (at .i) l (at .s) (at .begun) (at .inv) (c .before .before .before .before .step .result) (c .before .before .before .counted .result) (c .before .before .before .before .step .ensures) (c .before .before .before .counted .ensures) (c .before .before .complete .result) (c .before .before .complete .ensures) (not-false _ (c .if1 .left))
+
+returns-2 : tie.Need-returns-2 Inv-loop μ-loop
+returns-2 c =
+    let start = c .before .before .before .before .before .before .before in
+    let at = c .before .loop in
+    let o = now (start .args .initial) in
+    let cs = columns (now (start .args .kinds)) (now (start .args .transactions)) (now (start .args .registers)) (now (start .args .values)) in
+    let q = at .inv .passed in
+    scanning-end o cs (start .args .n) (at .i) (at .s) (at .begun) (omega arith) (at .inv)
+
+pub scan-prefixes-spec : {M : Type 1} → statement M
+scan-prefixes-spec =
+    tie.close
+    (tie.spec
+    Inv-loop
+    μ-loop
+    no-tables-requires
+    loop-holds
+    mul-kind
+    shared-slice-read-kind
+    mul-step
+    shared-slice-read-step
+    mul-step-2
+    shared-slice-read-step-2
+    mul-step-3
+    shared-slice-read-step-3
+    step-requires
+    counted-requires
+    complete-requires
+    cause-of-requires
+    returns
+    add-i
+    loop-less
+    loop-again
+    returns-2)

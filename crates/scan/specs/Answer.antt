@@ -1,0 +1,42 @@
+-- The scan's answer ("Scan and report"): opaque, or the event and the cause, or the first question that says no.
+-- Assumes nothing.
+use mathlib.Core.Path.{_≡_}
+use Prim.Native.Nat.{ℕ, suc, _≤_, _<_}
+use mathlib.Core.List.{List, [], _∷_}
+use lib.Dec.{leb}
+use lib.ListN.{length, take}
+use Rattle.events.specs.declared.event.Event.{Event}
+use Rattle.events.specs.declared.columns.Checked.{Checked}
+use Rattle.events.specs.Events.{eventAt, begins}
+use Rattle.events.specs.Columns.{Columns, history}
+use Rattle.events.specs.Questions.{ask, columnsAnswer}
+use Rattle.opacity.specs.declared.verdict.Scanned.{Scanned}
+use Rattle.opacity.specs.Justification.{Place, Justified}
+use Rattle.opacity.specs.Scan.{cause, scan}
+use Rattle.tables.specs.Calls.{askedOf, thenChecked}
+use Rattle.scan.specs.declared.Judgement.{Judgement}
+
+-- the paper's number of an answer, the question that says no or 0, and its values: event and cause, or the question's event
+unfoldable pub number : Judgement → ℕ
+number (Judgement.Scanned s) = 0
+number (Judgement.Refused q e) = q
+
+unfoldable pub values : Judgement → List ℕ
+values (Judgement.Scanned Scanned.Opaque) = []
+values (Judgement.Scanned (Scanned.Faulted e w)) = e ∷ w ∷ []
+values (Judgement.Refused q e) = e ∷ []
+
+-- 31, of the events below the count
+unfoldable pub sizeRefusal : List Event → ℕ → Checked
+sizeRefusal h count = askedOf count (ask 31 (leb (begins h) 10) ∷ [])
+
+-- 17 and every event; then 31: the first that says no, with its event
+unfoldable pub scanRefusal : Columns → ℕ → Checked
+scanRefusal c count = thenChecked (columnsAnswer c count) (sizeRefusal (history c count) count)
+
+unfoldable pub decided : Checked → Scanned → Judgement
+decided (Checked.Refused q e) s = Judgement.Refused q e
+decided Checked.Readable s = Judgement.Scanned s
+
+unfoldable pub scanAnswer : Columns → ℕ → Judgement
+scanAnswer c count = decided (scanRefusal c count) (scan (λ r. 0) (history c count))

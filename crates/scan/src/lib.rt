@@ -1,0 +1,121 @@
+// The scan: the prefixes of a history, by rising length, until one has no justification.
+ghost use mathlib.Core.Path.{_≡_};
+ghost use mathlib.Core.Bool.{cond};
+ghost use Prim.Native.Nat.{_+_, _<_};
+ghost use Rattle.events.specs.Columns.{columns, history};
+ghost use Rattle.events.specs.Events.{isBegin};
+ghost use Rattle.opacity.specs.Scan.{scan, cause};
+ghost use Rattle.opacity.specs.Counts.{ofKind, HoldsReadable};
+ghost use Rattle.tables.specs.Order.{startOf, Judged};
+ghost use Rattle.scan.specs.Answer.{sizeRefusal, decided, scanAnswer};
+use events::columns::Checked;
+use events::record::Record;
+use opacity::verdict::Scanned;
+
+// Question 31: at most this many transactions are searched.
+const SEARCHED: usize = 10;
+
+// The scan's answer: opaque, or the event and the cause; or the question that says no, with its event.
+pub enum Judgement {
+    Scanned(Scanned),
+    Refused { question: u8, event: usize },
+}
+
+// How many transactions have begun, with one event more.
+fn counted(begun: usize, kind: u16) -> usize
+    requires { ⌜ begun < 100 ⌝ }
+    ensures { λ r. ⌜ r ≡ cond (isBegin (ofKind kind)) (begun + 1) begun ⌝ }
+{
+    if kind == Record::BEGIN {
+        return begun + 1;
+    }
+    begun
+}
+
+// By the kind: 1 read returned, 2 committed, 3 aborted, 4 any other.
+fn cause_of(kind: u16) -> u32
+    ensures { λ r. ⌜ r ≡ cause (ofKind kind) ⌝ }
+{
+    if kind == Record::READ_RETURNED {
+        return 1;
+    }
+    if kind == Record::COMMITTED {
+        return 2;
+    }
+    if kind == Record::ABORTED {
+        return 3;
+    }
+    4
+}
+
+// The prefixes of the first n events, of at most ten transactions, by rising length: the tables grow by one event each time.
+fn scan_prefixes(
+    initial: &[u32; 32],
+    kinds: &[u16],
+    transactions: &[u16],
+    registers: &[u16],
+    values: &[u32],
+    n: usize,
+) -> Scanned
+    requires { ⌜ Judged (columns (now kinds) (now transactions) (now registers) (now values)) n ⌝ }
+    ensures { λ r. ⌜ r ≡ scan (startOf (now (initial .entry))) (history (columns (now (kinds .entry)) (now (transactions .entry)) (now (registers .entry)) (now (values .entry))) n) ⌝ }
+{
+    let mut s = tables::no_tables();
+    let mut begun: usize = 0;
+    let mut i: usize = 0;
+    while i < n {
+        let kind = kinds[i];
+        s = s.step(kind, transactions[i], registers[i], values[i]);
+        begun = counted(begun, kind);
+        let a = tables::complete(initial, s, begun);
+        if !a.found {
+            return Scanned::Faulted {
+                event: i,
+                cause: cause_of(kind),
+            };
+        }
+        i += 1;
+    }
+    Scanned::Opaque
+}
+
+// Question 31, and then the prefixes of the first count events.
+fn scan_readable(
+    kinds: &[u16],
+    transactions: &[u16],
+    registers: &[u16],
+    values: &[u32],
+    count: usize,
+) -> Judgement
+    requires { ⌜ HoldsReadable (columns (now kinds) (now transactions) (now registers) (now values)) count ⌝ }
+    ensures { λ r. ⌜ r ≡ decided (sizeRefusal (history (columns (now (kinds .entry)) (now (transactions .entry)) (now (registers .entry)) (now (values .entry))) count) count) (scan (λ r. 0) (history (columns (now (kinds .entry)) (now (transactions .entry)) (now (registers .entry)) (now (values .entry))) count)) ⌝ }
+{
+    let begun = opacity::counts::transactions_begun(kinds, transactions, registers, values, count);
+    if begun > SEARCHED {
+        return Judgement::Refused {
+            question: 31,
+            event: count,
+        };
+    }
+    let initial = [0u32; 32];
+    let scanned = scan_prefixes(&initial, kinds, transactions, registers, values, count);
+    Judgement::Scanned(scanned)
+}
+
+// Is every prefix of the first count events justified? If not, the last event of the first that is not, and the cause. Every
+// register is 0 before any writer.
+pub fn scan_history(
+    kinds: &[u16],
+    transactions: &[u16],
+    registers: &[u16],
+    values: &[u32],
+    count: usize,
+) -> Judgement
+    ensures { λ r. ⌜ r ≡ scanAnswer (columns (now (kinds .entry)) (now (transactions .entry)) (now (registers .entry)) (now (values .entry))) count ⌝ }
+{
+    let checked = events::columns::check_columns(kinds, transactions, registers, values, count);
+    if let Checked::Refused { question, event } = checked {
+        return Judgement::Refused { question, event };
+    }
+    scan_readable(kinds, transactions, registers, values, count)
+}

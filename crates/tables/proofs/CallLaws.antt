@@ -1,0 +1,69 @@
+-- Laws of the questions put to a call.
+-- Assumes nothing.
+use Prim.Native.Nat.{ℕ}
+use native.Mathlib.Omega.{arith}
+use mathlib.Core.Path.{_≡_, refl, sym, ap, _∙_}
+use mathlib.Core.Bool.{Bool, true, false, cond}
+use mathlib.Core.List.{List, [], _∷_}
+use mathlib.Core.Option.{Option, Option·getD}
+use Rattle.events.specs.declared.columns.Checked.{Checked}
+use Rattle.events.specs.Columns.{Columns, history, hold}
+use Rattle.events.specs.Questions.{Question, ask, refusal, refusedWith, readable, eventsAnswer, columnsAnswer}
+use Rattle.events.proofs.QuestionLaws.{ask-yes, ask-no, answer-readable, readable-answer}
+use Rattle.tables.specs.Calls.{askedOf, thenChecked}
+
+-- a refusal is not an answer that lets pass
+pub refused-readable : (q e : ℕ) → Checked.Refused q e ≡ Checked.Readable → ⊥
+refused-readable q e x = let z : _≡_ {A = ℕ} 0 1 = cc in omega arith
+
+-- ---- questions whose event is the count
+
+pub asked-none : (count : ℕ) → askedOf count [] ≡ Checked.Readable
+unfolding askedOf refusal
+asked-none count = refl
+
+pub asked-yes : (count n : ℕ) (b : Bool) (qs : List Question) → b ≡ true → askedOf count (ask n b ∷ qs) ≡ askedOf count qs
+unfolding askedOf
+asked-yes count n b qs e = ap (λ (o : Option ℕ). Option·getD (refusedWith count o) Checked.Readable) (ask-yes n b qs e)
+
+pub asked-no : (count n : ℕ) (b : Bool) (qs : List Question) → b ≡ false → askedOf count (ask n b ∷ qs) ≡ Checked.Refused n count
+unfolding askedOf
+asked-no count n b qs e = ap (λ (o : Option ℕ). Option·getD (refusedWith count o) Checked.Readable) (ask-no n b qs e)
+
+-- where none refuses, the first says yes and none of the others refuses
+pub asked-e : (count n : ℕ) (b : Bool) (qs : List Question) → askedOf count (ask n b ∷ qs) ≡ Checked.Readable → (b ≡ true) × (askedOf count qs ≡ Checked.Readable)
+asked-e count n b qs x = go b refl
+  where
+    go : (y : Bool) → b ≡ y → (b ≡ true) × (askedOf count qs ≡ Checked.Readable)
+    go true e = (e, sym (asked-yes count n b qs e) ∙ x)
+    go false e = absurd (refused-readable n count (sym (asked-no count n b qs e) ∙ x))
+
+-- ---- groups, one after the other
+
+pub then-readable : {a : Checked} (b : Checked) → a ≡ Checked.Readable → thenChecked a b ≡ b
+unfolding thenChecked
+then-readable b e = rw e
+
+pub then-refused : {a : Checked} {q e : ℕ} (b : Checked) → a ≡ Checked.Refused q e → thenChecked a b ≡ Checked.Refused q e
+unfolding thenChecked
+then-refused b x = rw x
+
+pub then-e : (a b : Checked) → thenChecked a b ≡ Checked.Readable → (a ≡ Checked.Readable) × (b ≡ Checked.Readable)
+unfolding thenChecked
+then-e Checked.Readable b x = (refl, x)
+then-e (Checked.Refused q e) b x = absurd (refused-readable q e x)
+
+-- ---- the columns
+
+-- the columns' questions let pass exactly where they hold a readable history
+pub columns-e : (c : Columns) (n : ℕ) → columnsAnswer c n ≡ Checked.Readable → (hold c n ≡ true) × (readable (history c n) ≡ true)
+unfolding columnsAnswer
+columns-e c n x = go (hold c n) refl x
+  where
+    go : (b : Bool) → hold c n ≡ b → cond b (eventsAnswer (history c n)) (Checked.Refused 17 n) ≡ Checked.Readable → (hold c n ≡ true) × (readable (history c n) ≡ true)
+    go true e y = (e, answer-readable (history c n) y)
+    go false e y = absurd (refused-readable 17 n y)
+
+pub columns-i : (c : Columns) (n : ℕ) → hold c n ≡ true → readable (history c n) ≡ true → columnsAnswer c n ≡ Checked.Readable
+unfolding columnsAnswer
+columns-i c n t r = rw t (readable-answer (history c n) r)

@@ -1,0 +1,68 @@
+-- Columns that hold a readable history, of at most ten transactions, hold each of its prefixes so. Every register is 0 before any writer.
+-- Assumes nothing.
+use Prim.Native.Nat.{ℕ, zero, suc, _≤_}
+use native.Mathlib.Omega.{arith}
+use mathlib.Core.Path.{_≡_, refl, ap, fun-ext, subst}
+use mathlib.Core.Bool.{true}
+use mathlib.Core.List.{List}
+use lib.ListN.{take, getD, replicate}
+use Rattle.events.specs.declared.event.Event.{Event}
+use Rattle.events.specs.Events.{begins}
+use Rattle.events.specs.Columns.{Columns, history, hold}
+use Rattle.events.specs.Questions.{readable}
+use Rattle.events.proofs.ColumnLaws.{history-length, history-take, begins-take, hold-e}
+use Rattle.events.proofs.QuestionLaws.{readable-take}
+use Rattle.opacity.specs.Counts.{HoldsReadable}
+use Rattle.tables.specs.Order.{Judged, startOf}
+
+pub readable-columns : (c : Columns) (n : ℕ) → hold c n ≡ true → readable (history c n) ≡ true → HoldsReadable c n
+readable-columns c n t r =
+    let k = hold-e c n t in
+    record { kinds-long = k .kinds; transactions-long = k .transactions; registers-long = k .registers; values-long = k .values; readable = r }
+
+pub readable-prefix : (c : Columns) (n k : ℕ) → k ≤ n → HoldsReadable c n → HoldsReadable c k
+readable-prefix c n k l r =
+    record {
+      kinds-long = omega (arith, r .kinds-long);
+      transactions-long = omega (arith, r .transactions-long);
+      registers-long = omega (arith, r .registers-long);
+      values-long = omega (arith, r .values-long);
+      readable = subst (λ (h : List Event). readable h ≡ true) (history-take c n k l) (readable-take (history c n) k (rw (history-length c n) l) (r .readable));
+    }
+
+pub few-judged : (c : Columns) (n : ℕ) → HoldsReadable c n → begins (history c n) ≤ 10 → Judged c n
+few-judged c n r l =
+    record {
+      kinds-long = r .kinds-long;
+      transactions-long = r .transactions-long;
+      registers-long = r .registers-long;
+      values-long = r .values-long;
+      readable = r .readable;
+      few = l;
+    }
+
+judged-readable : (c : Columns) (n : ℕ) → Judged c n → HoldsReadable c n
+judged-readable c n j =
+    record {
+      kinds-long = j .kinds-long;
+      transactions-long = j .transactions-long;
+      registers-long = j .registers-long;
+      values-long = j .values-long;
+      readable = j .readable;
+    }
+
+pub judged-prefix : (c : Columns) (n k : ℕ) → k ≤ n → Judged c n → Judged c k
+judged-prefix c n k l j =
+    let b : begins (take k (history c n)) ≡ begins (history c k) = ap begins (history-take c n k l) in
+    few-judged c k (readable-prefix c n k l (judged-readable c n j)) (omega (arith, begins-take k (history c n), j .few))
+
+-- ---- the values before any writer
+
+zeros : (n r : ℕ) → _≡_ {A = ℕ} (getD (replicate n 0) r 0) 0
+zeros zero r = refl
+zeros (suc n) zero = refl
+zeros (suc n) (suc r) = zeros n r
+
+pub start-zero : startOf (replicate 32 0) ≡ (λ r. 0)
+unfolding startOf
+start-zero = fun-ext (λ r. zeros 32 r)

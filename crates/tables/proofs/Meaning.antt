@@ -1,0 +1,361 @@
+-- What the tables of the first n events of a history hold.
+-- Assumes nothing.
+use mathlib.Core.Path.{_≡_, refl, sym, ap, _∙_}
+use Prim.Native.Nat.{ℕ, zero, suc, max, _+_, _*_, _/_, _%_, _^_, _≤_, _<_}
+use native.Mathlib.Nat.{le-of-lt, pow-suc}
+use native.Mathlib.Omega.{arith}
+use mathlib.Core.Bool.{Bool, true, false, cond}
+use mathlib.Core.List.{List, [], _∷_, _++_}
+use mathlib.Core.Option.{Option, none, some}
+use lib.ListN.{length, take, getD, set, length-set, length-replicate, getD-replicate}
+use lib.Seq.{take-suc, getD-set-same, getD-set-other}
+use lib.Dec.{eqb}
+use lib.Bits.{bitOr, or-step, or-zero-r}
+use borrow.Author.Tests.{eqb-true, eqb-false, eq-eqb, ne-eqb}
+use Rattle.events.specs.Lists.{_and_, _or_, orElse, any, latest}
+use Rattle.events.specs.declared.event.Event.{Event}
+use Rattle.events.specs.Events.{noEvent, eventAt, isBegin, isRead, isWrite, asksCommit, isCommit, isAbort, isEnd, by, has, ended}
+use Rattle.opacity.specs.Transactions.{precedes, Status, status, lastWrite}
+use Rattle.events.proofs.ListLaws.{and-l, and-r, and-i, or-l, or-r, or-false, any-append, any-weaken, latest-snoc}
+use Rattle.search.specs.Bits.{bitAt}
+use Rattle.tables.specs.declared.Tables.{Tables}
+use Rattle.tables.specs.Tables.{slotOf, next, empty, goThrough, tablesOf}
+use Rattle.tables.proofs.TableLaws.{tables-snoc}
+use Rattle.tables.proofs.NextLaws.{Sort, begin, read, write, ask, commit, abort, other, sort, ended-next, predecessors-next, written-next, allowed-next, required-next}
+
+-- what the tables need of an event e after the events past
+pub record Fine (past : List Event) (e : Event) : Type 0 where
+  pub transaction : e .transaction < 10
+  pub register : e .register < 32
+  pub going : isBegin e ≡ false → ended (e .transaction) past ≡ false
+
+abbrev pub Good : List Event → Type 0
+Good h = (i : ℕ) → i < length h → Fine (take i h) (eventAt h i)
+
+abbrev pub digit : Bool → ℕ
+digit true = 1
+digit false = 0
+
+-- ---- one bit more in a set
+
+bit-none : (x : ℕ) → bitAt x 0 ≡ 0
+unfolding bitAt
+bit-none zero = refl
+bit-none (suc x) = bit-none x
+
+or-half : (a b : ℕ) → bitOr a b / 2 ≡ bitOr (a / 2) (b / 2)
+or-half a b = let s = or-step a b in let l : max (a % 2) (b % 2) < 2 = omega arith in omega arith
+
+or-low : (a b : ℕ) → bitOr a b % 2 ≡ max (a % 2) (b % 2)
+or-low a b = let s = or-step a b in let l : max (a % 2) (b % 2) < 2 = omega arith in omega arith
+
+eqb-suc : (t x : ℕ) → eqb (suc t) (suc x) ≡ eqb t x
+eqb-suc t x = go (eqb t x) refl
+  where
+    go : (b : Bool) → eqb t x ≡ b → eqb (suc t) (suc x) ≡ b
+    go true e = eq-eqb (suc t) (suc x) (ap suc (eqb-true t x e))
+    go false e = ne-eqb (suc t) (suc x) (λ q. eqb-false t x e (omega arith))
+
+pub bit-with : (x t n : ℕ) → bitAt x (bitOr n (2 ^ t)) ≡ cond (eqb t x) 1 (bitAt x n)
+unfolding bitAt
+bit-with zero zero n = rw (or-low n 1) (omega arith)
+bit-with (suc x) zero n = let f : eqb 0 (suc x) ≡ false = ne-eqb 0 (suc x) (λ q. omega arith) in rw (or-half n 1, or-zero-r, f)
+bit-with zero (suc t) n =
+    let e : 2 ^ suc t % 2 ≡ 0 = rw pow-suc (omega arith) in
+    let f : eqb (suc t) 0 ≡ false = ne-eqb (suc t) 0 (λ q. omega arith) in
+    rw (or-low n (2 ^ suc t), e, f) (omega arith)
+bit-with (suc x) (suc t) n = let e : 2 ^ suc t / 2 ≡ 2 ^ t = rw pow-suc (omega arith) in rw (or-half n (2 ^ suc t), e, eqb-suc t x) (bit-with x t (n / 2))
+
+-- ---- one event more in a history
+
+pub has-snoc : (p : Event → Bool) (t : ℕ) (h : List Event) (e : Event) → has p t (h ++ (e ∷ [])) ≡ (has p t h or by p t e)
+unfolding has any
+has-snoc p t h e = any-append (by p t) h (e ∷ []) ∙ ap (λ (b : Bool). any (by p t) h or b) (or-false (by p t e))
+
+shuffle : (a b c p q : Bool) → ((a and (b or c)) or (p or (q and c))) ≡ (((a and b) or p) or ((a or q) and c))
+unfolding _and_ _or_
+shuffle false b c p q = refl
+shuffle true true c p q = refl
+shuffle true false true true q = refl
+shuffle true false true false q = refl
+shuffle true false false true q = refl
+shuffle true false false false true = refl
+shuffle true false false false false = refl
+
+nothing : (a b : Bool) → ((a and false) or false) ≡ (false or (false and b))
+unfolding _and_ _or_
+nothing true b = refl
+nothing false b = refl
+
+pub precedes-snoc : (h : List Event) (e : Event) (x t : ℕ) → precedes (h ++ (e ∷ [])) x t ≡ (precedes h x t or (ended x h and by isBegin t e))
+unfolding precedes ended has any
+precedes-snoc [] e x t = nothing (by isEnd x e) (by isBegin t e)
+precedes-snoc (y ∷ h) e x t =
+    rw (has-snoc isBegin t h e, precedes-snoc h e x t)
+    (shuffle (by isEnd x y) (has isBegin t h) (by isBegin t e) (precedes h x t) (ended x h))
+
+-- what precedes a transaction has ended
+pub precedes-ended : (h : List Event) (x t : ℕ) → precedes h x t ≡ true → ended x h ≡ true
+unfolding precedes ended has any _or_ _and_
+precedes-ended [] x t q = q
+precedes-ended (y ∷ h) x t q = go (by isEnd x y) q (precedes-ended h x t)
+  where
+    go : (b : Bool) → ((b and has isBegin t h) or precedes h x t) ≡ true → (precedes h x t ≡ true → ended x h ≡ true) → (b or ended x h) ≡ true
+    go true q′ ih = refl
+    go false q′ ih = ih q′
+
+pub last-snoc : (h : List Event) (e : Event) (t r : ℕ) → lastWrite (h ++ (e ∷ [])) t r ≡ orElse (cond (by isWrite t e and eqb (e .register) r) (some (e .value)) none) (lastWrite h t r)
+unfolding lastWrite
+last-snoc h e t r = latest-snoc (λ e. cond (by isWrite t e and eqb (e .register) r) (some (e .value)) none) h e
+
+-- a value as a table holds it
+abbrev pub plus : Option ℕ → ℕ
+plus none = 0
+plus (some v) = v + 1
+
+-- a rule as a table holds it
+abbrev pub rule : Status → ℕ
+rule Status.committed = 1
+rule Status.aborted = 0
+rule Status.pending = 2
+rule Status.live = 0
+
+-- ---- the tables of no events
+
+ended-zero : (x : ℕ) → bitAt x (tablesOf [] .ended) ≡ digit (ended x [])
+unfolding ended has any tablesOf goThrough empty
+ended-zero x = bit-none x
+
+predecessors-zero : (t x : ℕ) → t < 10 → bitAt x (getD (tablesOf [] .predecessors) t 0) ≡ digit (precedes [] x t)
+unfolding precedes tablesOf goThrough empty
+predecessors-zero t x l = ap (bitAt x) (getD-replicate 10 t 0 0 l) ∙ bit-none x
+
+allowed-zero : (t : ℕ) → t < 10 → getD (tablesOf [] .allowed) t 0 ≡ rule (status [] t)
+unfolding status has any tablesOf goThrough empty
+allowed-zero t l = getD-replicate 10 t 0 0 l
+
+written-zero : (t r : ℕ) → t < 10 → r < 32 → getD (tablesOf [] .written) (t * 32 + r) 0 ≡ plus (lastWrite [] t r)
+unfolding lastWrite latest tablesOf goThrough empty
+written-zero t r l k = getD-replicate 320 (t * 32 + r) 0 0 (omega arith)
+
+pub required-zero : (k : ℕ) → k < 320 → getD (tablesOf [] .required) k 0 ≡ 0
+unfolding tablesOf goThrough empty
+required-zero k l = getD-replicate 320 k 0 0 l
+
+sizes-zero : (length (tablesOf [] .predecessors) ≡ 10) × (length (tablesOf [] .allowed) ≡ 10) × (length (tablesOf [] .required) ≡ 320) × (length (tablesOf [] .written) ≡ 320)
+unfolding tablesOf goThrough empty
+sizes-zero = (length-replicate {A = ℕ} 10 0, length-replicate {A = ℕ} 10 0, length-replicate {A = ℕ} 320 0, length-replicate {A = ℕ} 320 0)
+
+-- ---- one event more
+
+-- not of the transaction
+by-other : (p : Event → Bool) (t : ℕ) (e : Event) → eqb (e .transaction) t ≡ false → by p t e ≡ false
+unfolding by _and_
+by-other p t e q = rw q
+
+-- of the transaction
+by-same : (p : Event → Bool) (t : ℕ) (e : Event) → eqb (e .transaction) t ≡ true → by p t e ≡ p e
+unfolding by _and_
+by-same p t e q = rw q
+
+-- of another kind
+by-not : (p : Event → Bool) (t : ℕ) (e : Event) → p e ≡ false → by p t e ≡ false
+unfolding by _and_
+by-not p t e q = rw q (go (eqb (e .transaction) t))
+  where
+    go : (b : Bool) → (b and false) ≡ false
+    go true = refl
+    go false = refl
+
+or-true : (b : Bool) → (b or true) ≡ true
+unfolding _or_
+or-true true = refl
+or-true false = refl
+
+no-commit : (t : ℕ) (past : List Event) → ended t past ≡ false → has isCommit t past ≡ false
+unfolding ended has by isEnd
+no-commit t past q = any-weaken (by isEnd t) (by isCommit t) past (λ e k. and-i _ _ (and-l _ _ k) (or-l _ _ (and-r _ _ k))) q
+
+no-abort : (t : ℕ) (past : List Event) → ended t past ≡ false → has isAbort t past ≡ false
+unfolding ended has by isEnd
+no-abort t past q = any-weaken (by isEnd t) (by isAbort t) past (λ e k. and-i _ _ (and-l _ _ k) (or-r _ _ (and-r _ _ k))) q
+
+ends : (b c : Bool) → (b ≡ true → c ≡ true) → digit c ≡ digit (b or (c and true))
+unfolding _or_ _and_
+ends true c f = ap digit (f refl)
+ends false true f = refl
+ends false false f = refl
+
+stays : (b c : Bool) → digit b ≡ digit (b or (c and false))
+unfolding _or_ _and_
+stays true c = refl
+stays false true = refl
+stays false false = refl
+
+module _ (h : List Event) (good : Good h) where
+  -- the tables of the first n events
+  abbrev pub tab : ℕ → Tables
+  tab n = tablesOf (take n h)
+
+  pub tab-suc : (n : ℕ) → n < length h → tab (suc n) ≡ next (tab n) (eventAt h n)
+  tab-suc n l = ap tablesOf (take-suc h n noEvent l) ∙ tables-snoc (take n h) (eventAt h n)
+
+  -- ---- those that have ended, and those that had ended before a transaction began
+
+  ended-step : (s : Tables) (past : List Event) (e : Event) (x : ℕ) → bitAt x (s .ended) ≡ digit (ended x past) → bitAt x (next s e .ended) ≡ digit (ended x (past ++ (e ∷ [])))
+  unfolding ended
+  ended-step s past e x q = rw (ended-next s e, has-snoc isEnd x past e) (go (isEnd e) refl (eqb (e .transaction) x) refl)
+    where
+      go : (b : Bool) → isEnd e ≡ b → (d : Bool) → eqb (e .transaction) x ≡ d → bitAt x (cond b (bitOr (s .ended) (2 ^ e .transaction)) (s .ended)) ≡ digit (has isEnd x past or by isEnd x e)
+      go true f true g = rw (bit-with x (e .transaction) (s .ended), g, by-same isEnd x e g, f, or-true)
+      go true f false g = rw (bit-with x (e .transaction) (s .ended), g, by-other isEnd x e g, or-false) q
+      go false f d g = rw (by-not isEnd x e f, or-false) q
+
+  pub ended-holds : (n : ℕ) → n ≤ length h → (x : ℕ) → bitAt x (tab n .ended) ≡ digit (ended x (take n h))
+  ended-holds zero l x = ended-zero x
+  ended-holds (suc n) l x = rw (tab-suc n l, take-suc h n noEvent l) (ended-step (tab n) (take n h) (eventAt h n) x (ended-holds n (le-of-lt l) x))
+
+  lengths-step : (s : Tables) (e : Event)
+      → (length (s .predecessors) ≡ 10) × (length (s .allowed) ≡ 10) × (length (s .required) ≡ 320) × (length (s .written) ≡ 320)
+      → (length (next s e .predecessors) ≡ 10) × (length (next s e .allowed) ≡ 10) × (length (next s e .required) ≡ 320) × (length (next s e .written) ≡ 320)
+  lengths-step s e q = rw (predecessors-next s e, allowed-next s e, required-next s e, written-next s e) (b (isBegin e), a (asksCommit e) (isCommit e) (isAbort e), w (isRead e) (eqb (getD (s .written) (slotOf e) 0) 0), v (isWrite e))
+    where
+      b : (x : Bool) → length (cond x (set (s .predecessors) (e .transaction) (s .ended)) (s .predecessors)) ≡ 10
+      b true = length-set (s .predecessors) (e .transaction) (s .ended) ∙ q .0
+      b false = q .0
+
+      a : (x y z : Bool) → length (cond x (set (s .allowed) (e .transaction) 2) (cond y (set (s .allowed) (e .transaction) 1) (cond z (set (s .allowed) (e .transaction) 0) (s .allowed)))) ≡ 10
+      a true y z = length-set (s .allowed) (e .transaction) 2 ∙ q .1
+      a false true z = length-set (s .allowed) (e .transaction) 1 ∙ q .1
+      a false false true = length-set (s .allowed) (e .transaction) 0 ∙ q .1
+      a false false false = q .1
+
+      w : (x y : Bool) → length (cond x (cond y (set (s .required) (slotOf e) (e .value + 1)) (s .required)) (s .required)) ≡ 320
+      w true true = length-set (s .required) (slotOf e) (e .value + 1) ∙ q .2
+      w true false = q .2
+      w false y = q .2
+
+      v : (x : Bool) → length (cond x (set (s .written) (slotOf e) (e .value + 1)) (s .written)) ≡ 320
+      v true = length-set (s .written) (slotOf e) (e .value + 1) ∙ q .3
+      v false = q .3
+
+  pub lengths : (n : ℕ) → n ≤ length h → (length (tab n .predecessors) ≡ 10) × (length (tab n .allowed) ≡ 10) × (length (tab n .required) ≡ 320) × (length (tab n .written) ≡ 320)
+  lengths zero l = sizes-zero
+  lengths (suc n) l = rw (tab-suc n l) (lengths-step (tab n) (eventAt h n) (lengths n (le-of-lt l)))
+
+  predecessors-step : (s : Tables) (past : List Event) (e : Event) (t x : ℕ) → length (s .predecessors) ≡ 10 → t < 10
+      → bitAt x (s .ended) ≡ digit (ended x past) → bitAt x (getD (s .predecessors) t 0) ≡ digit (precedes past x t)
+      → bitAt x (getD (next s e .predecessors) t 0) ≡ digit (precedes (past ++ (e ∷ [])) x t)
+  predecessors-step s past e t x k l q p = rw (predecessors-next s e, precedes-snoc past e x t) (go (isBegin e) refl (eqb (e .transaction) t) refl)
+    where
+      go : (b : Bool) → isBegin e ≡ b → (d : Bool) → eqb (e .transaction) t ≡ d → bitAt x (getD (cond b (set (s .predecessors) (e .transaction) (s .ended)) (s .predecessors)) t 0) ≡ digit (precedes past x t or (ended x past and by isBegin t e))
+      go true f true g =
+          let w : getD (set (s .predecessors) (e .transaction) (s .ended)) t 0 ≡ s .ended =
+          rw (eqb-true (e .transaction) t g) (getD-set-same (s .predecessors) t (s .ended) 0 (rw k l)) in
+          rw (w, by-same isBegin t e g, f) (q ∙ ends (precedes past x t) (ended x past) (precedes-ended past x t))
+      go true f false g =
+          let w : getD (set (s .predecessors) (e .transaction) (s .ended)) t 0 ≡ getD (s .predecessors) t 0 =
+          getD-set-other (s .predecessors) (e .transaction) t (s .ended) 0 (λ r. eqb-false (e .transaction) t g (sym r)) in
+          rw (w, by-other isBegin t e g) (p ∙ stays (precedes past x t) (ended x past))
+      go false f d g = rw (by-not isBegin t e f) (p ∙ stays (precedes past x t) (ended x past))
+
+  pub predecessors-holds : (n : ℕ) → n ≤ length h → (t x : ℕ) → t < 10 → bitAt x (getD (tab n .predecessors) t 0) ≡ digit (precedes (take n h) x t)
+  predecessors-holds zero l t x k = predecessors-zero t x k
+  predecessors-holds (suc n) l t x k =
+      rw (tab-suc n l, take-suc h n noEvent l)
+      (predecessors-step (tab n) (take n h) (eventAt h n) t x (lengths n (le-of-lt l) .0) k (ended-holds n (le-of-lt l) x) (predecessors-holds n (le-of-lt l) t x k))
+
+  -- ---- the last writes
+
+  written-step : (s : Tables) (past : List Event) (e : Event) → e .transaction < 10 → e .register < 32 → length (s .written) ≡ 320 → (t r : ℕ) → t < 10 → r < 32
+      → getD (s .written) (t * 32 + r) 0 ≡ plus (lastWrite past t r) → getD (next s e .written) (t * 32 + r) 0 ≡ plus (lastWrite (past ++ (e ∷ [])) t r)
+  unfolding _and_
+  written-step s past e a b k t r lt lr q = rw (written-next s e, last-snoc past e t r) (go (isWrite e) refl (eqb (e .transaction) t) refl (eqb (e .register) r) refl)
+    where
+      go : (b : Bool) → isWrite e ≡ b → (d : Bool) → eqb (e .transaction) t ≡ d → (f : Bool) → eqb (e .register) r ≡ f
+          → getD (cond b (set (s .written) (slotOf e) (e .value + 1)) (s .written)) (t * 32 + r) 0
+          ≡ plus (orElse (cond (by isWrite t e and eqb (e .register) r) (some (e .value)) none) (lastWrite past t r))
+      go true w true x true y =
+          let i : slotOf e ≡ t * 32 + r = omega (arith, eqb-true (e .transaction) t x, eqb-true (e .register) r y) in
+          rw (by-same isWrite t e x, w, y, i) (getD-set-same (s .written) (t * 32 + r) (e .value + 1) 0 (rw k (omega arith)))
+      go true w true x false y =
+          rw (by-same isWrite t e x, w, y)
+          (getD-set-other (s .written) (slotOf e) (t * 32 + r) (e .value + 1) 0 (λ m. eqb-false (e .register) r y (omega (arith, eqb-true (e .transaction) t x))) ∙ q)
+      go true w false x f y =
+          rw (by-other isWrite t e x)
+          (getD-set-other (s .written) (slotOf e) (t * 32 + r) (e .value + 1) 0 (λ m. eqb-false (e .transaction) t x (omega arith)) ∙ q)
+      go false w d x f y = rw (by-not isWrite t e w) q
+
+  pub written-holds : (n : ℕ) → n ≤ length h → (t r : ℕ) → t < 10 → r < 32 → getD (tab n .written) (t * 32 + r) 0 ≡ plus (lastWrite (take n h) t r)
+  written-holds zero l t r lt lr = written-zero t r lt lr
+  written-holds (suc n) l t r lt lr =
+      rw (tab-suc n l, take-suc h n noEvent l)
+      (written-step (tab n) (take n h) (eventAt h n) (good n l .transaction) (good n l .register) (lengths n (le-of-lt l) .3) t r lt lr (written-holds n (le-of-lt l) t r lt lr))
+
+  -- ---- the outcomes allowed
+
+  allowed-step : (s : Tables) (past : List Event) (e : Event) → length (s .allowed) ≡ 10 → (isBegin e ≡ false → ended (e .transaction) past ≡ false) → (t : ℕ) → t < 10
+      → getD (s .allowed) t 0 ≡ rule (status past t) → getD (next s e .allowed) t 0 ≡ rule (status (past ++ (e ∷ [])) t)
+  unfolding status
+  allowed-step s past e k going t l q =
+      rw (allowed-next s e, has-snoc isCommit t past e, has-snoc isAbort t past e, has-snoc asksCommit t past e) (go (eqb (e .transaction) t) refl (sort e))
+    where
+      now : ℕ → Bool → Bool → Bool → Type 0
+      now v c x a = v ≡ rule (cond (has isCommit t past or c) Status.committed (cond (has isAbort t past or x) Status.aborted (cond (has asksCommit t past or a) Status.pending Status.live)))
+
+      new : ℕ
+      new = getD (cond (asksCommit e) (set (s .allowed) (e .transaction) 2) (cond (isCommit e) (set (s .allowed) (e .transaction) 1) (cond (isAbort e) (set (s .allowed) (e .transaction) 0) (s .allowed)))) t 0
+
+      still : asksCommit e ≡ false → isCommit e ≡ false → isAbort e ≡ false → now new (by isCommit t e) (by isAbort t e) (by asksCommit t e)
+      still a c x = simp (a, c, x, by-not isCommit t e c, by-not isAbort t e x, by-not asksCommit t e a, or-false) q
+
+      away : eqb (e .transaction) t ≡ false → (a c x : Bool)
+          → getD (cond a (set (s .allowed) (e .transaction) 2) (cond c (set (s .allowed) (e .transaction) 1) (cond x (set (s .allowed) (e .transaction) 0) (s .allowed)))) t 0 ≡ getD (s .allowed) t 0
+      away f true c x = getD-set-other (s .allowed) (e .transaction) t 2 0 (λ r. eqb-false (e .transaction) t f (sym r))
+      away f false true x = getD-set-other (s .allowed) (e .transaction) t 1 0 (λ r. eqb-false (e .transaction) t f (sym r))
+      away f false false true = getD-set-other (s .allowed) (e .transaction) t 0 0 (λ r. eqb-false (e .transaction) t f (sym r))
+      away f false false false = refl
+
+      here : (v : ℕ) → eqb (e .transaction) t ≡ true → getD (set (s .allowed) (e .transaction) v) t 0 ≡ v
+      here v f = let w = eqb-true (e .transaction) t f in rw w (getD-set-same (s .allowed) t v 0 (rw k l))
+
+      unended : eqb (e .transaction) t ≡ true → isBegin e ≡ false → ended t past ≡ false
+      unended f b = rw (eqb-true (e .transaction) t f) at (going b)
+
+      go : (d : Bool) → eqb (e .transaction) t ≡ d → Sort e → now new (by isCommit t e) (by isAbort t e) (by asksCommit t e)
+      go false f u =
+          simp (by-other isCommit t e f, by-other isAbort t e f, by-other asksCommit t e f, or-false)
+          (away f (asksCommit e) (isCommit e) (isAbort e) ∙ q)
+      go true f (begin u) = still (u .asks) (u .commits) (u .aborts)
+      go true f (read u) = still (u .asks) (u .commits) (u .aborts)
+      go true f (write u) = still (u .asks) (u .commits) (u .aborts)
+      go true f (other u) = still (u .asks) (u .commits) (u .aborts)
+      go true f (ask u) =
+          simp (
+            u .asks,
+            by-not isCommit t e (u .commits),
+            by-not isAbort t e (u .aborts),
+            by-same asksCommit t e f,
+            or-false,
+            or-true,
+            no-commit t past (unended f (u .begins)),
+            no-abort t past (unended f (u .begins)),
+          ) (here 2 f)
+      go true f (commit u) = simp (u .asks, u .commits, by-same isCommit t e f, or-true) (here 1 f)
+      go true f (abort u) =
+          simp (
+            u .asks,
+            u .commits,
+            u .aborts,
+            by-not isCommit t e (u .commits),
+            by-same isAbort t e f,
+            or-false,
+            or-true,
+            no-commit t past (unended f (u .begins)),
+          ) (here 0 f)
+
+  pub allowed-holds : (n : ℕ) → n ≤ length h → (t : ℕ) → t < 10 → getD (tab n .allowed) t 0 ≡ rule (status (take n h) t)
+  allowed-holds zero l t k = allowed-zero t k
+  allowed-holds (suc n) l t k =
+      rw (tab-suc n l, take-suc h n noEvent l)
+      (allowed-step (tab n) (take n h) (eventAt h n) (lengths n (le-of-lt l) .1) (good n l .going) t k (allowed-holds n (le-of-lt l) t k))

@@ -1,0 +1,158 @@
+-- What kind of event it is, with the answers of all the tests.
+-- Assumes nothing.
+use mathlib.Core.Path.{_≡_, refl, ap}
+use Prim.Native.Nat.{ℕ, _+_, _^_}
+use mathlib.Core.Bool.{Bool, true, false, cond}
+use lib.ListN.{getD, set}
+use lib.Dec.{eqb}
+use lib.Bits.{bitOr}
+use borrow.Author.Tests.{eqb-true}
+use Rattle.events.specs.Lists.{_or_}
+use Rattle.events.specs.declared.event.Event.{Event}
+use Rattle.events.specs.Events.{isBegin, isRead, isWrite, asksCommit, isCommit, isAbort, isEnd}
+use Rattle.tables.specs.declared.Tables.{Tables}
+use Rattle.tables.specs.Tables.{slotOf, clashes, begun, settled, writtenAt, readAt, next}
+
+pub record Tests (e : Event) (b r w a c x : Bool) : Type 0 where
+  pub begins : isBegin e ≡ b
+  pub reads : isRead e ≡ r
+  pub writes : isWrite e ≡ w
+  pub asks : asksCommit e ≡ a
+  pub commits : isCommit e ≡ c
+  pub aborts : isAbort e ≡ x
+
+pub data Sort (e : Event) : Type 0 where
+  begin : Tests e true false false false false false → Sort e
+  read : Tests e false true false false false false → Sort e
+  write : Tests e false false true false false false → Sort e
+  ask : Tests e false false false true false false → Sort e
+  commit : Tests e false false false false true false → Sort e
+  abort : Tests e false false false false false true → Sort e
+  other : Tests e false false false false false false → Sort e
+
+tests : (e : Event) (k : ℕ) → e .kind ≡ k → Tests e (eqb k 16) (eqb k 18) (eqb k 19) (eqb k 21) (eqb k 22) (eqb k 23)
+unfolding isBegin isRead isWrite asksCommit isCommit isAbort
+tests e k q =
+    record {
+      begins = ap (λ (m : ℕ). eqb m 16) q;
+      reads = ap (λ (m : ℕ). eqb m 18) q;
+      writes = ap (λ (m : ℕ). eqb m 19) q;
+      asks = ap (λ (m : ℕ). eqb m 21) q;
+      commits = ap (λ (m : ℕ). eqb m 22) q;
+      aborts = ap (λ (m : ℕ). eqb m 23) q;
+    }
+
+pub sort : (e : Event) → Sort e
+unfolding isBegin isRead isWrite asksCommit isCommit isAbort
+sort e = g₁ (eqb (e .kind) 16) refl
+  where
+    k : ℕ
+    k = e .kind
+
+    g₆ : (b : Bool) → eqb k 23 ≡ b → eqb k 16 ≡ false → eqb k 18 ≡ false → eqb k 19 ≡ false → eqb k 21 ≡ false → eqb k 22 ≡ false → Sort e
+    g₆ true q q₁ q₂ q₃ q₄ q₅ = abort (tests e 23 (eqb-true k 23 q))
+    g₆ false q q₁ q₂ q₃ q₄ q₅ = other (record { begins = q₁; reads = q₂; writes = q₃; asks = q₄; commits = q₅; aborts = q })
+
+    g₅ : (b : Bool) → eqb k 22 ≡ b → eqb k 16 ≡ false → eqb k 18 ≡ false → eqb k 19 ≡ false → eqb k 21 ≡ false → Sort e
+    g₅ true q q₁ q₂ q₃ q₄ = commit (tests e 22 (eqb-true k 22 q))
+    g₅ false q q₁ q₂ q₃ q₄ = g₆ (eqb k 23) refl q₁ q₂ q₃ q₄ q
+
+    g₄ : (b : Bool) → eqb k 21 ≡ b → eqb k 16 ≡ false → eqb k 18 ≡ false → eqb k 19 ≡ false → Sort e
+    g₄ true q q₁ q₂ q₃ = ask (tests e 21 (eqb-true k 21 q))
+    g₄ false q q₁ q₂ q₃ = g₅ (eqb k 22) refl q₁ q₂ q₃ q
+
+    g₃ : (b : Bool) → eqb k 19 ≡ b → eqb k 16 ≡ false → eqb k 18 ≡ false → Sort e
+    g₃ true q q₁ q₂ = write (tests e 19 (eqb-true k 19 q))
+    g₃ false q q₁ q₂ = g₄ (eqb k 21) refl q₁ q₂ q
+
+    g₂ : (b : Bool) → eqb k 18 ≡ b → eqb k 16 ≡ false → Sort e
+    g₂ true q q₁ = read (tests e 18 (eqb-true k 18 q))
+    g₂ false q q₁ = g₃ (eqb k 19) refl q₁ q
+
+    g₁ : (b : Bool) → eqb k 16 ≡ b → Sort e
+    g₁ true q = begin (tests e 16 (eqb-true k 16 q))
+    g₁ false q = g₂ (eqb k 18) refl q
+
+-- the tables of one event more, each by itself
+module _ (s : Tables) (e : Event) where
+  pub ended-next : next s e .ended ≡ cond (isEnd e) (bitOr (s .ended) (2 ^ e .transaction)) (s .ended)
+  unfolding next isEnd _or_ begun settled writtenAt readAt
+  ended-next = go (sort e)
+    where
+      go : Sort e → next s e .ended ≡ cond (isEnd e) (bitOr (s .ended) (2 ^ e .transaction)) (s .ended)
+      go (begin t) = simp (t .begins, t .commits, t .aborts)
+      go (read t) = simp (t .begins, t .reads, t .commits, t .aborts)
+      go (write t) = simp (t .begins, t .reads, t .writes, t .commits, t .aborts)
+      go (ask t) = simp (t .begins, t .reads, t .writes, t .asks, t .commits, t .aborts)
+      go (commit t) = simp (t .begins, t .reads, t .writes, t .asks, t .commits, t .aborts)
+      go (abort t) = simp (t .begins, t .reads, t .writes, t .asks, t .commits, t .aborts)
+      go (other t) = simp (t .begins, t .reads, t .writes, t .asks, t .commits, t .aborts)
+
+  pub predecessors-next : next s e .predecessors ≡ cond (isBegin e) (set (s .predecessors) (e .transaction) (s .ended)) (s .predecessors)
+  unfolding next begun settled writtenAt readAt
+  predecessors-next = go (sort e)
+    where
+      go : Sort e → next s e .predecessors ≡ cond (isBegin e) (set (s .predecessors) (e .transaction) (s .ended)) (s .predecessors)
+      go (begin t) = simp (t .begins)
+      go (read t) = simp (t .begins, t .reads)
+      go (write t) = simp (t .begins, t .reads, t .writes)
+      go (ask t) = simp (t .begins, t .reads, t .writes, t .asks)
+      go (commit t) = simp (t .begins, t .reads, t .writes, t .asks, t .commits)
+      go (abort t) = simp (t .begins, t .reads, t .writes, t .asks, t .commits, t .aborts)
+      go (other t) = simp (t .begins, t .reads, t .writes, t .asks, t .commits, t .aborts)
+
+  pub written-next : next s e .written ≡ cond (isWrite e) (set (s .written) (slotOf e) (e .value + 1)) (s .written)
+  unfolding next begun settled writtenAt readAt
+  written-next = go (sort e)
+    where
+      go : Sort e → next s e .written ≡ cond (isWrite e) (set (s .written) (slotOf e) (e .value + 1)) (s .written)
+      go (begin t) = simp (t .begins, t .writes)
+      go (read t) = simp (t .begins, t .reads, t .writes)
+      go (write t) = simp (t .begins, t .reads, t .writes)
+      go (ask t) = simp (t .begins, t .reads, t .writes, t .asks)
+      go (commit t) = simp (t .begins, t .reads, t .writes, t .asks, t .commits)
+      go (abort t) = simp (t .begins, t .reads, t .writes, t .asks, t .commits, t .aborts)
+      go (other t) = simp (t .begins, t .reads, t .writes, t .asks, t .commits, t .aborts)
+
+  pub allowed-next : next s e .allowed
+      ≡ cond (asksCommit e) (set (s .allowed) (e .transaction) 2) (cond (isCommit e) (set (s .allowed) (e .transaction) 1) (cond (isAbort e) (set (s .allowed) (e .transaction) 0) (s .allowed)))
+  unfolding next begun settled writtenAt readAt
+  allowed-next = go (sort e)
+    where
+      go : Sort e → next s e .allowed
+          ≡ cond (asksCommit e) (set (s .allowed) (e .transaction) 2) (cond (isCommit e) (set (s .allowed) (e .transaction) 1) (cond (isAbort e) (set (s .allowed) (e .transaction) 0) (s .allowed)))
+      go (begin t) = simp (t .begins, t .asks, t .commits, t .aborts)
+      go (read t) = simp (t .begins, t .reads, t .asks, t .commits, t .aborts)
+      go (write t) = simp (t .begins, t .reads, t .writes, t .asks, t .commits, t .aborts)
+      go (ask t) = simp (t .begins, t .reads, t .writes, t .asks)
+      go (commit t) = simp (t .begins, t .reads, t .writes, t .asks, t .commits)
+      go (abort t) = simp (t .begins, t .reads, t .writes, t .asks, t .commits, t .aborts)
+      go (other t) = simp (t .begins, t .reads, t .writes, t .asks, t .commits, t .aborts)
+
+  pub required-next : next s e .required ≡ cond (isRead e) (cond (eqb (getD (s .written) (slotOf e) 0) 0) (set (s .required) (slotOf e) (e .value + 1)) (s .required)) (s .required)
+  unfolding next begun settled writtenAt readAt
+  required-next = go (sort e)
+    where
+      go : Sort e → next s e .required ≡ cond (isRead e) (cond (eqb (getD (s .written) (slotOf e) 0) 0) (set (s .required) (slotOf e) (e .value + 1)) (s .required)) (s .required)
+      go (begin t) = simp (t .begins, t .reads)
+      go (read t) = simp (t .begins, t .reads)
+      go (write t) = simp (t .begins, t .reads, t .writes)
+      go (ask t) = simp (t .begins, t .reads, t .writes, t .asks)
+      go (commit t) = simp (t .begins, t .reads, t .writes, t .asks, t .commits)
+      go (abort t) = simp (t .begins, t .reads, t .writes, t .asks, t .commits, t .aborts)
+      go (other t) = simp (t .begins, t .reads, t .writes, t .asks, t .commits, t .aborts)
+
+  pub contradictory-next : next s e .contradictory
+      ≡ cond (isRead e) (s .contradictory or clashes (cond (eqb (getD (s .written) (slotOf e) 0) 0) (getD (s .required) (slotOf e) 0) (getD (s .written) (slotOf e) 0)) (e .value + 1)) (s .contradictory)
+  unfolding next begun settled writtenAt readAt
+  contradictory-next = go (sort e)
+    where
+      go : Sort e → next s e .contradictory
+          ≡ cond (isRead e) (s .contradictory or clashes (cond (eqb (getD (s .written) (slotOf e) 0) 0) (getD (s .required) (slotOf e) 0) (getD (s .written) (slotOf e) 0)) (e .value + 1)) (s .contradictory)
+      go (begin t) = simp (t .begins, t .reads)
+      go (read t) = simp (t .begins, t .reads)
+      go (write t) = simp (t .begins, t .reads, t .writes)
+      go (ask t) = simp (t .begins, t .reads, t .writes, t .asks)
+      go (commit t) = simp (t .begins, t .reads, t .writes, t .asks, t .commits)
+      go (abort t) = simp (t .begins, t .reads, t .writes, t .asks, t .commits, t .aborts)
+      go (other t) = simp (t .begins, t .reads, t .writes, t .asks, t .commits, t .aborts)

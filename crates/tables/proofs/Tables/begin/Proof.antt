@@ -1,0 +1,20 @@
+-- `tables::Tables::begin` meets its contract.
+-- Assumes nothing.
+use mathlib.Core.Path.{refl}
+use Rattle.tables.specs.Tables.{begun}
+use borrow.Author.Needs.{needs}
+use Rattle.tables.proofs.Tables.begin.Statement.{statement}
+use Rattle.tables.proofs.Tables.begin.Tie as tie
+
+mul-s : tie.Need-mul-s
+mul-s c = search needs
+
+element-write-s : tie.Need-element-write-s
+element-write-s c = search needs
+
+returns : tie.Need-returns
+unfolding begun
+returns c = refl
+
+pub begin-spec : {M : Type 1} → statement M
+begin-spec = tie.close (tie.spec mul-s element-write-s returns)

@@ -1,0 +1,62 @@
+-- `tables::Tables::read` meets its contract.
+-- Assumes nothing.
+use borrow.Author.Tests.{eq-eqb, ne-eqb}
+use Rattle.tables.specs.Tables.{readAt}
+use borrow.Author.Needs.{needs}
+use Rattle.tables.proofs.Tables.read.Statement.{statement}
+use Rattle.tables.proofs.Tables.read.Tie as tie
+
+mul-own : tie.Need-mul-own
+mul-own c = search needs
+
+element-copy-out-own : tie.Need-element-copy-out-own
+element-copy-out-own c = search needs
+
+mul-old : tie.Need-mul-old
+mul-old c = search needs
+
+element-copy-out-old : tie.Need-element-copy-out-old
+element-copy-out-old c = search needs
+
+differs-requires : tie.Need-differs-requires
+differs-requires c κs = search needs
+
+either-requires : tie.Need-either-requires
+either-requires c κs = search needs
+
+returns : tie.Need-returns
+unfolding readAt
+returns c = simp (ne-eqb _ _ (c .before .before .if1 .taken), c .either .ensures, c .before .differs .ensures)
+
+differs-requires-2 : tie.Need-differs-requires-2
+differs-requires-2 c κs = search needs
+
+either-requires-2 : tie.Need-either-requires-2
+either-requires-2 c κs = search needs
+
+mul-s : tie.Need-mul-s
+mul-s c = search needs
+
+element-write-s : tie.Need-element-write-s
+element-write-s c = search needs
+
+returns-2 : tie.Need-returns-2
+unfolding readAt
+returns-2 c = simp (eq-eqb _ _ (c .before .before .if1 .left), c .either2 .ensures, c .before .differs2 .ensures)
+
+pub read-spec : {M : Type 1} → statement M
+read-spec =
+    tie.close
+    (tie.spec
+    mul-own
+    element-copy-out-own
+    mul-old
+    element-copy-out-old
+    differs-requires
+    either-requires
+    returns
+    differs-requires-2
+    either-requires-2
+    mul-s
+    element-write-s
+    returns-2)

@@ -1,0 +1,16 @@
+-- `tables::either` meets its contract.
+-- Assumes nothing.
+use Rattle.events.specs.Lists.{_or_}
+use Rattle.tables.proofs.either.Statement.{statement}
+use Rattle.tables.proofs.either.Tie as tie
+
+returns : tie.Need-returns
+unfolding _or_
+returns c = simp (c .if1 .taken)
+
+returns-2 : tie.Need-returns-2
+unfolding _or_
+returns-2 c = simp (c .if1 .left)
+
+pub either-spec : {M : Type 1} → statement M
+either-spec = tie.close (tie.spec returns returns-2)

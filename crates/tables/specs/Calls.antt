@@ -1,0 +1,16 @@
+-- Questions put to a call of the finder or the scan, one group after the other.
+-- Assumes nothing.
+use Prim.Native.Nat.{ℕ}
+use mathlib.Core.List.{List}
+use mathlib.Core.Option.{Option·getD}
+use Rattle.events.specs.declared.columns.Checked.{Checked}
+use Rattle.events.specs.Questions.{Question, refusal, refusedWith}
+
+-- the first of some questions that says no; the count is their event
+unfoldable pub askedOf : ℕ → List Question → Checked
+askedOf count qs = Option·getD (refusedWith count (refusal qs)) Checked.Readable
+
+-- the first of two groups that refuses
+unfoldable pub thenChecked : Checked → Checked → Checked
+thenChecked Checked.Readable b = b
+thenChecked (Checked.Refused q e) b = Checked.Refused q e

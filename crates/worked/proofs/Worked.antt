@@ -1,0 +1,19 @@
+-- Every entry of the list of worked histories holds, by computation.
+-- Assumes nothing.
+use mathlib.Core.Path.{_≡_, refl}
+use mathlib.Core.Bool.{true}
+use Rattle.events.specs.Lists.{_and_, _or_, _implies_, any, all, keep, latest, every, lowest, first, last, range}
+use Rattle.events.specs.Events.{isKnown, isBegin, isRead, isWrite, isCall, namesRegister, asksCommit, isCommit, isAbort, isEnd, by, has, begins, ended, lastOf, pendingCall, pendingOf, latestOn}
+use Rattle.events.specs.Questions.{refusal, threadFree, due, fieldsDue, eventQuestions, columnQuestions, refusedAt, readable}
+use Rattle.opacity.specs.Transactions.{status, allows, precedes, lastWrite, ownWrite, isOwnRead, isStoreRead, storeReads, ownRight}
+use Rattle.opacity.specs.Justification.{placed, before, outcome, written, contents, distinct, isOrder, outcomeKept, preceded, legalOver, realTimeKept}
+use Rattle.opacity.specs.Lowest.{fits, lowestPlace, goOn, lowestOf}
+use Rattle.opacity.specs.Marking.{flat, markingBytes, gapOf, placeOf, marked, others, between, noWriterBetween, valueAtGap, lastEvent, beginOf, broke, verdict}
+use Rattle.opacity.specs.Scan.{cause, scan}
+use Rattle.opacity.specs.Serial.{put, does, eventsOf, run, readsRight, after, runsRight}
+use Rattle.opacity.specs.Counts.{counts}
+use Rattle.worked.specs.Worked.{right, worked}
+
+pub worked-hold : all right worked ≡ true
+unfolding _and_ _or_ _implies_ any all keep latest every lowest first last range isKnown isBegin isRead isWrite isCall namesRegister asksCommit isCommit isAbort isEnd by has begins ended lastOf pendingCall pendingOf latestOn refusal threadFree due fieldsDue eventQuestions columnQuestions refusedAt readable status allows precedes lastWrite ownWrite isOwnRead isStoreRead storeReads ownRight placed before outcome written contents distinct isOrder outcomeKept preceded legalOver realTimeKept fits lowestPlace goOn lowestOf flat markingBytes gapOf placeOf marked others between noWriterBetween valueAtGap lastEvent beginOf broke verdict cause scan put does eventsOf run readsRight after runsRight counts right worked
+worked-hold = refl

@@ -1,0 +1,284 @@
+-- The worked histories: the starred ones of the paper ("Histories to try"), some that catch what those do not, and seven of the source
+-- document 001, as one list with what the definitions must say of each.
+-- Assumes nothing.
+use Prim.Native.Nat.{ℕ}
+use mathlib.Core.Bool.{Bool, true, false}
+use mathlib.Core.List.{List, [], _∷_, _++_, map}
+use mathlib.Core.Option.{Option, none, some}
+use lib.Dec.{eqb, leb}
+use lib.ListN.{length}
+use Rattle.events.specs.Lists.{_and_, all}
+use Rattle.events.specs.declared.event.Event.{Event}
+use Rattle.events.specs.Events.{begins}
+use Rattle.events.specs.Questions.{readable}
+use Rattle.opacity.specs.declared.verdict.Rule.the-variants.{A, B, C, D, E}
+use Rattle.opacity.specs.declared.verdict.Verdict.{Verdict}
+use Rattle.opacity.specs.declared.verdict.Verdict.the-variants.{Accepted, Broken}
+use Rattle.opacity.specs.declared.verdict.Scanned.{Scanned}
+use Rattle.opacity.specs.declared.verdict.Scanned.the-variants.{Opaque, Faulted}
+use Rattle.opacity.specs.Transactions.{storeReads}
+use Rattle.opacity.specs.Justification.{Place, isOrder}
+use Rattle.opacity.specs.Lowest.{place, lowestOf}
+use Rattle.opacity.specs.Marking.{Point, Marking, marked, markingBytes, verdict, verdictNumbers, outcomeNumber}
+use Rattle.opacity.specs.Scan.{scan, scannedNumbers}
+use Rattle.opacity.specs.Serial.{runsRight}
+use Rattle.opacity.specs.Counts.{counts}
+
+-- ---- histories
+
+event : ℕ → ℕ → ℕ → ℕ → Event
+event k t r v = record { kind = k; transaction = t; register = r; value = v }
+
+beginOn : ℕ → ℕ → List Event
+unfolding event
+beginOn thread t = event 16 t thread 0 ∷ []
+
+-- a begin on the thread of its own number
+begin : ℕ → List Event
+unfolding beginOn
+begin t = beginOn t t
+
+-- a read, a write and a commit, each called and answered
+read : ℕ → ℕ → ℕ → List Event
+unfolding event
+read t r v = event 17 t r 0 ∷ event 18 t r v ∷ []
+
+write : ℕ → ℕ → ℕ → List Event
+unfolding event
+write t r v = event 19 t r v ∷ event 20 t 0 0 ∷ []
+
+callCommit : ℕ → List Event
+unfolding event
+callCommit t = event 21 t 0 0 ∷ []
+
+commit : ℕ → List Event
+unfolding event
+commit t = event 21 t 0 0 ∷ event 22 t 0 0 ∷ []
+
+abort : ℕ → List Event
+unfolding event
+abort t = event 23 t 0 0 ∷ []
+
+-- events one part after the other
+then : List (List Event) → List Event
+then [] = []
+then (p ∷ ps) = p ++ then ps
+
+-- H0 with v at event 9
+h0 : ℕ → List Event
+unfolding begin write read commit then
+h0 v = then (begin 0 ∷ write 0 3 7 ∷ begin 1 ∷ read 1 3 0 ∷ commit 0 ∷ read 1 3 v ∷ [])
+
+-- T0 writes r0 := 5 and calls commit, T1 reads 5, and what follows
+pendingPair : List Event → List Event
+unfolding begin write read callCommit then
+pendingPair more = then (begin 0 ∷ write 0 0 5 ∷ callCommit 0 ∷ begin 1 ∷ read 1 0 5 ∷ more ∷ [])
+
+-- T0 writes r0 := 4, then r0 := 5, and commits; T1 begins and reads v
+twice : ℕ → List Event
+unfolding begin write read commit then
+twice v = then (begin 0 ∷ write 0 0 4 ∷ write 0 0 5 ∷ commit 0 ∷ begin 1 ∷ read 1 0 v ∷ [])
+
+-- T0 reads r0 = 0, writes r0 := 5 and commits: a reader that is a writer of the register itself
+readerWrites : List Event
+unfolding begin write read commit then
+readerWrites = then (begin 0 ∷ read 0 0 0 ∷ write 0 0 5 ∷ commit 0 ∷ [])
+
+-- ---- markings
+
+point : ℕ → ℕ → Point
+point i g = record { event = i; gap = g }
+
+marking : List Place → List Point → Marking
+marking J ps = record { places = J; points = ps }
+
+-- T1 aborted, T0 committed; and the other way round
+late : List Place
+late = place 1 false ∷ place 0 true ∷ []
+
+early : List Place
+early = place 0 true ∷ place 1 false ∷ []
+
+-- the points of H0's two reads
+two : List Place → ℕ → ℕ → Marking
+unfolding point marking
+two J a b = marking J (point 5 a ∷ point 9 b ∷ [])
+
+-- ---- what is said of a history: the scan's answer; its lowest marking, and that marking's file; the verdict on a marking; whether an order
+-- run one at a time gives every read its value; the counts of the report
+
+pub data Claim : Type 0 where
+  scanned : Scanned → Claim
+  lowestIs : Marking → Claim
+  fileIs : List ℕ → Claim
+  checked : Marking → Verdict → Claim
+  runs : List Place → Bool → Claim
+  counted : ℕ → ℕ → ℕ → Claim
+
+-- answers as lists of numbers, to compare them
+placeNumbers : List Place → List ℕ
+placeNumbers [] = []
+placeNumbers (p ∷ ps) = p .transaction ∷ outcomeNumber (p .committed) ∷ placeNumbers ps
+
+pointNumbers : List Point → List ℕ
+pointNumbers [] = []
+pointNumbers (p ∷ ps) = p .event ∷ p .gap ∷ pointNumbers ps
+
+markingNumbers : Marking → List ℕ
+unfolding placeNumbers pointNumbers
+markingNumbers m = length (m .places) ∷ placeNumbers (m .places) ++ pointNumbers (m .points)
+
+equal : List ℕ → List ℕ → Bool
+equal [] [] = true
+equal [] (y ∷ ys) = false
+equal (x ∷ xs) [] = false
+equal (x ∷ xs) (y ∷ ys) = eqb x y and equal xs ys
+
+-- the start values: 0 everywhere
+abbrev zeros : ℕ → ℕ
+zeros r = 0
+
+-- what a found order says, and false where none is found
+found : List Event → (Marking → Bool) → Option (List Place) → Bool
+found h test none = false
+found h test (some J) = test (marked h J)
+
+-- a marking's content is readable for a history
+readableFor : List Event → Marking → Bool
+unfolding equal
+readableFor h m =
+    isOrder (begins h) (m .places)
+    and equal (map (λ p. p .event) (m .points)) (storeReads h)
+    and all (λ p. leb (p .gap) (begins h)) (m .points)
+
+holds : List Event → Claim → Bool
+unfolding equal markingNumbers found readableFor
+holds h (scanned a) = equal (scannedNumbers (scan zeros h)) (scannedNumbers a)
+holds h (lowestIs m) = found h (λ n. equal (markingNumbers n) (markingNumbers m)) (lowestOf zeros h)
+holds h (fileIs s) = found h (λ n. equal (markingBytes n) s) (lowestOf zeros h)
+holds h (checked m v) = readableFor h m and equal (verdictNumbers (verdict zeros h m)) (verdictNumbers v)
+holds h (runs J b) = eqb (outcomeNumber (runsRight zeros h J)) (outcomeNumber b)
+holds h (counted e t r) = equal (counts h .events ∷ counts h .transactions ∷ counts h .reads ∷ []) (e ∷ t ∷ r ∷ [])
+
+pub record Case : Type 0 where
+  pub history : List Event
+  pub claim : Claim
+
+says : List Event → Claim → Case
+says h c = record { history = h; claim = c }
+
+-- the history is readable, and what is said of it holds
+unfoldable pub right : Case → Bool
+unfolding holds
+right c = readable (c .history) and holds (c .history) (c .claim)
+
+-- ---- the list
+
+-- the starred histories of the paper, in its order
+starred : List Case
+unfolding says h0 two point marking late early begin beginOn read write callCommit commit abort then pendingPair
+starred =
+    -- head alone
+    says [] (scanned Opaque)
+    ∷ says [] (fileIs (4 ∷ 0 ∷ 2 ∷ 0 ∷ 1 ∷ 0 ∷ []))
+    ∷ says [] (checked (marking [] []) Accepted)
+    -- H0: its marking is lowest; event 9 at gap 1, and at gap 2
+    ∷ says (h0 0) (scanned Opaque)
+    ∷ says (h0 0) (counted 10 2 2)
+    ∷ says (h0 0) (lowestIs (two late 0 0))
+    ∷ says (h0 0)
+    (fileIs
+    (4 ∷ 0 ∷ 2 ∷ 0 ∷ 1 ∷ 0
+    ∷ 6 ∷ 0 ∷ 32 ∷ 0 ∷ 1 ∷ 0 ∷ 0 ∷ 0 ∷ 6 ∷ 0 ∷ 32 ∷ 0 ∷ 0 ∷ 0 ∷ 1 ∷ 0
+    ∷ 8 ∷ 0 ∷ 33 ∷ 0 ∷ 5 ∷ 0 ∷ 0 ∷ 0 ∷ 0 ∷ 0 ∷ 8 ∷ 0 ∷ 33 ∷ 0 ∷ 9 ∷ 0 ∷ 0 ∷ 0 ∷ 0 ∷ 0 ∷ []))
+    ∷ says (h0 0) (checked (two late 0 0) Accepted)
+    ∷ says (h0 0) (checked (two late 0 1) Accepted)
+    ∷ says (h0 0) (checked (two late 0 2) (Broken D 9 1))
+    -- H7: T0 then T1 with both gaps 1, and with event 5 at gap 0
+    ∷ says (h0 7) (scanned (Faulted 9 1))
+    ∷ says (h0 7) (checked (two early 1 1) (Broken E 5 1))
+    ∷ says (h0 7) (checked (two early 0 1) (Broken D 5 1))
+    -- each of two reads what the other writes; both commit
+    ∷ says (then (begin 0 ∷ begin 1 ∷ read 0 0 0 ∷ read 1 1 0 ∷ write 0 1 1 ∷ write 1 0 1 ∷ commit 1 ∷ commit 0 ∷ [])) (scanned (Faulted 13 2))
+    -- T1 reads T0's pending write; T0 is then aborted
+    ∷ says (pendingPair []) (scanned Opaque)
+    ∷ says (pendingPair (abort 0)) (scanned (Faulted 7 3))
+    -- T1 reads it before the commit is called
+    ∷ says (then (begin 0 ∷ write 0 0 5 ∷ begin 1 ∷ read 1 0 5 ∷ commit 0 ∷ [])) (scanned (Faulted 5 1))
+    -- T0 commits, then T1 begins: T1 is placed first
+    ∷ says (then (begin 0 ∷ write 0 0 1 ∷ commit 0 ∷ begin 1 ∷ read 1 0 0 ∷ [])) (checked (marking late (point 7 0 ∷ [])) (Broken B 5 1))
+    -- an own read that is wrong
+    ∷ says (then (begin 0 ∷ write 0 0 5 ∷ read 0 0 0 ∷ [])) (checked (marking (place 0 false ∷ []) []) (Broken C 4 0))
+    ∷ []
+
+-- what the starred histories do not catch
+further : List Case
+unfolding says h0 two point marking late early begin beginOn read write callCommit commit abort then pendingPair twice readerWrites
+further =
+    -- of two writes of a committed transaction the last one counts
+    says (twice 5) (scanned Opaque)
+    ∷ says (twice 4) (scanned (Faulted 9 1))
+    ∷ says (twice 5) (checked (marking early (point 9 1 ∷ [])) Accepted)
+    ∷ says (twice 4) (checked (marking early (point 9 1 ∷ [])) (Broken E 9 1))
+    -- an own read has no point, and a store read of another register has one
+    ∷ says (then (begin 0 ∷ write 0 0 5 ∷ read 0 0 5 ∷ read 0 1 0 ∷ [])) (lowestIs (marking (place 0 false ∷ []) (point 6 0 ∷ [])))
+    ∷ says (then (begin 0 ∷ write 0 0 5 ∷ read 0 0 5 ∷ read 0 1 0 ∷ [])) (counted 7 1 1)
+    -- a pending commit may go either way, and aborted is lower
+    ∷ says (then (begin 0 ∷ write 0 0 5 ∷ callCommit 0 ∷ begin 1 ∷ read 1 1 0 ∷ []))
+    (lowestIs (marking (place 0 false ∷ place 1 false ∷ []) (point 6 1 ∷ [])))
+    ∷ says (then (begin 0 ∷ write 0 0 5 ∷ callCommit 0 ∷ begin 1 ∷ read 1 1 0 ∷ [])) (checked (marking early (point 6 1 ∷ [])) Accepted)
+    ∷ says (pendingPair []) (lowestIs (marking early (point 6 1 ∷ [])))
+    -- a reader that is itself a committed writer, with its point before it and behind it: it is not one of the writers of D and E
+    ∷ says readerWrites (checked (marking (place 0 true ∷ []) (point 2 0 ∷ [])) Accepted)
+    ∷ says readerWrites (checked (marking (place 0 true ∷ []) (point 2 1 ∷ [])) Accepted)
+    -- a recorded outcome is kept, and A names the transaction's last event
+    ∷ says readerWrites (checked (marking (place 0 false ∷ []) (point 2 0 ∷ [])) (Broken A 6 0))
+    -- A comes before D; of two broken reads the lower is named
+    ∷ says (h0 0) (checked (two (place 1 true ∷ place 0 true ∷ []) 0 2) (Broken A 9 1))
+    ∷ says (h0 0) (checked (two late 2 2) (Broken D 5 1))
+    -- an order run one at a time: an aborted reader's reads count; an aborted writer's value is gone; the last of two writes stays; own
+    -- writes are read
+    ∷ says (h0 0) (runs late true)
+    ∷ says (h0 0) (runs early false)
+    ∷ says (h0 7) (runs early false)
+    ∷ says (then (begin 0 ∷ write 0 0 5 ∷ abort 0 ∷ begin 1 ∷ read 1 0 0 ∷ [])) (runs (place 0 false ∷ place 1 false ∷ []) true)
+    ∷ says (twice 5) (runs early true)
+    ∷ says (then (begin 0 ∷ write 0 0 4 ∷ write 0 0 5 ∷ read 0 0 5 ∷ [])) (runs (place 0 false ∷ []) true)
+    ∷ says (then (begin 0 ∷ write 0 0 5 ∷ read 0 0 0 ∷ [])) (runs (place 0 false ∷ []) false)
+    ∷ []
+
+-- worked examples of document 001, named by their place there; x is register 0. Transactions are numbered by their begins, on the threads
+-- that the document gives them.
+printed : List Case
+unfolding says beginOn read write callCommit commit abort then
+printed =
+    -- Fig. 2.19, h2
+    says (then (beginOn 1 0 ∷ write 0 0 2 ∷ commit 0 ∷ beginOn 1 1 ∷ beginOn 2 2 ∷ write 2 0 1 ∷ read 1 0 1 ∷ [])) (scanned (Faulted 10 1))
+    -- Fig. 2.19, h3
+    ∷ says
+    (then (beginOn 1 0 ∷ write 0 0 2 ∷ commit 0 ∷ beginOn 1 1 ∷ write 1 0 1 ∷ commit 1 ∷ beginOn 2 2 ∷ read 2 0 2 ∷ commit 2 ∷ []))
+    (scanned (Faulted 12 1))
+    -- Fig. 4.13, h1
+    ∷ says (then (beginOn 1 0 ∷ beginOn 2 1 ∷ write 0 0 1 ∷ callCommit 0 ∷ read 1 0 1 ∷ [])) (scanned Opaque)
+    -- Fig. 3.12
+    ∷ says
+    (then (beginOn 1 0 ∷ write 0 0 1 ∷ beginOn 2 1 ∷ write 1 0 1 ∷ commit 1 ∷ commit 0 ∷ beginOn 1 2 ∷ read 2 0 1 ∷ abort 2 ∷ []))
+    (scanned Opaque)
+    -- section 3.3, its three
+    ∷ says
+    (then
+    (beginOn 1 0 ∷ beginOn 3 1 ∷ beginOn 2 2 ∷ write 1 0 1 ∷ commit 1 ∷ read 2 0 1 ∷ write 0 0 2 ∷ commit 0 ∷ write 2 0 3 ∷ commit 2 ∷ []))
+    (scanned Opaque)
+    ∷ says
+    (then
+    (beginOn 1 0 ∷ beginOn 3 1 ∷ beginOn 2 2 ∷ read 1 0 0 ∷ write 1 0 1 ∷ commit 1 ∷ read 2 0 1 ∷ read 0 0 1 ∷ write 0 0 2 ∷ commit 0
+    ∷ write 2 0 3 ∷ commit 2 ∷ []))
+    (scanned (Faulted 20 2))
+    ∷ says
+    (then (beginOn 1 0 ∷ beginOn 3 1 ∷ beginOn 2 2 ∷ write 1 0 1 ∷ write 0 0 2 ∷ commit 0 ∷ commit 1 ∷ read 2 0 1 ∷ commit 2 ∷ []))
+    (scanned Opaque)
+    ∷ []
+
+unfoldable pub worked : List Case
+unfolding starred further printed
+worked = starred ++ (further ++ printed)

@@ -1,0 +1,231 @@
+/*
+ * Sendoshi: opacity of recorded transactional histories.
+ *
+ * Link with libexports.a (`rt staticlib exports`; x86-64 Linux). C99 and C++.
+ *
+ * A history is a list of events, numbered from 0, in four columns with one entry an event:
+ *
+ *   kind  event            transaction   register              value
+ *   16    begin            its number    its thread            0
+ *   17    read called      yes           register              0
+ *   18    read returned    yes           that of its call      value read
+ *   19    write called     yes           register              value written
+ *   20    write returned   yes           0                     0
+ *   21    commit called    yes           0                     0
+ *   22    committed        yes           0                     0
+ *   23    aborted          yes           0                     0
+ *
+ * Buffers are lent as a pointer and a length: the number of entries of a column, the number of bytes of a file or an output.
+ *
+ * What a caller must see to, since no function can test it: each pointer is not NULL, is aligned for its type and is good for its
+ * length (with length 0 nothing behind it is touched); a buffer that is written overlaps no other buffer of the same call. There
+ * is no other condition. Any numbers and any contents may be passed; what does not fit is refused. Every call returns, none
+ * allocates memory, and none keeps a pointer or has a state: calls on different buffers may run at the same time.
+ *
+ * What a caller can rely on, for every call:
+ *   - a buffer passed as a pointer to const keeps its contents;
+ *   - a call that refuses, or finds nothing, leaves every buffer as it was;
+ *   - a call that is done changes a written buffer only up to what it returns, the event count or the length;
+ *   - neither what stands in columns past the count, nor what an output held before, makes a difference to an answer.
+ */
+#ifndef SENDOSHI_H
+#define SENDOSHI_H
+
+#include <stddef.h>
+#include <stdint.h>
+
+#ifdef __cplusplus
+extern "C" {
+#endif
+
+/* Limits of what is read and judged. */
+enum {
+    SENDOSHI_MAX_FILE = 32768,      /* bytes of a history file or a marking file */
+    SENDOSHI_MAX_EVENTS = 2048,     /* events of a history */
+    SENDOSHI_MAX_TRANSACTIONS = 64, /* transactions of a history */
+    SENDOSHI_MAX_JUDGED = 10        /* transactions of what sendoshi_find and sendoshi_scan judge */
+};
+
+/*
+ * Sizes of outputs that are never too short: for sendoshi_write of `count` events, and for sendoshi_find on a prefix of `prefix`
+ * events. (sendoshi_find needs exactly 6 + 8 * transactions + 10 * store reads bytes, both counted in the prefix.)
+ */
+#define SENDOSHI_FILE_SIZE(count) (6 + 12 * (size_t)(count))
+#define SENDOSHI_MARKING_SIZE(prefix) (6 + 8 * (size_t)SENDOSHI_MAX_JUDGED + 10 * (size_t)(prefix))
+
+/*
+ * Each call returns code * 2^32 + place.
+ *
+ *   code        meaning                         place
+ *   0           done                            the event count (read), the length (write, find), the number counted
+ *                                               (transactions, store_reads), or 0 (scan: opaque; check: accepted)
+ *   1 to 99     refused by this question        the byte or the event, see below
+ *   100         find: there is no               0
+ *               justification
+ *   101 to 104  scan: not opaque, cause 1 to 4  the last event of the first prefix without a justification
+ *   201 to 205  check: rule A to E is broken    event * 65536 + transaction
+ *
+ * Questions about files have a byte as their place: where the record begins, 0 for question 1 and for an empty file, the file's
+ * length for 14, for 29 and for 28 at the end. All others have an event: its number, or the count for 15, 17, 18, 31 and 32. (A
+ * count of 2^32 or more is refused with 17 like any other that the columns do not hold; its place then does not tell it.)
+ */
+enum {
+    SENDOSHI_DONE = 0,
+
+    /* A history file: byte. */
+    SENDOSHI_FILE_TOO_LONG = 1, /* more than 32768 bytes; also for a marking */
+    SENDOSHI_RECORD_CUT = 2,    /* a record is cut off, or its length is below 2; also for a marking */
+    SENDOSHI_HISTORY_HEAD = 3,  /* no head of a history of edition 1 */
+
+    /* An event of a file (byte) or of columns (event). */
+    SENDOSHI_EVENT_KIND = 4,              /* the kind is not 16 to 23 */
+    SENDOSHI_EVENT_SIZE = 5,              /* the record has not the size of its kind; files only */
+    SENDOSHI_TOO_MANY_EVENTS = 6,         /* more than 2048 */
+    SENDOSHI_TOO_MANY_TRANSACTIONS = 7,   /* more than 64 */
+    SENDOSHI_TRANSACTION_NUMBER = 8,      /* a begin without the next free number */
+    SENDOSHI_THREAD_NUMBER = 9,           /* the thread is not below 16 */
+    SENDOSHI_THREAD_BUSY = 10,            /* the thread's last transaction has not ended */
+    SENDOSHI_TRANSACTION_NOT_RUNNING = 11, /* the transaction has not begun, or has ended */
+    SENDOSHI_REGISTER_NUMBER = 12,        /* the register is not below 32 */
+    SENDOSHI_EVENT_NOT_DUE = 13,          /* the event does not fit the pending call */
+
+    /* Lent buffers and numbers. */
+    SENDOSHI_COLUMN_TOO_SHORT = 14, /* read: a column is too short for the events of the file */
+    SENDOSHI_OUTPUT_TOO_SHORT = 15, /* write: the output is too short */
+    SENDOSHI_STRAY_FIELD = 16,      /* columns: a field that the kind lacks is not 0, or an 18 has not its call's register */
+    SENDOSHI_COUNT_TOO_LARGE = 17,  /* a column is shorter than the count */
+    SENDOSHI_PREFIX_TOO_LONG = 18,  /* find: the prefix is longer than the count */
+
+    /* A marking file: byte. */
+    SENDOSHI_MARKING_HEAD = 21,        /* no head of a marking of edition 1 */
+    SENDOSHI_MARKING_KIND = 22,        /* the kind is not 32 or 33 */
+    SENDOSHI_MARKING_SIZE_WRONG = 23,  /* the record has not the size of its kind */
+    SENDOSHI_PLACE_NOT_OPEN = 24,      /* a place after a read point, of an unknown transaction, or of one that has a place */
+    SENDOSHI_OUTCOME_NUMBER = 25,      /* the outcome is not 0 or 1 */
+    SENDOSHI_POINT_NOT_DUE = 26,       /* the point's event does not rise, or is no store read */
+    SENDOSHI_GAP_TOO_LARGE = 27,       /* the gap exceeds the number of transactions */
+    SENDOSHI_TRANSACTION_MISSING = 28, /* a transaction has no place */
+    SENDOSHI_POINT_MISSING = 29,       /* a store read has no point */
+
+    /* What is judged. */
+    SENDOSHI_TOO_MANY_TO_JUDGE = 31,  /* find, scan: more than 10 transactions */
+    SENDOSHI_MARKING_TOO_SHORT = 32,  /* find: the output is too short */
+
+    SENDOSHI_NONE = 100,
+
+    SENDOSHI_FAULT_READ = 101,      /* cause 1: a read returned */
+    SENDOSHI_FAULT_COMMITTED = 102, /* cause 2: a transaction committed */
+    SENDOSHI_FAULT_ABORTED = 103,   /* cause 3: a transaction aborted */
+    SENDOSHI_FAULT_OTHER = 104,     /* cause 4: an event of another kind */
+
+    SENDOSHI_RULE_A = 201, /* an outcome that the history does not allow; the lowest such transaction, its last event */
+    SENDOSHI_RULE_B = 202, /* real time is not kept; the lowest transaction placed too early, its begin */
+    SENDOSHI_RULE_C = 203, /* an own read that is wrong; the lowest such event */
+    SENDOSHI_RULE_D = 204, /* a writer between read point and reader; the lowest such event */
+    SENDOSHI_RULE_E = 205  /* another value than that before the read point; the lowest such event */
+};
+
+/* The code of an answer. */
+static inline uint32_t sendoshi_code(uint64_t answer)
+{
+    return (uint32_t)(answer >> 32);
+}
+
+/* The place of an answer. */
+static inline uint32_t sendoshi_place(uint64_t answer)
+{
+    return (uint32_t)(answer & 0xffffffffu);
+}
+
+/* The event of a broken rule's place. */
+static inline uint32_t sendoshi_rule_event(uint64_t answer)
+{
+    return sendoshi_place(answer) >> 16;
+}
+
+/* The transaction of a broken rule's place. */
+static inline uint32_t sendoshi_rule_transaction(uint64_t answer)
+{
+    return sendoshi_place(answer) & 0xffffu;
+}
+
+/*
+ * Reads a history file into columns. Done: the event count; that many entries of each column are set.
+ * Refuses: 1, 2, 3; 2, 4 to 13 for each record in turn; 14.
+ */
+uint64_t sendoshi_read(const uint8_t *file, size_t file_length,
+                       uint16_t *kinds, size_t kinds_length,
+                       uint16_t *transactions, size_t transactions_length,
+                       uint16_t *registers, size_t registers_length,
+                       uint32_t *values, size_t values_length);
+
+/*
+ * Writes the first `count` events as a history file, from the output's first byte. Done: the file's length.
+ * Refuses: 17; 4, 6 to 13 and 16 for each event in turn; 15.
+ */
+uint64_t sendoshi_write(const uint16_t *kinds, size_t kinds_length,
+                        const uint16_t *transactions, size_t transactions_length,
+                        const uint16_t *registers, size_t registers_length,
+                        const uint32_t *values, size_t values_length,
+                        size_t count,
+                        uint8_t *output, size_t output_length);
+
+/*
+ * Writes the lowest marking that justifies the first `prefix` of the first `count` events, from the output's first byte. Done: its
+ * length. SENDOSHI_NONE: no order and outcomes justify them. sendoshi_check, given these bytes and `prefix` as its count, accepts.
+ * Refuses: 17; 18; 4, 6 to 13 and 16 for each of the `count` events in turn; 31; 32.
+ */
+uint64_t sendoshi_find(const uint16_t *kinds, size_t kinds_length,
+                       const uint16_t *transactions, size_t transactions_length,
+                       const uint16_t *registers, size_t registers_length,
+                       const uint32_t *values, size_t values_length,
+                       size_t count, size_t prefix,
+                       uint8_t *output, size_t output_length);
+
+/*
+ * Judges the prefixes of the first `count` events by rising length. Done: opaque, every one has a justification. Else the last event
+ * of the first that has none, and the cause.
+ * Refuses: 17; 4, 6 to 13 and 16 for each event in turn; 31.
+ */
+uint64_t sendoshi_scan(const uint16_t *kinds, size_t kinds_length,
+                       const uint16_t *transactions, size_t transactions_length,
+                       const uint16_t *registers, size_t registers_length,
+                       const uint32_t *values, size_t values_length,
+                       size_t count);
+
+/*
+ * Checks a marking file of the first `count` events. Done: accepted. Else the first broken rule, from A to E.
+ * Refuses: 17; 4, 6 to 13 and 16 for each event in turn; then for the file 1, 2, 21; 2, 22 to 28 for each record in turn; 28; 29.
+ */
+uint64_t sendoshi_check(const uint16_t *kinds, size_t kinds_length,
+                        const uint16_t *transactions, size_t transactions_length,
+                        const uint16_t *registers, size_t registers_length,
+                        const uint32_t *values, size_t values_length,
+                        size_t count,
+                        const uint8_t *file, size_t file_length);
+
+/*
+ * Counts the transactions begun in the first `count` events.
+ * Refuses: 17; 4, 6 to 13 and 16 for each event in turn.
+ */
+uint64_t sendoshi_transactions(const uint16_t *kinds, size_t kinds_length,
+                               const uint16_t *transactions, size_t transactions_length,
+                               const uint16_t *registers, size_t registers_length,
+                               const uint32_t *values, size_t values_length,
+                               size_t count);
+
+/*
+ * Counts the store reads in the first `count` events: the returned reads of a register that their transaction had not written.
+ * Refuses: 17; 4, 6 to 13 and 16 for each event in turn.
+ */
+uint64_t sendoshi_store_reads(const uint16_t *kinds, size_t kinds_length,
+                              const uint16_t *transactions, size_t transactions_length,
+                              const uint16_t *registers, size_t registers_length,
+                              const uint32_t *values, size_t values_length,
+                              size_t count);
+
+#ifdef __cplusplus
+}
+#endif
+
+#endif

@@ -1,0 +1,22 @@
+//! Reading, writing and checking.
+
+use crate::inputs::{serial, simulated};
+use crate::sides::Capture;
+use crate::table;
+use reference::log::Log;
+
+pub fn print() {
+    table::head("Files and markings", "job");
+    let full = Capture::new(&simulated(10, 2_048, 1));
+    let bytes = full.file.len();
+    table::rate_row(&format!("read a history of 2,048 events, {bytes} bytes"), bytes, &full.read());
+    table::rate_row(&format!("write a history of 2,048 events, {bytes} bytes"), bytes, &full.write());
+    let small = Capture::new(&Log::h0().events);
+    table::row("read the paper's H0, 88 bytes", &small.read());
+    table::row("write the paper's H0, 88 bytes", &small.write());
+    let (events, marking) = serial(64, 2_048);
+    let reads = (marking.len() - 6 - 8 * 64) / 10;
+    let what = format!("check a marking of 64 transactions and {reads} read points, {} bytes", marking.len());
+    table::row(&what, &Capture::new(&events).check(&marking));
+    table::end();
+}

@@ -1,0 +1,60 @@
+//! What is measured.
+
+use outside::random::Random;
+use outside::simulate::{simulate, Faults, Plan};
+use reference::event::*;
+use reference::justification::Outcome;
+use reference::log::Log;
+use reference::reads::transactions;
+use reference::worked::marking;
+
+/// A log of a simulated transactional memory, with exactly so many transactions and events. It is opaque.
+pub fn simulated(begins: usize, events: usize, seed: u64) -> Vec<Event> {
+    let length = (events / begins / 2).max(2);
+    let plan = Plan { transactions: begins, threads: begins.min(4), registers: 16, events, length, faults: Faults::default() };
+    let mut logs = (seed * 1_000_000..).map(|seed| simulate(&mut Random::new(seed), plan));
+    logs.find(|log| log.len() == events && transactions(log) == begins).expect("some seed gives such a log")
+}
+
+/// The same log with another value at its last returned read of a register that the transaction had not written: nothing
+/// justifies it.
+pub fn late_fault(mut log: Vec<Event>) -> Vec<Event> {
+    let last = reference::reads::store_reads(&log).last().expect("a log has store reads");
+    log[last].value = u32::MAX;
+    log
+}
+
+/// So many transactions one after the other, all committed, with so many events or one less; and the marking in that order. Each
+/// reads what the one before it wrote to register 0, and registers that nobody wrote, for which every place is looked through.
+pub fn serial(begins: usize, events: usize) -> (Vec<Event>, Vec<u8>) {
+    let reads = (events - 5 * begins) / 2; // a begin, a write and a commit take five events
+    let mut log = Log::new();
+    let mut points = Vec::new();
+    for t in 0..begins {
+        let transaction = t as u16;
+        log = log.begin(0);
+        for read in 0..reads * (t + 1) / begins - reads * t / begins {
+            let register = read as u16 % 32;
+            let value = if register == 0 { t as u32 } else { 0 };
+            log = log.read(transaction, register, value);
+            points.push((log.events.len() as u32 - 1, transaction));
+        }
+        log = log.write(transaction, 0, t as u32 + 1).commit(transaction);
+    }
+    let places: Vec<(u16, Outcome)> = (0..begins as u16).map(|t| (t, Outcome::Committed)).collect();
+    (log.events, marking(&places, &points))
+}
+
+/// So many transactions that have written one register and called commit, and a read of a value that none of them wrote.
+pub fn pending_writers(writers: u16) -> Vec<Event> {
+    let log = (0..writers).fold(Log::new(), |log, t| log.begin(t).write(t, 0, u32::from(t) + 1).commit_called(t));
+    log.begin(writers).read(writers, 0, 99).events
+}
+
+/// So many transactions at the same time, each of which read a register before the next one wrote it, all committed: each would have
+/// to come before the next, and the last before the first.
+pub fn cycle(length: u16) -> Vec<Event> {
+    let log = (0..length).fold(Log::new(), |log, t| log.begin(t).read(t, t, 0));
+    let log = (0..length).fold(log, |log, t| log.write(t, (t + 1) % length, 1));
+    (0..length).fold(log, |log, t| log.commit(t)).events
+}

@@ -1,0 +1,105 @@
+//! One capture with its buffers, and each job done by the library and by plain Rust.
+
+use crate::measure::{measure, Measured};
+use plain::{Scanned, Verdict};
+use reference::event::{Columns as Held, Event};
+use reference::history_file;
+use sendoshi::{calls, Columns, ColumnsMut};
+use std::hint::black_box;
+
+/// A capture, in columns that the reader may fill.
+pub struct Capture {
+    pub file: Vec<u8>,
+    held: Held,
+    count: usize,
+    output: Vec<u8>,
+}
+
+impl Capture {
+    pub fn new(events: &[Event]) -> Capture {
+        Capture { file: history_file::write(events), held: Held::of(events), count: events.len(), output: vec![0; 32_768] }
+    }
+
+    fn library(&self) -> Columns<'_> {
+        let Held { kinds, transactions, registers, values } = &self.held;
+        Columns { kinds, transactions, registers, values }
+    }
+
+    fn plain(&self) -> plain::Columns<'_> {
+        let Held { kinds, transactions, registers, values } = &self.held;
+        plain::Columns { kinds, transactions, registers, values }
+    }
+
+    pub fn read(&self) -> Measured {
+        let mut held = self.held.clone();
+        let mut other = self.held.clone();
+        let file = &self.file;
+        let library = |held: &mut Held| {
+            let Held { kinds, transactions, registers, values } = held;
+            let answer = calls::read(black_box(file), ColumnsMut { kinds, transactions, registers, values });
+            (answer.code == 0).then_some(answer.place as usize)
+        };
+        let plain = |held: &mut Held| {
+            let Held { kinds, transactions, registers, values } = held;
+            plain::read(black_box(file), kinds, transactions, registers, values).ok()
+        };
+        assert_eq!(library(&mut held), Some(self.count));
+        assert_eq!(plain(&mut other), Some(self.count));
+        assert_eq!(held, other);
+        measure(|| library(&mut held), || plain(&mut other))
+    }
+
+    pub fn write(&self) -> Measured {
+        let mut output = self.output.clone();
+        let mut other = self.output.clone();
+        let library = |output: &mut [u8]| calls::write(black_box(self.library()), self.count, output).place as usize;
+        let plain = |output: &mut [u8]| plain::write(black_box(self.plain()), self.count, output).ok();
+        assert_eq!(Some(library(&mut output)), plain(&mut other));
+        assert_eq!(output, other);
+        measure(|| library(&mut output), || plain(&mut other))
+    }
+
+    pub fn scan(&self) -> Measured {
+        let library = || calls::scan(black_box(self.library()), self.count);
+        let plain = || plain::scan(black_box(self.plain()), self.count);
+        let expected = match plain().expect("a capture that is judged") {
+            Scanned::Opaque => (0, 0),
+            Scanned::Faulted(event, cause) => (100 + u32::from(cause), event as u32),
+        };
+        assert_eq!((library().code, library().place), expected);
+        measure(library, plain)
+    }
+
+    /// The finder on the whole capture.
+    pub fn find(&self) -> Measured {
+        let mut output = self.output.clone();
+        let mut other = self.output.clone();
+        let library = |output: &mut [u8]| {
+            let answer = calls::find(black_box(self.library()), self.count, self.count, output);
+            (answer.code == 0).then_some(answer.place as usize)
+        };
+        let plain = |output: &mut [u8]| plain::find(black_box(self.plain()), self.count, self.count, output).ok().flatten();
+        assert_eq!(library(&mut output), plain(&mut other));
+        assert_eq!(output, other);
+        measure(|| library(&mut output), || plain(&mut other))
+    }
+
+    /// The checker on a marking that is accepted.
+    pub fn check(&self, marking: &[u8]) -> Measured {
+        let library = || calls::check(black_box(self.library()), self.count, black_box(marking));
+        let plain = || plain::check(black_box(self.plain()), self.count, black_box(marking));
+        assert_eq!(library().code, 0);
+        assert_eq!(plain(), Ok(Verdict::Accepted));
+        measure(library, plain)
+    }
+}
+
+/// The scan of several captures, for the mean of one.
+pub fn scan_all(captures: &[Capture]) -> Measured {
+    let library = || captures.iter().map(|c| calls::scan(black_box(c.library()), c.count).code).max();
+    let plain = || captures.iter().filter(|c| plain::scan(black_box(c.plain()), c.count) != Ok(Scanned::Opaque)).count();
+    assert_eq!((library(), plain()), (Some(0), 0), "all captures are opaque");
+    let Measured { library, plain, ratio, samples } = measure(library, plain);
+    let each = captures.len() as f64;
+    Measured { library: library / each, plain: plain / each, ratio, samples }
+}

@@ -1,0 +1,43 @@
+//! Markdown tables of what was measured.
+
+use crate::measure::Measured;
+
+/// Prints the head of a table whose first column says what was measured.
+pub fn head(title: &str, first: &str) {
+    println!("## {title}\n");
+    println!("| {first} | library | plain Rust | library / plain | samples |");
+    println!("|---|---:|---:|---:|---:|");
+}
+
+/// Prints a row of times.
+pub fn row(what: &str, measured: &Measured) {
+    let Measured { library, plain, ratio, samples } = measured;
+    println!("| {what} | {} | {} | {ratio:.2} | {samples} |", time(*library), time(*plain));
+}
+
+/// Prints a row of rates, for so many bytes a call.
+pub fn rate_row(what: &str, bytes: usize, measured: &Measured) {
+    let rate = |seconds: f64| format!("{:.0} MB/s", bytes as f64 / seconds / 1e6);
+    let Measured { library, plain, ratio, samples } = measured;
+    println!("| {what} | {} | {} | {ratio:.2} | {samples} |", rate(*library), rate(*plain));
+}
+
+/// Ends a table.
+pub fn end() {
+    println!();
+}
+
+/// A time with three figures.
+fn time(seconds: f64) -> String {
+    let units = [(1.0, "s"), (1e-3, "ms"), (1e-6, "µs"), (1e-9, "ns")];
+    let (unit, name) = units.into_iter().find(|(unit, _)| seconds >= *unit).unwrap_or((1e-9, "ns"));
+    let value = seconds / unit;
+    let digits = if value >= 100.0 {
+        0
+    } else if value >= 10.0 {
+        1
+    } else {
+        2
+    };
+    format!("{value:.digits$} {name}")
+}

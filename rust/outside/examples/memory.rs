@@ -1,0 +1,185 @@
+//! Every call on buffers that are allocated for it alone, each exactly as long as it says, with nothing in those that are written.
+//! Run under valgrind (`valgrind.sh`) it shows that no call reaches beyond a buffer, or lets what an output held before decide
+//! anything. The argument is the number of rounds.
+
+use outside::limits;
+use outside::marks::random_marking;
+use outside::random::Random;
+use outside::shapes::{is_judged_quickly, marking_size};
+use outside::walk::{walk, Shape};
+use outside::{coverage, damage};
+use reference::entries::{self, Answer};
+use reference::event::{Columns, Event};
+use reference::{history_file, worked};
+use sendoshi::{calls, ffi};
+use std::mem::MaybeUninit;
+
+fn main() {
+    let rounds: u64 = std::env::args().nth(1).and_then(|text| text.parse().ok()).unwrap_or(500);
+    for seed in 0..rounds {
+        round(&mut Random::new(seed));
+    }
+    for events in limits::histories() {
+        all_calls(&events, &history_file::write(&events), &[4, 0, 2, 0, 1, 0]);
+    }
+    let h0 = reference::log::Log::h0().events;
+    all_calls(&h0, &history_file::write(&h0), &worked::h0_marking());
+    println!("{} entries, {rounds} rounds and every limit", coverage::ENTRIES.len());
+}
+
+fn round(random: &mut Random) {
+    let shape = Shape::small(random);
+    let events = walk(random, shape);
+    let marking = random_marking(random, &events).to_bytes();
+    all_calls(&events, &history_file::write(&events), &marking);
+    let file = damage::file(random, history_file::write(&events));
+    let marking = damage::file(random, marking);
+    all_calls(&damage::events(random, events), &file, &marking);
+}
+
+fn all_calls(events: &[Event], file: &[u8], marking: &[u8]) {
+    let columns = Columns::of(events);
+    let count = events.len();
+    read(file, count);
+    output_call(ffi_write, |output| entries::write(&columns, count, output), &columns, count, history_file::write(events).len());
+    let exact = Exact::new(&columns);
+    let marking: Box<[u8]> = marking.into();
+    assert_eq!(plain(calls::check(exact.view(), count, &marking)), entries::check(&columns, count, &marking));
+    assert_eq!(plain(calls::transactions(exact.view(), count)), entries::transactions(&columns, count));
+    assert_eq!(plain(calls::store_reads(exact.view(), count)), entries::store_reads(&columns, count));
+    if is_judged_quickly(events) {
+        assert_eq!(plain(calls::scan(exact.view(), count)), entries::scan(&columns, count));
+        output_call(ffi_find, |output| entries::find(&columns, count, count, output), &columns, count, marking_size(events));
+    }
+}
+
+/// Columns in boxes of their own.
+struct Exact {
+    kinds: Box<[u16]>,
+    transactions: Box<[u16]>,
+    registers: Box<[u16]>,
+    values: Box<[u32]>,
+}
+
+impl Exact {
+    fn new(columns: &Columns) -> Exact {
+        Exact {
+            kinds: columns.kinds.as_slice().into(),
+            transactions: columns.transactions.as_slice().into(),
+            registers: columns.registers.as_slice().into(),
+            values: columns.values.as_slice().into(),
+        }
+    }
+
+    fn view(&self) -> sendoshi::Columns<'_> {
+        sendoshi::Columns {
+            kinds: &self.kinds,
+            transactions: &self.transactions,
+            registers: &self.registers,
+            values: &self.values,
+        }
+    }
+}
+
+fn plain(answer: sendoshi::Answer) -> Answer {
+    Answer { code: answer.code, place: answer.place }
+}
+
+/// The entries that a call has set.
+fn set<T: Copy>(buffer: &[MaybeUninit<T>], length: usize) -> Vec<T> {
+    // SAFETY: the call said that it set so many entries; valgrind finds those that it did not.
+    buffer[..length].iter().map(|entry| unsafe { entry.assume_init() }).collect()
+}
+
+fn read(file: &[u8], count: usize) {
+    let file: Box<[u8]> = file.into();
+    let mut kinds = Box::<[u16]>::new_uninit_slice(count);
+    let mut transactions = Box::<[u16]>::new_uninit_slice(count);
+    let mut registers = Box::<[u16]>::new_uninit_slice(count);
+    let mut values = Box::<[u32]>::new_uninit_slice(count);
+    // SAFETY: pointers and lengths are those of the boxes.
+    let got = unsafe {
+        ffi::sendoshi_read(
+            file.as_ptr(),
+            file.len(),
+            kinds.as_mut_ptr().cast(),
+            count,
+            transactions.as_mut_ptr().cast(),
+            count,
+            registers.as_mut_ptr().cast(),
+            count,
+            values.as_mut_ptr().cast(),
+            count,
+        )
+    };
+    let (small, wide) = (vec![0; count], vec![0; count]);
+    let mut columns = Columns { kinds: small.clone(), transactions: small.clone(), registers: small, values: wide };
+    let expected = entries::read(&file, &mut columns);
+    assert_eq!(plain(sendoshi::Answer::of(got)), expected);
+    if expected.code == 0 {
+        let length = expected.place as usize;
+        assert_eq!(set(&kinds, length), columns.kinds[..length]);
+        assert_eq!(set(&transactions, length), columns.transactions[..length]);
+        assert_eq!(set(&registers, length), columns.registers[..length]);
+        assert_eq!(set(&values, length), columns.values[..length]);
+    }
+}
+
+/// A call that fills an output: once with an output that is just long enough, and once with one that is a byte too short.
+fn output_call(
+    call: fn(sendoshi::Columns, usize, &mut [MaybeUninit<u8>]) -> u64,
+    reference: impl Fn(&mut [u8]) -> Answer,
+    columns: &Columns,
+    count: usize,
+    needed: usize,
+) {
+    for length in [needed, needed - 1] {
+        let exact = Exact::new(columns);
+        let mut output = Box::<[u8]>::new_uninit_slice(length);
+        let got = plain(sendoshi::Answer::of(call(exact.view(), count, &mut output)));
+        let mut expected = vec![0; length];
+        assert_eq!(got, reference(&mut expected));
+        if got.code == 0 {
+            assert_eq!(set(&output, got.place as usize), expected[..got.place as usize]);
+        }
+    }
+}
+
+fn ffi_write(c: sendoshi::Columns, count: usize, output: &mut [MaybeUninit<u8>]) -> u64 {
+    // SAFETY: pointers and lengths are those of slices.
+    unsafe {
+        ffi::sendoshi_write(
+            c.kinds.as_ptr(),
+            c.kinds.len(),
+            c.transactions.as_ptr(),
+            c.transactions.len(),
+            c.registers.as_ptr(),
+            c.registers.len(),
+            c.values.as_ptr(),
+            c.values.len(),
+            count,
+            output.as_mut_ptr().cast(),
+            output.len(),
+        )
+    }
+}
+
+fn ffi_find(c: sendoshi::Columns, count: usize, output: &mut [MaybeUninit<u8>]) -> u64 {
+    // SAFETY: pointers and lengths are those of slices.
+    unsafe {
+        ffi::sendoshi_find(
+            c.kinds.as_ptr(),
+            c.kinds.len(),
+            c.transactions.as_ptr(),
+            c.transactions.len(),
+            c.registers.as_ptr(),
+            c.registers.len(),
+            c.values.as_ptr(),
+            c.values.len(),
+            count,
+            count,
+            output.as_mut_ptr().cast(),
+            output.len(),
+        )
+    }
+}

@@ -1,0 +1,81 @@
+//! One call put to the library and to the brute force: the answers must be equal, and so must all buffers afterwards.
+
+use crate::coverage::{Coverage, Entry};
+use crate::lent::{Lent, LentColumns};
+use reference::entries::{self, Answer};
+use reference::event::Columns;
+use sendoshi::calls;
+
+const BYTE: u8 = 0xa5;
+
+fn same(entry: Entry, got: sendoshi::Answer, expected: Answer, coverage: &mut Coverage) -> Answer {
+    let got = Answer { code: got.code, place: got.place };
+    assert_eq!(got, expected, "{entry:?}: the library's answer and the brute force's");
+    coverage.note(entry, got.code);
+    got
+}
+
+/// Reads a file into columns that hold something already, and returns the answer; the columns are then as the reader left them.
+pub fn read(file: &[u8], columns: &mut Columns, coverage: &mut Coverage) -> Answer {
+    let lent_file = Lent::new(file, BYTE);
+    let mut lent = LentColumns::new(columns);
+    let got = calls::read(lent_file.slice(), lent.view_mut());
+    let answer = same(Entry::Read, got, entries::read(file, columns), coverage);
+    assert!(lent_file.holds(file), "read changed its file");
+    assert!(lent.hold(columns), "read left other columns than it should");
+    answer
+}
+
+/// Writes columns to an output that holds something already.
+pub fn write(columns: &Columns, count: usize, output: &mut [u8], coverage: &mut Coverage) -> Answer {
+    let lent = LentColumns::new(columns);
+    let mut lent_output = Lent::new(output, BYTE);
+    let got = calls::write(lent.view(), count, lent_output.slice_mut());
+    let answer = same(Entry::Write, got, entries::write(columns, count, output), coverage);
+    assert!(lent.hold(columns), "write changed its columns");
+    assert!(lent_output.holds(output), "write left another output than it should");
+    answer
+}
+
+/// Finds the lowest marking of a prefix.
+pub fn find(columns: &Columns, count: usize, prefix: usize, output: &mut [u8], coverage: &mut Coverage) -> Answer {
+    let lent = LentColumns::new(columns);
+    let mut lent_output = Lent::new(output, BYTE);
+    let got = calls::find(lent.view(), count, prefix, lent_output.slice_mut());
+    let answer = same(Entry::Find, got, entries::find(columns, count, prefix, output), coverage);
+    assert!(lent.hold(columns), "find changed its columns");
+    assert!(lent_output.holds(output), "find left another output than it should");
+    answer
+}
+
+/// Judges every prefix.
+pub fn scan(columns: &Columns, count: usize, coverage: &mut Coverage) -> Answer {
+    let lent = LentColumns::new(columns);
+    let got = calls::scan(lent.view(), count);
+    let answer = same(Entry::Scan, got, entries::scan(columns, count), coverage);
+    assert!(lent.hold(columns), "scan changed its columns");
+    answer
+}
+
+/// Checks a marking.
+pub fn check(columns: &Columns, count: usize, file: &[u8], coverage: &mut Coverage) -> Answer {
+    let lent = LentColumns::new(columns);
+    let lent_file = Lent::new(file, BYTE);
+    let got = calls::check(lent.view(), count, lent_file.slice());
+    let answer = same(Entry::Check, got, entries::check(columns, count, file), coverage);
+    assert!(lent.hold(columns), "check changed its columns");
+    assert!(lent_file.holds(file), "check changed its file");
+    answer
+}
+
+/// Counts transactions and store reads.
+pub fn counts(columns: &Columns, count: usize, coverage: &mut Coverage) -> (Answer, Answer) {
+    let lent = LentColumns::new(columns);
+    let begun = calls::transactions(lent.view(), count);
+    let reads = calls::store_reads(lent.view(), count);
+    assert!(lent.hold(columns), "a count changed its columns");
+    (
+        same(Entry::Transactions, begun, entries::transactions(columns, count), coverage),
+        same(Entry::StoreReads, reads, entries::store_reads(columns, count), coverage),
+    )
+}

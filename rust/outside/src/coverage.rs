@@ -1,0 +1,88 @@
+//! Which codes each entry has answered with, and how often.
+
+use std::collections::BTreeMap;
+use std::fmt;
+
+#[derive(Clone, Copy, Debug, PartialEq, Eq, PartialOrd, Ord)]
+pub enum Entry {
+    Read,
+    Write,
+    Find,
+    Scan,
+    Check,
+    Transactions,
+    StoreReads,
+}
+
+#[derive(Clone, Debug, Default)]
+pub struct Coverage {
+    met: BTreeMap<(Entry, u32), u64>,
+}
+
+impl Coverage {
+    pub fn note(&mut self, entry: Entry, code: u32) {
+        *self.met.entry((entry, code)).or_default() += 1;
+    }
+
+    pub fn add(&mut self, other: &Coverage) {
+        for (&key, count) in &other.met {
+            *self.met.entry(key).or_default() += count;
+        }
+    }
+
+    pub fn count(&self, entry: Entry, code: u32) -> u64 {
+        self.met.get(&(entry, code)).copied().unwrap_or(0)
+    }
+
+    /// Fails if an entry has never answered with one of these codes.
+    pub fn require(&self, entry: Entry, codes: &[u32]) {
+        let missing: Vec<u32> = codes.iter().copied().filter(|&code| self.count(entry, code) == 0).collect();
+        assert!(missing.is_empty(), "{entry:?} never answered with {missing:?}; it answered\n{self}");
+    }
+
+    /// Fails if an entry has answered with a code that it has not: the scan with cause 4, say.
+    pub fn allow(&self) {
+        for &(entry, code) in self.met.keys() {
+            let known = judgements(entry).contains(&code) || refusals(entry).contains(&code);
+            assert!(known, "{entry:?} answered with {code}");
+        }
+    }
+}
+
+impl fmt::Display for Coverage {
+    fn fmt(&self, f: &mut fmt::Formatter) -> fmt::Result {
+        for ((entry, code), count) in &self.met {
+            writeln!(f, "{entry:?} {code}: {count}")?;
+        }
+        Ok(())
+    }
+}
+
+/// The questions that columns and their events are asked by every entry but the reader.
+const COLUMNS: [u32; 11] = [4, 6, 7, 8, 9, 10, 11, 12, 13, 16, 17];
+
+/// The questions that an entry can answer with no.
+pub fn refusals(entry: Entry) -> Vec<u32> {
+    let own: Vec<u32> = match entry {
+        Entry::Read => return (1..=14).collect(),
+        Entry::Write => vec![15],
+        Entry::Find => vec![18, 31, 32],
+        Entry::Scan => vec![31],
+        Entry::Check => [1, 2].into_iter().chain(21..=29).collect(),
+        Entry::Transactions | Entry::StoreReads => vec![],
+    };
+    [&COLUMNS[..], &own].concat()
+}
+
+/// The other codes that an entry can answer with. The scan's cause 4 is not among them: no readable history has it.
+pub fn judgements(entry: Entry) -> &'static [u32] {
+    match entry {
+        Entry::Find => &[0, 100],
+        Entry::Scan => &[0, 101, 102, 103],
+        Entry::Check => &[0, 201, 202, 203, 204, 205],
+        _ => &[0],
+    }
+}
+
+pub const ENTRIES: [Entry; 7] =
+    [Entry::Read, Entry::Write, Entry::Find, Entry::Scan, Entry::Check, Entry::Transactions, Entry::StoreReads];

@@ -1,0 +1,78 @@
+//! Buffers lent to the library, with a margin on both sides that it must not touch.
+
+use reference::event::Columns;
+
+const MARGIN: usize = 16;
+
+/// A buffer in the middle of a larger one.
+#[derive(Clone, Debug)]
+pub struct Lent<T> {
+    whole: Vec<T>,
+    length: usize,
+    canary: T,
+}
+
+impl<T: Copy + PartialEq> Lent<T> {
+    pub fn new(contents: &[T], canary: T) -> Lent<T> {
+        let margin = [canary; MARGIN];
+        Lent { whole: [&margin[..], contents, &margin[..]].concat(), length: contents.len(), canary }
+    }
+
+    pub fn slice(&self) -> &[T] {
+        &self.whole[MARGIN..MARGIN + self.length]
+    }
+
+    pub fn slice_mut(&mut self) -> &mut [T] {
+        &mut self.whole[MARGIN..MARGIN + self.length]
+    }
+
+    /// Are the contents these, and both margins as they were?
+    pub fn holds(&self, contents: &[T]) -> bool {
+        let (before, after) = (&self.whole[..MARGIN], &self.whole[MARGIN + self.length..]);
+        self.slice() == contents && before.iter().chain(after).all(|&entry| entry == self.canary)
+    }
+}
+
+/// Four columns lent to the library.
+pub struct LentColumns {
+    kinds: Lent<u16>,
+    transactions: Lent<u16>,
+    registers: Lent<u16>,
+    values: Lent<u32>,
+}
+
+impl LentColumns {
+    pub fn new(columns: &Columns) -> LentColumns {
+        LentColumns {
+            kinds: Lent::new(&columns.kinds, 0xa5a5),
+            transactions: Lent::new(&columns.transactions, 0x5a5a),
+            registers: Lent::new(&columns.registers, 0xc3c3),
+            values: Lent::new(&columns.values, 0x3c3c_3c3c),
+        }
+    }
+
+    pub fn view(&self) -> sendoshi::Columns<'_> {
+        sendoshi::Columns {
+            kinds: self.kinds.slice(),
+            transactions: self.transactions.slice(),
+            registers: self.registers.slice(),
+            values: self.values.slice(),
+        }
+    }
+
+    pub fn view_mut(&mut self) -> sendoshi::ColumnsMut<'_> {
+        sendoshi::ColumnsMut {
+            kinds: self.kinds.slice_mut(),
+            transactions: self.transactions.slice_mut(),
+            registers: self.registers.slice_mut(),
+            values: self.values.slice_mut(),
+        }
+    }
+
+    pub fn hold(&self, columns: &Columns) -> bool {
+        self.kinds.holds(&columns.kinds)
+            && self.transactions.holds(&columns.transactions)
+            && self.registers.holds(&columns.registers)
+            && self.values.holds(&columns.values)
+    }
+}

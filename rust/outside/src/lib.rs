@@ -1,0 +1,18 @@
+//! The library seen from outside: what the comparisons, the memory checks and the benchmarks share.
+//!
+//! [`compare`] puts one call to the library and to the brute force and wants the same answer and the same buffers. Inputs come from
+//! [`walk`] (random readable histories), [`simulate`] (a transactional memory), [`limits`] (histories at each limit), [`marks`]
+//! (markings) and [`damage`] (files, columns and markings that are not quite right). [`rounds`] runs many of them, each from a seed
+//! of its own.
+
+pub mod compare;
+pub mod coverage;
+pub mod damage;
+pub mod lent;
+pub mod limits;
+pub mod marks;
+pub mod random;
+pub mod rounds;
+pub mod shapes;
+pub mod simulate;
+pub mod walk;

@@ -1,0 +1,119 @@
+//! Damaged files, markings and columns: refused with the number and at the place that the brute force gives, buffers untouched.
+
+use outside::compare;
+use outside::coverage::{refusals, Coverage, ENTRIES};
+use outside::damage;
+use outside::limits;
+use outside::marks::random_marking;
+use outside::random::Random;
+use outside::rounds;
+use outside::shapes::{columns_for, columns_of, is_judged_quickly, marking_size, output_for};
+use outside::walk::{walk, Shape};
+use reference::event::{Columns, Event};
+use reference::log::Log;
+use reference::{history_file, record, worked};
+
+#[test]
+fn what_is_refused_is_refused_alike() {
+    let mut met = rounds::run(rounds::rounds(), |random, coverage| {
+        let events = history(random);
+        file(random, &events, coverage);
+        columns(random, &events, coverage);
+        marking(random, &events, coverage);
+    });
+    limits(&mut met);
+    println!("{met}");
+    met.allow();
+    for entry in ENTRIES {
+        met.require(entry, &refusals(entry));
+    }
+}
+
+/// Every entry at each limit and one step beyond it.
+fn limits(coverage: &mut Coverage) {
+    for events in limits::histories() {
+        let (lent, count) = (Columns::of(&events), events.len());
+        let mut output = vec![0xee; record::LONGEST_FILE];
+        compare::read(&history_file::write(&events), &mut lent.clone(), coverage);
+        compare::write(&lent, count, &mut output, coverage);
+        compare::counts(&lent, count, coverage);
+        compare::check(&lent, count, &[4, 0, 2, 0, 1, 0], coverage);
+        if is_judged_quickly(&events) {
+            compare::scan(&lent, count, coverage);
+            compare::find(&lent, count, count, &mut output, coverage);
+        }
+    }
+    for size in [32_767, 32_768, 32_769, 70_000] {
+        let events = Log::h0().events;
+        let mut file = history_file::write(&events);
+        file.resize(size, 0);
+        compare::read(&file, &mut Columns::of(&events), coverage);
+        let mut file = worked::h0_marking();
+        file.resize(size, 0);
+        compare::check(&Columns::of(&events), events.len(), &file, coverage);
+    }
+}
+
+/// Mostly a small walk. Now and then one with as many transactions or events as a limit allows, or one more.
+fn history(random: &mut Random) -> Vec<Event> {
+    match random.below(4_000) {
+        0 => limits::long(random.pick(&[2_047, 2_048, 2_049])),
+        1..=40 => limits::serial(random.pick(&[63, 64, 65])),
+        41..=140 => limits::concurrent(random.pick(&[10, 11, 12])),
+        _ => {
+            let shape = Shape::small(random);
+            walk(random, shape)
+        }
+    }
+}
+
+fn file(random: &mut Random, events: &[Event], coverage: &mut Coverage) {
+    let file = damage::file(random, history_file::write(events));
+    let mut columns = columns_for(random, events.len());
+    let answer = compare::read(&file, &mut columns, coverage);
+    if answer.code == 0 {
+        let mut again = vec![0; record::LONGEST_FILE];
+        let written = compare::write(&columns, answer.place as usize, &mut again, coverage);
+        assert_eq!(again[..written.place as usize], file, "a file that is read and written again");
+    }
+}
+
+fn columns(random: &mut Random, events: &[Event], coverage: &mut Coverage) {
+    let marking = random_marking(random, events).to_bytes();
+    let events = damage::events(random, events.to_vec());
+    let lent = columns_of(random, &events);
+    let lent = damage::columns(random, lent);
+    let count = match random.below(20) {
+        0 => random.below(events.len() + 3),
+        1 => random.word() as u32 as usize,
+        _ => events.len(),
+    };
+    let mut output = output_for(random, 6 + 12 * events.len());
+    compare::write(&lent, count, &mut output, coverage);
+    compare::counts(&lent, count, coverage);
+    compare::check(&lent, count, &damage::file(random, marking), coverage);
+    if is_judged_quickly(&held(&lent, count)) {
+        compare::scan(&lent, count, coverage);
+    }
+    let prefix = match random.below(10) {
+        0 => count + 1 + random.below(2),
+        1..=6 => count,
+        _ => random.below(events.len() + 1),
+    };
+    let judged = held(&lent, prefix);
+    if is_judged_quickly(&judged) {
+        let mut output = output_for(random, marking_size(&judged));
+        compare::find(&lent, count, prefix, &mut output, coverage);
+    }
+}
+
+/// The first events of columns, as many as every column holds.
+fn held(columns: &Columns, count: usize) -> Vec<Event> {
+    (0..count).take_while(|&at| columns.hold(at + 1)).map(|at| columns.event(at)).collect()
+}
+
+fn marking(random: &mut Random, events: &[Event], coverage: &mut Coverage) {
+    let marking = random_marking(random, events).to_bytes();
+    let file = damage::file(random, marking);
+    compare::check(&columns_of(random, events), events.len(), &file, coverage);
+}

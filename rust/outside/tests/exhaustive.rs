@@ -1,0 +1,103 @@
+//! Every readable history of a few events on two threads, one register and the values 0 and 1: judged as the brute force judges it. Of
+//! those that have store reads, every marking gets its verdict.
+
+use outside::compare;
+use outside::coverage::{judgements, Coverage, Entry};
+use reference::event::*;
+use reference::marking_file::{Marking, Point};
+use reference::orders::{all_orders, all_outcomes};
+use reference::questions::refused_in_columns;
+use reference::reads::{store_reads, transactions};
+use std::thread;
+
+const MOST_EVENTS: usize = 7;
+
+#[test]
+fn every_small_history_is_judged_alike() {
+    let (small, rest) = histories(3).into_iter().partition::<Vec<_>, _>(|history| history.len() < 3);
+    let mut met = Coverage::default();
+    small.iter().for_each(|history| judge(history, &mut met));
+    // Each worker takes every other history of three events, and all that go on from there.
+    let workers = thread::available_parallelism().map_or(1, |n| n.get());
+    thread::scope(|scope| {
+        let rest = &rest;
+        let work = move |worker: usize| {
+            let mut coverage = Coverage::default();
+            rest.iter().skip(worker).step_by(workers).for_each(|history| judge_all(history, &mut coverage));
+            coverage
+        };
+        let running: Vec<_> = (0..workers).map(|worker| scope.spawn(move || work(worker))).collect();
+        running.into_iter().for_each(|worker| met.add(&worker.join().expect("a worker's comparison")));
+    });
+    println!("{met}");
+    met.allow();
+    met.require(Entry::Scan, &[0, 101]); // so few events are faulted by a read only
+    met.require(Entry::Find, judgements(Entry::Find));
+    met.require(Entry::Check, judgements(Entry::Check));
+}
+
+/// All readable histories of at most so many events.
+fn histories(most: usize) -> Vec<Vec<Event>> {
+    let mut all = vec![vec![]];
+    let mut at = 0;
+    while at < all.len() {
+        if all[at].len() < most {
+            let longer = successors(&all[at]);
+            all.extend(longer);
+        }
+        at += 1;
+    }
+    all
+}
+
+/// The readable histories with one event more.
+fn successors(history: &[Event]) -> Vec<Vec<Event>> {
+    let mut longer = Vec::new();
+    for kind in BEGIN..=ABORTED {
+        for transaction in 0..=transactions(history) as u16 {
+            for (register, value) in [(0, 0), (0, 1), (1, 0)] {
+                // The register of a begin is its thread: only there it may be 1.
+                let event = Event { kind, transaction, register, value };
+                if (register == 0 || kind == BEGIN) && refused_in_columns(history, &event).is_none() {
+                    longer.push([history, &[event]].concat());
+                }
+            }
+        }
+    }
+    longer
+}
+
+fn judge_all(history: &[Event], coverage: &mut Coverage) {
+    judge(history, coverage);
+    if history.len() < MOST_EVENTS {
+        successors(history).iter().for_each(|longer| judge_all(longer, coverage));
+    }
+}
+
+fn judge(history: &[Event], coverage: &mut Coverage) {
+    let (columns, count) = (Columns::of(history), history.len());
+    let mut output = [0xee; 128];
+    compare::scan(&columns, count, coverage);
+    compare::find(&columns, count, count, &mut output, coverage);
+    if store_reads(history).next().is_some() {
+        for places in all_outcomes(transactions(history)).flat_map(all_orders) {
+            for marking in all_gaps(history, Marking { places, points: vec![] }) {
+                compare::check(&columns, count, &marking.to_bytes(), coverage);
+            }
+        }
+    }
+}
+
+/// The markings of an order with every gap for each store read.
+fn all_gaps(history: &[Event], order: Marking) -> Vec<Marking> {
+    let mut all = vec![order];
+    for read in store_reads(history) {
+        let with = |marking: &Marking, gap| {
+            let mut marking = marking.clone();
+            marking.points.push(Point { event: read as u32, gap });
+            marking
+        };
+        all = all.iter().flat_map(|m| (0..=m.places.len() as u16).map(move |gap| with(m, gap))).collect();
+    }
+    all
+}

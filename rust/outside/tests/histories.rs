@@ -1,0 +1,108 @@
+//! Random small histories and their prefixes: what the library says of them is what the brute force says.
+
+use outside::compare;
+use outside::coverage::{judgements, Coverage, ENTRIES};
+use outside::marks::{changed, random_marking};
+use outside::random::Random;
+use outside::rounds;
+use outside::shapes::{columns_for, columns_of, marking_size, output_for};
+use outside::simulate::{simulate, Faults, Plan};
+use outside::walk::{walk, Shape};
+use reference::entries::NONE;
+use reference::event::{Columns, Event};
+use reference::history_file;
+use reference::marking_file::Marking;
+
+#[test]
+fn the_library_says_what_the_brute_force_says() {
+    let met = rounds::run(rounds::rounds(), |random, coverage| {
+        let events = history(random);
+        let columns = columns_of(random, &events);
+        files(random, &events, &columns, coverage);
+        compare::counts(&columns, events.len(), coverage);
+        let scanned = compare::scan(&columns, events.len(), coverage);
+        let mut prefixes = vec![events.len(), random.below(events.len() + 1)];
+        if scanned.code != 0 {
+            prefixes.extend([scanned.place as usize, scanned.place as usize + 1]);
+        }
+        for prefix in prefixes {
+            let marking = found(random, &events, &columns, prefix, coverage);
+            markings(random, &events[..prefix], &columns, marking, coverage);
+        }
+    });
+    println!("{met}");
+    met.allow();
+    // A few rounds, as where one seed is run again, need not meet everything.
+    if rounds::rounds() >= 20_000 {
+        ENTRIES.into_iter().for_each(|entry| met.require(entry, judgements(entry)));
+    }
+}
+
+/// A walk, or what a transactional memory does, right or wrong.
+fn history(random: &mut Random) -> Vec<Event> {
+    if random.chance(60) {
+        let shape = Shape::small(random);
+        return walk(random, shape);
+    }
+    let faults = [
+        Faults::default(),
+        Faults { reads: 30, ..Faults::default() },
+        Faults { commits: 100, ..Faults::default() },
+        Faults { reads: 60, answers: 70, ..Faults::default() },
+        Faults { reads: 20, commits: 100, answers: 20 },
+    ];
+    let plan = Plan {
+        transactions: random.pick(&[2, 3, 3, 4, 5]),
+        threads: random.pick(&[2, 2, 3]),
+        registers: random.pick(&[1, 1, 2, 3]),
+        events: 20 + random.below(20),
+        length: random.pick(&[3, 4]),
+        faults: random.pick(&faults),
+    };
+    simulate(random, plan)
+}
+
+/// Writing and reading, which undo each other.
+fn files(random: &mut Random, events: &[Event], columns: &Columns, coverage: &mut Coverage) {
+    let file = history_file::write(events);
+    let mut output = output_for(random, file.len());
+    let written = compare::write(columns, events.len(), &mut output, coverage);
+    if written.code == 0 {
+        assert_eq!(output[..written.place as usize], file);
+    }
+    let mut back = columns_for(random, events.len());
+    let read = compare::read(&file, &mut back, coverage);
+    if read.code == 0 {
+        let mut again = vec![0; file.len()];
+        assert_eq!(read.place as usize, events.len());
+        assert!((0..events.len()).all(|at| back.event(at) == events[at]), "the reader's columns hold the events");
+        compare::write(&back, events.len(), &mut again, coverage);
+        assert_eq!(again, file, "a file that is read and written again");
+    }
+}
+
+/// The finder's marking of a prefix, which the checker accepts.
+fn found(random: &mut Random, events: &[Event], columns: &Columns, prefix: usize, coverage: &mut Coverage) -> Option<Marking> {
+    let judged = &events[..prefix];
+    let mut output = output_for(random, marking_size(judged));
+    let answer = compare::find(columns, events.len(), prefix, &mut output, coverage);
+    if answer.code != 0 {
+        assert!(answer.code == 32 || answer.code == NONE);
+        return None;
+    }
+    let file = &output[..answer.place as usize];
+    assert_eq!(compare::check(columns, prefix, file, coverage).code, 0, "the finder's marking is accepted");
+    Some(Marking::read(judged, file).expect("the finder's marking is readable"))
+}
+
+/// Verdicts on a random marking, and on markings that differ from another in one place.
+fn markings(random: &mut Random, judged: &[Event], columns: &Columns, lowest: Option<Marking>, coverage: &mut Coverage) {
+    let guess = random_marking(random, judged);
+    compare::check(columns, judged.len(), &guess.to_bytes(), coverage);
+    let other = changed(random, guess);
+    compare::check(columns, judged.len(), &other.to_bytes(), coverage);
+    if let Some(lowest) = lowest {
+        let near = changed(random, lowest);
+        compare::check(columns, judged.len(), &near.to_bytes(), coverage);
+    }
+}

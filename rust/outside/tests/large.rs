@@ -1,0 +1,85 @@
+//! Captures of up to 10 transactions and 2,048 events, too large for the brute force: the library against plain Rust.
+
+use outside::marks::{changed, random_marking};
+use outside::random::Random;
+use outside::rounds;
+use outside::simulate::{simulate, Faults, Plan};
+use plain::{Scanned, Verdict};
+use reference::event::{Columns as Held, Event};
+use reference::marking_file::Marking;
+use reference::{history_file, reads};
+use sendoshi::{Cause, Columns, History, Rule, Scan};
+
+#[test]
+fn the_library_says_what_plain_rust_says() {
+    rounds::run((rounds::rounds() / 500).max(1), |random, _| {
+        let events = capture(random);
+        let history = History::read(&history_file::write(&events)).expect("a simulated log is readable");
+        let held = Held::of(&events);
+        assert_eq!(history.columns(), view(&held));
+        assert_eq!(history.transactions(), reads::transactions(&events));
+        assert_eq!(history.store_reads(), plain::store_reads(plain_view(&held), events.len()).unwrap());
+        assert_eq!(history.scan().unwrap(), scanned(&held, events.len()));
+        for prefix in [events.len(), random.below(events.len() + 1)] {
+            let mut output = vec![0; 32_768];
+            let found = plain::find(plain_view(&held), events.len(), prefix, &mut output).unwrap();
+            let found = found.map(|length| output[..length].to_vec());
+            assert_eq!(history.lowest_marking(prefix).unwrap(), found, "prefix {prefix}");
+            let guess = match found {
+                Some(file) => Marking::read(&events[..prefix], &file).unwrap(),
+                None => random_marking(random, &events[..prefix]),
+            };
+            verdicts(random, &history, &held, prefix, guess);
+        }
+    });
+}
+
+fn capture(random: &mut Random) -> Vec<Event> {
+    let faults = [Faults::default(), Faults::default(), Faults { reads: 1, commits: 20, answers: 5 }];
+    let plan = Plan {
+        transactions: 10,
+        threads: 1 + random.below(4),
+        registers: random.pick(&[2, 8, 32]),
+        events: random.pick(&[100, 500, 2_048]),
+        length: random.pick(&[10, 50, 100]),
+        faults: random.pick(&faults),
+    };
+    simulate(random, plan)
+}
+
+/// The verdicts on a marking and on some that differ from it.
+fn verdicts(random: &mut Random, history: &History, held: &Held, prefix: usize, marking: Marking) {
+    let judged = history.prefix(prefix).expect("a prefix");
+    let mut marking = marking;
+    for _ in 0..4 {
+        let file = marking.to_bytes();
+        let verdict = match plain::check(plain_view(held), prefix, &file).unwrap() {
+            Verdict::Accepted => sendoshi::Verdict::Accepted,
+            Verdict::Broken(rule, event, transaction) => {
+                let rules = [Rule::A, Rule::B, Rule::C, Rule::D, Rule::E];
+                let rule = rules[(rule as u8 - b'A') as usize];
+                sendoshi::Verdict::Broken { rule, event, transaction: transaction as u16 }
+            }
+        };
+        assert_eq!(judged.check(&file).unwrap(), verdict);
+        marking = changed(random, marking);
+    }
+}
+
+fn scanned(held: &Held, count: usize) -> Scan {
+    match plain::scan(plain_view(held), count).unwrap() {
+        Scanned::Opaque => Scan::Opaque,
+        Scanned::Faulted(event, cause) => {
+            let causes = [Cause::ReadReturned, Cause::Committed, Cause::Aborted, Cause::Other];
+            Scan::Faulted { event, cause: causes[usize::from(cause) - 1] }
+        }
+    }
+}
+
+fn view(held: &Held) -> Columns<'_> {
+    Columns { kinds: &held.kinds, transactions: &held.transactions, registers: &held.registers, values: &held.values }
+}
+
+fn plain_view(held: &Held) -> plain::Columns<'_> {
+    plain::Columns { kinds: &held.kinds, transactions: &held.transactions, registers: &held.registers, values: &held.values }
+}

@@ -1,0 +1,36 @@
+//! The library's job in plain safe Rust, as one would write it without proofs: one pass with small tables for the files and the
+//! checker, a depth-first search with early ends for the finder and the scan. The benchmarks compare the library with it, and the
+//! tests use it where histories are too large for the brute force of `reference`.
+//!
+//! Answers, refusals and what happens to lent buffers are the library's.
+
+mod accesses;
+mod check;
+mod columns;
+mod find;
+mod history_file;
+mod marking_file;
+mod progress;
+mod scan;
+mod search;
+mod tables;
+
+pub use check::{check, Verdict};
+pub use columns::{Columns, Refusal};
+pub use find::find;
+pub use history_file::{read, write};
+pub use scan::{scan, Scanned};
+
+use accesses::Accesses;
+
+/// The transactions begun in the first `count` events.
+pub fn transactions(columns: Columns, count: usize) -> Result<usize, Refusal> {
+    columns.validate(count)?;
+    Ok(columns.kinds[..count].iter().filter(|&&kind| kind == columns::BEGIN).count())
+}
+
+/// The store reads in the first `count` events.
+pub fn store_reads(columns: Columns, count: usize) -> Result<usize, Refusal> {
+    columns.validate(count)?;
+    Ok(Accesses::of(columns, count).store_reads.len())
+}

@@ -1,0 +1,143 @@
+//! The library's entries: each answers with a code and a place, and treats lent buffers as the library promises.
+
+use crate::event::{Columns, Event};
+use crate::history_file;
+use crate::judgement::{lowest, scan as judge, Scanned};
+use crate::marking_file::Marking;
+use crate::questions::refused_in_columns;
+use crate::reads;
+use crate::record::{refuse, Refusal};
+use crate::rules::{verdict, Rule, Verdict};
+
+/// A code and its place, as the library packs them into one number.
+#[derive(Clone, Copy, Debug, PartialEq, Eq)]
+pub struct Answer {
+    pub code: u32,
+    pub place: u32,
+}
+
+/// The code of a finder that found no justification.
+pub const NONE: u32 = 100;
+
+/// The most transactions that are judged.
+pub const MOST_JUDGED: usize = 10;
+
+fn answer(result: Result<(u32, usize), Refusal>) -> Answer {
+    let (code, place) = result.unwrap_or_else(|refusal| (u32::from(refusal.number), refusal.place));
+    Answer { code, place: place as u32 }
+}
+
+/// Reads a file into columns.
+pub fn read(file: &[u8], columns: &mut Columns) -> Answer {
+    answer(history_file::read(file).and_then(|events| {
+        if !columns.hold(events.len()) {
+            return refuse(14, file.len());
+        }
+        for (at, &event) in events.iter().enumerate() {
+            columns.put(at, event);
+        }
+        Ok((0, events.len()))
+    }))
+}
+
+/// Writes columns as a file.
+pub fn write(columns: &Columns, count: usize, output: &mut [u8]) -> Answer {
+    answer(history(columns, count).and_then(|events| {
+        let file = history_file::write(&events);
+        if output.len() < file.len() {
+            return refuse(15, count);
+        }
+        output[..file.len()].copy_from_slice(&file);
+        Ok((0, file.len()))
+    }))
+}
+
+/// The lowest justification of a prefix, as a marking.
+pub fn find(columns: &Columns, count: usize, prefix: usize, output: &mut [u8]) -> Answer {
+    answer(holds(columns, count).and_then(|()| {
+        if prefix > count {
+            return refuse(18, count);
+        }
+        let events = history(columns, count)?;
+        let judged = &events[..prefix];
+        let transactions = reads::transactions(judged);
+        if transactions > MOST_JUDGED {
+            return refuse(31, count);
+        }
+        if output.len() < 6 + 8 * transactions + 10 * reads::store_reads(judged).count() {
+            return refuse(32, count);
+        }
+        let Some(order) = lowest(judged) else {
+            return Ok((NONE, 0));
+        };
+        let file = Marking::of(judged, &order).to_bytes();
+        output[..file.len()].copy_from_slice(&file);
+        Ok((0, file.len()))
+    }))
+}
+
+/// Judges every prefix.
+pub fn scan(columns: &Columns, count: usize) -> Answer {
+    answer(history(columns, count).and_then(|events| {
+        if reads::transactions(&events) > MOST_JUDGED {
+            return refuse(31, count);
+        }
+        Ok(match judge(&events) {
+            Scanned::Opaque => (0, 0),
+            Scanned::Faulted { event, cause } => (100 + u32::from(cause), event),
+        })
+    }))
+}
+
+/// Checks a marking of the history.
+pub fn check(columns: &Columns, count: usize, file: &[u8]) -> Answer {
+    answer(history(columns, count).and_then(|events| {
+        let marking = Marking::read(&events, file)?;
+        Ok(match verdict(&events, &marking) {
+            Verdict::Accepted => (0, 0),
+            Verdict::Broken { rule, event, transaction } => (code(rule), event * 65_536 + usize::from(transaction)),
+        })
+    }))
+}
+
+/// Counts the transactions begun.
+pub fn transactions(columns: &Columns, count: usize) -> Answer {
+    answer(history(columns, count).map(|events| (0, reads::transactions(&events))))
+}
+
+/// Counts the store reads.
+pub fn store_reads(columns: &Columns, count: usize) -> Answer {
+    answer(history(columns, count).map(|events| (0, reads::store_reads(&events).count())))
+}
+
+fn code(rule: Rule) -> u32 {
+    match rule {
+        Rule::A => 201,
+        Rule::B => 202,
+        Rule::C => 203,
+        Rule::D => 204,
+        Rule::E => 205,
+    }
+}
+
+/// Question 17.
+fn holds(columns: &Columns, count: usize) -> Result<(), Refusal> {
+    match columns.hold(count) {
+        true => Ok(()),
+        false => refuse(17, count),
+    }
+}
+
+/// The events of columns, by question 17 and each event's own.
+pub fn history(columns: &Columns, count: usize) -> Result<Vec<Event>, Refusal> {
+    holds(columns, count)?;
+    let mut events = Vec::new();
+    for at in 0..count {
+        let event = columns.event(at);
+        if let Some(number) = refused_in_columns(&events, &event) {
+            return refuse(number, at);
+        }
+        events.push(event);
+    }
+    Ok(events)
+}

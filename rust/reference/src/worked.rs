@@ -1,0 +1,145 @@
+//! The histories of the paper and of its sources with what each call must answer: one list, which the tests put to this crate and to
+//! the library alike.
+
+use crate::entries::{Answer, NONE};
+use crate::event::*;
+use crate::history_file;
+use crate::justification::{Outcome, Place};
+use crate::log::Log;
+use crate::marking_file::{Marking, Point};
+use Outcome::{Aborted, Committed};
+
+/// A call. Columns are exactly as long as the history; outputs and the columns of a reader are long enough.
+#[derive(Clone, Debug)]
+pub enum Call {
+    Read(Vec<u8>),
+    Scan(Vec<Event>),
+    /// The finder on the whole history.
+    Find(Vec<Event>),
+    Check(Vec<Event>, Vec<u8>),
+}
+
+/// A call with its answer, and with what it leaves in the output if the output is of interest.
+#[derive(Clone, Debug)]
+pub struct Worked {
+    pub name: String,
+    pub call: Call,
+    pub answer: Answer,
+    pub output: Option<Vec<u8>>,
+}
+
+fn worked(name: &str, call: Call, code: u32, place: u32) -> Worked {
+    Worked { name: name.to_string(), call, answer: Answer { code, place }, output: None }
+}
+
+/// A broken rule, packed as the library does.
+fn broken(name: &str, call: Call, rule: char, event: u32, transaction: u32) -> Worked {
+    worked(name, call, 201 + (rule as u32 - 'A' as u32), event * 65_536 + transaction)
+}
+
+fn check(log: &Log, places: &[(u16, Outcome)], points: &[(u32, u16)]) -> Call {
+    Call::Check(log.events.clone(), marking(places, points))
+}
+
+fn scan(log: &Log) -> Call {
+    Call::Scan(log.events.clone())
+}
+
+fn read(log: &Log) -> Call {
+    Call::Read(history_file::write(&log.events))
+}
+
+/// The bytes of a marking with these places and points.
+pub fn marking(places: &[(u16, Outcome)], points: &[(u32, u16)]) -> Vec<u8> {
+    let place = |&(transaction, outcome)| Place { transaction, outcome };
+    let point = |&(event, gap)| Point { event, gap };
+    let (places, points) = (places.iter().map(place).collect(), points.iter().map(point).collect());
+    Marking { places, points }.to_bytes()
+}
+
+/// H0's lowest marking.
+pub fn h0_marking() -> Vec<u8> {
+    marking(&[(1, Aborted), (0, Committed)], &[(5, 0), (9, 0)])
+}
+
+/// Every example.
+pub fn all() -> Vec<Worked> {
+    [starred(), limits(), sources()].concat()
+}
+
+/// The starred histories of the paper, in its order.
+fn starred() -> Vec<Worked> {
+    let (h0, h7) = (Log::h0(), Log::h7());
+    let serial = [(0, Committed), (1, Aborted)];
+    let cross = Log::new().begin(0).begin(1).read(0, 0, 0).read(1, 1, 0).write(0, 1, 1).write(1, 0, 1).commit(1).commit(0);
+    let pending = Log::new().begin(0).write(0, 0, 5).commit_called(0).begin(1).read(1, 0, 5);
+    let early = Log::new().begin(0).write(0, 0, 5).begin(1).read(1, 0, 5).commit(0);
+    let stale = Log::new().begin(0).write(0, 0, 1).commit(0).begin(1).read(1, 0, 0);
+    let own = Log::new().begin(0).write(0, 0, 5).read(0, 0, 0);
+    vec![
+        worked("head alone is read", read(&Log::new()), 0, 0),
+        worked("head alone is opaque", scan(&Log::new()), 0, 0),
+        worked("head alone has an accepted marking", Call::Check(vec![], vec![4, 0, 2, 0, 1, 0]), 0, 0),
+        Worked { output: Some(h0_marking()), ..worked("the lowest marking of H0", Call::Find(h0.events.clone()), 0, 42) },
+        worked("H0 with its marking", Call::Check(h0.events.clone(), h0_marking()), 0, 0),
+        worked("H0 is opaque", scan(&h0), 0, 0),
+        worked("H0, event 9 at gap 1", check(&h0, &[(1, Aborted), (0, Committed)], &[(5, 0), (9, 1)]), 0, 0),
+        broken("H0, event 9 at gap 2", check(&h0, &[(1, Aborted), (0, Committed)], &[(5, 0), (9, 2)]), 'D', 9, 1),
+        worked("H7 is faulted", scan(&h7), 101, 9),
+        worked("H7 has no justification", Call::Find(h7.events.clone()), NONE, 0),
+        broken("H7, T0 then T1, both gaps 1", check(&h7, &serial, &[(5, 1), (9, 1)]), 'E', 5, 1),
+        broken("H7, event 5 at gap 0", check(&h7, &serial, &[(5, 0), (9, 1)]), 'D', 5, 1),
+        worked("reads that cross", scan(&cross), 102, 13),
+        worked("a read from a pending commit", scan(&pending), 0, 0),
+        worked("the pending commit is aborted", scan(&pending.aborted(0)), 103, 7),
+        worked("a read before the commit is called", scan(&early), 101, 5),
+        worked("that history as a whole has a justification", Call::Find(early.events.clone()), 0, 32),
+        broken("an order against real time", check(&stale, &[(1, Aborted), (0, Committed)], &[(7, 0)]), 'B', 5, 1),
+        broken("a read of 0 after an own write of 5", check(&own, &[(0, Aborted)], &[]), 'C', 4, 0),
+        worked("an own read that is wrong", scan(&own), 101, 4),
+    ]
+}
+
+/// The limits that the paper lists, and the heads of both files.
+fn limits() -> Vec<Worked> {
+    let register = |r| Log::new().begin(0).read(0, r, 0);
+    let serial = |n| (0..n).fold(Log::new(), |log, t| log.begin(0).aborted(t));
+    let concurrent = |n| (0..n).fold(Log::new(), |log, thread| log.begin(thread));
+    let reads = |n| (0..n).fold(Log::new().begin(0), |log, _| log.read(0, 0, 0));
+    let full = reads(1_023).read_called(0, 0);
+    let full_length = history_file::write(&full.events).len() as u32;
+    let (h0, head) = (Log::h0().events, history_file::write(&[]));
+    vec![
+        worked("register 31", read(&register(31)), 0, 3),
+        worked("register 32", read(&register(32)), 12, 14),
+        worked("64 begins", read(&serial(64)), 0, 128),
+        worked("65 begins", read(&serial(65)), 7, 6 + 64 * 14),
+        worked("2,048 events", read(&full), 0, 2_048),
+        worked("2,049 events", read(&full.read_returned(0, 0)), 6, full_length),
+        worked("10 transactions", scan(&concurrent(10)), 0, 0),
+        worked("11 transactions", scan(&concurrent(11)), 31, 11),
+        worked("a length of 1", Call::Read([&head[..], &[1, 0, 16]].concat()), 2, 6),
+        worked("a body of another size", Call::Read([&head[..], &[4, 0, 16, 0, 0, 0]].concat()), 5, 6),
+        worked("an empty history", Call::Read(vec![]), 3, 0),
+        worked("another edition", Call::Read(vec![4, 0, 1, 0, 2, 0]), 3, 0),
+        worked("an empty marking", Call::Check(h0.clone(), vec![]), 21, 0),
+        worked("a marking without places", Call::Check(h0.clone(), vec![4, 0, 2, 0, 1, 0]), 28, 6),
+        worked("a marking without points", Call::Check(h0, marking(&[(1, Aborted), (0, Committed)], &[])), 29, 22),
+    ]
+}
+
+/// The histories that the sources print, in their short form, with the judgement on every prefix. Where the source judges the whole
+/// history only, as in the second, the two differ: the read comes before the commit is called.
+fn sources() -> Vec<Worked> {
+    let rows = [
+        ("figure 2.19, h2", "B11 W11x=2 C11 B12 B21 W21x=1 R12x=1", 101, 10),
+        ("figure 2.19, h1", "B11 W11x=2 C11 B12 B21 W21x=1 R12x=1 C21?", 101, 10),
+        ("figure 2.19, h3", "B11 W11x=2 C11 B12 W12x=1 C12 B21 R21x=2 C21", 101, 12),
+        ("figure 4.13, h1", "B11 B21 W11x=1 C11? R21x=1", 0, 0),
+        ("figure 3.12", "B11 W11x=1 B21 W21x=1 C21 C11 B12 R12x=1 A12", 0, 0),
+        ("section 3.3, first", "B11 B31 B21 W31x=1 C31 R21x=1 W11x=2 C11 W21x=3 C21", 0, 0),
+        ("section 3.3, second", "B11 B31 B21 R31x=0 W31x=1 C31 R21x=1 R11x=1 W11x=2 C11 W21x=3 C21", 102, 20),
+        ("section 3.3, third", "B11 B31 B21 W31x=1 W11x=2 C11 C31 R21x=1 C21", 0, 0),
+    ];
+    rows.iter().map(|&(name, short, code, place)| worked(name, scan(&Log::from_short(short)), code, place)).collect()
+}

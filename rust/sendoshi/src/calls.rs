@@ -1,0 +1,97 @@
+//! The library's calls on lent slices, as they are: every refusal comes back as a number, and every buffer is the caller's.
+//!
+//! Nothing is tested before a call. The library has no condition on numbers or contents, and what it cannot test is given by the
+//! types: a slice is good for its length, and a `&mut` slice overlaps no other.
+
+use crate::answer::Answer;
+use crate::ffi;
+
+/// The four columns of a history, one entry an event. They may be longer than the count that is given beside them.
+#[derive(Clone, Copy, Debug, PartialEq, Eq)]
+pub struct Columns<'a> {
+    pub kinds: &'a [u16],
+    pub transactions: &'a [u16],
+    pub registers: &'a [u16],
+    pub values: &'a [u32],
+}
+
+/// The four columns that the reader fills.
+#[derive(Debug, PartialEq, Eq)]
+pub struct ColumnsMut<'a> {
+    pub kinds: &'a mut [u16],
+    pub transactions: &'a mut [u16],
+    pub registers: &'a mut [u16],
+    pub values: &'a mut [u32],
+}
+
+/// Calls a function whose first parameters are the four columns.
+macro_rules! with_columns {
+    ($function:ident, $columns:expr, $($rest:expr),+) => {{
+        let c = $columns;
+        // SAFETY: pointers and lengths are those of slices that live through the call; the borrows keep written ones apart.
+        let answer = unsafe {
+            ffi::$function(
+                c.kinds.as_ptr(),
+                c.kinds.len(),
+                c.transactions.as_ptr(),
+                c.transactions.len(),
+                c.registers.as_ptr(),
+                c.registers.len(),
+                c.values.as_ptr(),
+                c.values.len(),
+                $($rest),+
+            )
+        };
+        Answer::of(answer)
+    }};
+}
+
+/// Reads a history file into the columns. Code 0: the event count.
+pub fn read(file: &[u8], columns: ColumnsMut) -> Answer {
+    // SAFETY: as in `with_columns`.
+    let answer = unsafe {
+        ffi::sendoshi_read(
+            file.as_ptr(),
+            file.len(),
+            columns.kinds.as_mut_ptr(),
+            columns.kinds.len(),
+            columns.transactions.as_mut_ptr(),
+            columns.transactions.len(),
+            columns.registers.as_mut_ptr(),
+            columns.registers.len(),
+            columns.values.as_mut_ptr(),
+            columns.values.len(),
+        )
+    };
+    Answer::of(answer)
+}
+
+/// Writes the first `count` events as a history file. Code 0: its length.
+pub fn write(columns: Columns, count: usize, output: &mut [u8]) -> Answer {
+    with_columns!(sendoshi_write, columns, count, output.as_mut_ptr(), output.len())
+}
+
+/// Writes the lowest marking of the first `prefix` of `count` events. Code 0: its length; code 100: there is none.
+pub fn find(columns: Columns, count: usize, prefix: usize, output: &mut [u8]) -> Answer {
+    with_columns!(sendoshi_find, columns, count, prefix, output.as_mut_ptr(), output.len())
+}
+
+/// Judges every prefix of the first `count` events. Code 0: opaque; codes 101 to 104: the first fault.
+pub fn scan(columns: Columns, count: usize) -> Answer {
+    with_columns!(sendoshi_scan, columns, count)
+}
+
+/// Checks a marking file of the first `count` events. Code 0: accepted; codes 201 to 205: the broken rule.
+pub fn check(columns: Columns, count: usize, file: &[u8]) -> Answer {
+    with_columns!(sendoshi_check, columns, count, file.as_ptr(), file.len())
+}
+
+/// Counts the transactions begun in the first `count` events.
+pub fn transactions(columns: Columns, count: usize) -> Answer {
+    with_columns!(sendoshi_transactions, columns, count)
+}
+
+/// Counts the store reads in the first `count` events.
+pub fn store_reads(columns: Columns, count: usize) -> Answer {
+    with_columns!(sendoshi_store_reads, columns, count)
+}

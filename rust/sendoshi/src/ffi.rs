@@ -1,0 +1,98 @@
+//! The library's functions as `include/sendoshi.h` declares them. A slice is passed as a pointer and a length.
+//!
+//! Each answers code × 2^32 + place. They have no condition on numbers or contents. What they cannot test, and a caller must see
+//! to, is that each pointer is good for its length, and that a buffer that is written overlaps no other.
+
+extern "C" {
+    pub fn sendoshi_read(
+        file: *const u8,
+        file_length: usize,
+        kinds: *mut u16,
+        kinds_length: usize,
+        transactions: *mut u16,
+        transactions_length: usize,
+        registers: *mut u16,
+        registers_length: usize,
+        values: *mut u32,
+        values_length: usize,
+    ) -> u64;
+
+    pub fn sendoshi_write(
+        kinds: *const u16,
+        kinds_length: usize,
+        transactions: *const u16,
+        transactions_length: usize,
+        registers: *const u16,
+        registers_length: usize,
+        values: *const u32,
+        values_length: usize,
+        count: usize,
+        output: *mut u8,
+        output_length: usize,
+    ) -> u64;
+
+    pub fn sendoshi_find(
+        kinds: *const u16,
+        kinds_length: usize,
+        transactions: *const u16,
+        transactions_length: usize,
+        registers: *const u16,
+        registers_length: usize,
+        values: *const u32,
+        values_length: usize,
+        count: usize,
+        prefix: usize,
+        output: *mut u8,
+        output_length: usize,
+    ) -> u64;
+
+    pub fn sendoshi_scan(
+        kinds: *const u16,
+        kinds_length: usize,
+        transactions: *const u16,
+        transactions_length: usize,
+        registers: *const u16,
+        registers_length: usize,
+        values: *const u32,
+        values_length: usize,
+        count: usize,
+    ) -> u64;
+
+    pub fn sendoshi_check(
+        kinds: *const u16,
+        kinds_length: usize,
+        transactions: *const u16,
+        transactions_length: usize,
+        registers: *const u16,
+        registers_length: usize,
+        values: *const u32,
+        values_length: usize,
+        count: usize,
+        file: *const u8,
+        file_length: usize,
+    ) -> u64;
+
+    pub fn sendoshi_transactions(
+        kinds: *const u16,
+        kinds_length: usize,
+        transactions: *const u16,
+        transactions_length: usize,
+        registers: *const u16,
+        registers_length: usize,
+        values: *const u32,
+        values_length: usize,
+        count: usize,
+    ) -> u64;
+
+    pub fn sendoshi_store_reads(
+        kinds: *const u16,
+        kinds_length: usize,
+        transactions: *const u16,
+        transactions_length: usize,
+        registers: *const u16,
+        registers_length: usize,
+        values: *const u32,
+        values_length: usize,
+        count: usize,
+    ) -> u64;
+}

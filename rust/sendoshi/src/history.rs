@@ -1,0 +1,214 @@
+//! A history that the library has taken.
+
+use crate::answer::NONE;
+use crate::calls::{self, Columns, ColumnsMut};
+use crate::judgement::{Cause, Rule, Scan, Verdict};
+use crate::question::{Place, Refusal};
+
+/// No history has more events.
+const MOST_EVENTS: usize = 2_048;
+/// No judged history has more transactions.
+const MOST_JUDGED: usize = 10;
+
+/// A readable history: the library has put its questions to every event, and refused none.
+///
+/// ```
+/// use sendoshi::{Columns, History, Scan};
+///
+/// // T0 writes 7 to register 3 and commits; T1 reads 0 there, before and after.
+/// let history = History::from_columns(Columns {
+///     kinds: &[16, 19, 20, 16, 17, 18, 21, 22, 17, 18],
+///     transactions: &[0, 0, 0, 1, 1, 1, 0, 0, 1, 1],
+///     registers: &[0, 3, 0, 1, 3, 3, 0, 0, 3, 3],
+///     values: &[0, 7, 0, 0, 0, 0, 0, 0, 0, 0],
+/// })?;
+/// assert_eq!(history.to_bytes().len(), 88);
+/// assert_eq!(History::read(&history.to_bytes())?, history);
+/// assert_eq!(history.scan()?, Scan::Opaque);
+/// # Ok::<(), sendoshi::Refusal>(())
+/// ```
+#[derive(Clone, Debug, PartialEq, Eq)]
+pub struct History {
+    // All of one length. Every event has passed its questions, so that a prefix has too.
+    kinds: Vec<u16>,
+    transactions: Vec<u16>,
+    registers: Vec<u16>,
+    values: Vec<u32>,
+}
+
+impl History {
+    /// Reads a history file.
+    ///
+    /// ```
+    /// let head = [4, 0, 1, 0, 1, 0];
+    /// assert!(sendoshi::History::read(&head)?.is_empty());
+    /// assert_eq!(sendoshi::History::read(&head[..5]).unwrap_err().question.number(), 2);
+    /// # Ok::<(), sendoshi::Refusal>(())
+    /// ```
+    pub fn read(file: &[u8]) -> Result<History, Refusal> {
+        // Columns for the most events that are read: question 14 is never answered with no.
+        let mut history = History {
+            kinds: vec![0; MOST_EVENTS],
+            transactions: vec![0; MOST_EVENTS],
+            registers: vec![0; MOST_EVENTS],
+            values: vec![0; MOST_EVENTS],
+        };
+        let columns = ColumnsMut {
+            kinds: &mut history.kinds,
+            transactions: &mut history.transactions,
+            registers: &mut history.registers,
+            values: &mut history.values,
+        };
+        let count = calls::read(file, columns).done(Place::Byte)?;
+        history.kinds.truncate(count);
+        history.transactions.truncate(count);
+        history.registers.truncate(count);
+        history.values.truncate(count);
+        Ok(history)
+    }
+
+    /// A copy of the history that stands in these columns. Columns of different lengths are refused: a column is shorter than
+    /// the count, which is the longest one's length.
+    pub fn from_columns(columns: Columns) -> Result<History, Refusal> {
+        let lengths = [columns.kinds.len(), columns.transactions.len(), columns.registers.len(), columns.values.len()];
+        let count = lengths.into_iter().max().unwrap_or(0);
+        calls::transactions(columns, count).done(Place::Event)?;
+        Ok(History {
+            kinds: columns.kinds.to_vec(),
+            transactions: columns.transactions.to_vec(),
+            registers: columns.registers.to_vec(),
+            values: columns.values.to_vec(),
+        })
+    }
+
+    /// The columns, all as long as the history.
+    pub fn columns(&self) -> Columns<'_> {
+        Columns { kinds: &self.kinds, transactions: &self.transactions, registers: &self.registers, values: &self.values }
+    }
+
+    /// The number of events.
+    pub fn len(&self) -> usize {
+        self.kinds.len()
+    }
+
+    pub fn is_empty(&self) -> bool {
+        self.kinds.is_empty()
+    }
+
+    /// The number of transactions begun.
+    pub fn transactions(&self) -> usize {
+        let answer = calls::transactions(self.columns(), self.len());
+        answer.done(Place::Event).unwrap_or_else(|refusal| refused_again(refusal))
+    }
+
+    /// The number of store reads: returned reads of a register that their transaction had not written before.
+    pub fn store_reads(&self) -> usize {
+        let answer = calls::store_reads(self.columns(), self.len());
+        answer.done(Place::Event).unwrap_or_else(|refusal| refused_again(refusal))
+    }
+
+    /// The history of the first `length` events, if there are so many.
+    pub fn prefix(&self, length: usize) -> Option<History> {
+        Some(History {
+            kinds: self.kinds.get(..length)?.to_vec(),
+            transactions: self.transactions.get(..length)?.to_vec(),
+            registers: self.registers.get(..length)?.to_vec(),
+            values: self.values.get(..length)?.to_vec(),
+        })
+    }
+
+    /// The history as a file.
+    pub fn to_bytes(&self) -> Vec<u8> {
+        // The head has 6 bytes and no event more than 12: the output is never too short.
+        let mut output = vec![0; 6 + 12 * self.len()];
+        let answer = calls::write(self.columns(), self.len(), &mut output);
+        let length = answer.done(Place::Event).unwrap_or_else(|refusal| refused_again(refusal));
+        output.truncate(length);
+        output
+    }
+
+    /// Judges every prefix. More than 10 transactions are refused.
+    ///
+    /// ```
+    /// use sendoshi::{Cause, Columns, History, Scan};
+    ///
+    /// // T0 has written 5 and not called commit when T1 reads it.
+    /// let history = History::from_columns(Columns {
+    ///     kinds: &[16, 19, 20, 16, 17, 18],
+    ///     transactions: &[0, 0, 0, 1, 1, 1],
+    ///     registers: &[0, 0, 0, 1, 0, 0],
+    ///     values: &[0, 5, 0, 0, 0, 5],
+    /// })?;
+    /// let scan = history.scan()?;
+    /// assert_eq!(scan, Scan::Faulted { event: 5, cause: Cause::ReadReturned });
+    /// assert_eq!(scan.to_string(), "opaque no event 5 cause 1");
+    /// # Ok::<(), sendoshi::Refusal>(())
+    /// ```
+    pub fn scan(&self) -> Result<Scan, Refusal> {
+        let answer = calls::scan(self.columns(), self.len());
+        match Cause::from_code(answer.code) {
+            Some(cause) => Ok(Scan::Faulted { event: answer.place as usize, cause }),
+            None => answer.done(Place::Event).map(|_| Scan::Opaque),
+        }
+    }
+
+    /// The lowest marking of the first `prefix` events, or `None` where no order justifies them. A prefix longer than the
+    /// history is refused, and so is one with more than 10 transactions.
+    ///
+    /// ```
+    /// use sendoshi::{Columns, History, Verdict};
+    ///
+    /// let history = History::from_columns(Columns {
+    ///     kinds: &[16, 17, 18],
+    ///     transactions: &[0, 0, 0],
+    ///     registers: &[0, 0, 0],
+    ///     values: &[0, 0, 9],
+    /// })?;
+    /// let before = history.prefix(2).expect("three events have a prefix of two");
+    /// let marking = history.lowest_marking(2)?.expect("nothing has been read yet");
+    /// assert_eq!(before.check(&marking)?, Verdict::Accepted);
+    /// assert_eq!(history.lowest_marking(3)?, None); // nobody wrote 9
+    /// assert_eq!(history.lowest_marking(4).unwrap_err().question.number(), 18);
+    /// # Ok::<(), sendoshi::Refusal>(())
+    /// ```
+    pub fn lowest_marking(&self, prefix: usize) -> Result<Option<Vec<u8>>, Refusal> {
+        // Room for a place of every transaction and a read point at every event: the output is never too short.
+        let mut output = vec![0; 6 + 8 * MOST_JUDGED + 10 * prefix.min(self.len())];
+        let answer = calls::find(self.columns(), self.len(), prefix, &mut output);
+        if answer.code == NONE {
+            return Ok(None);
+        }
+        let length = answer.done(Place::Event)?;
+        output.truncate(length);
+        Ok(Some(output))
+    }
+
+    /// Checks a marking file of the whole history; for a prefix, see [`History::prefix`].
+    ///
+    /// ```
+    /// use sendoshi::{Columns, History, Place, Rule, Verdict};
+    ///
+    /// // One transaction, which has not ended.
+    /// let history = History::from_columns(Columns { kinds: &[16], transactions: &[0], registers: &[0], values: &[0] })?;
+    /// let mut marking = vec![4, 0, 2, 0, 1, 0];
+    /// assert_eq!(history.check(&marking).unwrap_err().place, Place::Byte(6)); // T0 has no place
+    /// marking.extend([6, 0, 32, 0, 0, 0, 1, 0]);
+    /// let verdict = history.check(&marking)?;
+    /// assert_eq!(verdict, Verdict::Broken { rule: Rule::A, event: 0, transaction: 0 }); // it cannot have committed
+    /// assert_eq!(verdict.to_string(), "marking rule A event 0 transaction 0");
+    /// # Ok::<(), sendoshi::Refusal>(())
+    /// ```
+    pub fn check(&self, marking: &[u8]) -> Result<Verdict, Refusal> {
+        let answer = calls::check(self.columns(), self.len(), marking);
+        match Rule::from_code(answer.code) {
+            Some(rule) => Ok(Verdict::Broken { rule, event: (answer.place >> 16) as usize, transaction: answer.place as u16 }),
+            // The events have passed their questions, so what is refused is the file.
+            None => answer.done(Place::Byte).map(|_| Verdict::Accepted),
+        }
+    }
+}
+
+/// The questions that the library put when the history was taken are answered the same way each time.
+fn refused_again(refusal: Refusal) -> ! {
+    panic!("the library took this history before: {refusal}")
+}

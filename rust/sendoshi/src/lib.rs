@@ -1,0 +1,47 @@
+//! Opacity of recorded transactional histories: a safe wrapper over the proved static library.
+//!
+//! A [`History`] is read from a file or taken from columns. It can be written back, scanned for the first prefix that no order of
+//! its transactions justifies, given its lowest marking, and compared with a marking from elsewhere.
+//!
+//! ```
+//! use sendoshi::History;
+//!
+//! let capture = [
+//!     4, 0, 1, 0, 1, 0, // the head
+//!     6, 0, 16, 0, 0, 0, 0, 0, // T0 begins on thread 0
+//!     6, 0, 17, 0, 0, 0, 3, 0, // it calls a read of register 3
+//!     8, 0, 18, 0, 0, 0, 0, 0, 0, 0, // which returns 0
+//! ];
+//! let history = History::read(&capture)?;
+//! println!("events {} transactions {} reads {}", history.len(), history.transactions(), history.store_reads());
+//! println!("{}", history.scan()?);
+//! # assert_eq!((history.len(), history.transactions(), history.store_reads()), (3, 1, 1));
+//! # assert_eq!(history.scan()?.to_string(), "opaque yes");
+//! # Ok::<(), sendoshi::Refusal>(())
+//! ```
+//!
+//! # What is tested before a call
+//!
+//! Nothing needs to be. The library's functions have no condition on the numbers or the contents that they are given: what does
+//! not fit is refused with a [`Question`] and a [`Place`], and a refusal leaves every lent buffer as it was. What the library
+//! cannot test is given by Rust: a slice is good for its length, and a buffer that is written is borrowed by the call alone. The
+//! wrapper only sees to it that the buffers it allocates itself are long enough, so that [`History`] never meets the questions
+//! about lent buffers (14, 15, 32). [`calls`] has the functions on the caller's own buffers.
+//!
+//! # Linking
+//!
+//! The build script looks for `libexports.a` in the folder named by the environment variable `SENDOSHI_LIB_DIR`, or else in the
+//! repository's `target/staticlib`, where `rt staticlib exports` puts it.
+
+pub mod answer;
+pub mod calls;
+pub mod ffi;
+mod history;
+mod judgement;
+mod question;
+
+pub use answer::Answer;
+pub use calls::{Columns, ColumnsMut};
+pub use history::History;
+pub use judgement::{Cause, Rule, Scan, Verdict};
+pub use question::{Place, Question, Refusal};

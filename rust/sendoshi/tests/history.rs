@@ -1,0 +1,100 @@
+//! The wrapper's own promises: what it takes, how it refuses and how its answers read.
+
+use sendoshi::{Columns, History, Place, Question, Refusal, Rule, Scan, Verdict};
+use std::error::Error;
+
+const KINDS: [u16; 10] = [16, 19, 20, 16, 17, 18, 21, 22, 17, 18];
+const TRANSACTIONS: [u16; 10] = [0, 0, 0, 1, 1, 1, 0, 0, 1, 1];
+const REGISTERS: [u16; 10] = [0, 3, 0, 1, 3, 3, 0, 0, 3, 3];
+const VALUES: [u32; 10] = [0, 7, 0, 0, 0, 0, 0, 0, 0, 0];
+
+fn h0() -> History {
+    let columns = Columns { kinds: &KINDS, transactions: &TRANSACTIONS, registers: &REGISTERS, values: &VALUES };
+    History::from_columns(columns).unwrap()
+}
+
+fn refusal(question: Question, place: Place) -> Refusal {
+    Refusal { question, place }
+}
+
+#[test]
+fn h0_goes_through_every_call() {
+    let history = h0();
+    assert_eq!((history.len(), history.transactions(), history.store_reads()), (10, 2, 2));
+    assert_eq!(History::read(&history.to_bytes()).unwrap(), history);
+    assert_eq!(history.scan(), Ok(Scan::Opaque));
+    let marking = history.lowest_marking(10).unwrap().unwrap();
+    assert_eq!(marking.len(), 42);
+    assert_eq!(history.check(&marking), Ok(Verdict::Accepted));
+    assert_eq!(history.scan().unwrap().to_string(), "opaque yes");
+    assert_eq!(history.check(&marking).unwrap().to_string(), "marking accepted");
+}
+
+#[test]
+fn a_broken_rule_names_event_and_transaction() {
+    let history = h0();
+    let mut marking = history.lowest_marking(10).unwrap().unwrap();
+    marking[40] = 2; // event 9 at gap 2
+    let verdict = history.check(&marking).unwrap();
+    assert_eq!(verdict, Verdict::Broken { rule: Rule::D, event: 9, transaction: 1 });
+    assert_eq!(verdict.to_string(), "marking rule D event 9 transaction 1");
+}
+
+#[test]
+fn columns_of_different_lengths_are_refused() {
+    let columns = Columns { kinds: &KINDS, transactions: &TRANSACTIONS[..9], registers: &REGISTERS, values: &VALUES };
+    assert_eq!(History::from_columns(columns), Err(refusal(Question::CountTooLarge, Place::Event(10))));
+}
+
+#[test]
+fn an_event_is_refused_by_its_own_question() {
+    let mut registers = REGISTERS;
+    registers[9] = 4;
+    let columns = Columns { kinds: &KINDS, transactions: &TRANSACTIONS, registers: &registers, values: &VALUES };
+    assert_eq!(History::from_columns(columns), Err(refusal(Question::StrayField, Place::Event(9))));
+}
+
+#[test]
+fn a_prefix_is_a_history() {
+    let history = h0();
+    let prefix = history.prefix(6).unwrap();
+    assert_eq!((prefix.len(), prefix.store_reads()), (6, 1));
+    let marking = history.lowest_marking(6).unwrap().unwrap();
+    assert_eq!(prefix.lowest_marking(6).unwrap().unwrap(), marking);
+    assert_eq!(prefix.check(&marking), Ok(Verdict::Accepted));
+    assert_eq!(history.prefix(11), None);
+    assert!(history.prefix(0).unwrap().is_empty());
+}
+
+#[test]
+fn what_is_judged_has_at_most_10_transactions() {
+    let (kinds, threads, zeros) = ([16; 11], [0, 1, 2, 3, 4, 5, 6, 7, 8, 9, 10], [0; 11]);
+    let columns = Columns { kinds: &kinds, transactions: &threads, registers: &threads, values: &zeros };
+    let history = History::from_columns(columns).unwrap();
+    let refused = refusal(Question::TooManyToJudge, Place::Event(11));
+    assert_eq!(history.scan(), Err(refused));
+    assert_eq!(history.lowest_marking(11), Err(refused));
+    assert_eq!(history.lowest_marking(10).unwrap().unwrap().len(), 86);
+    assert_eq!(history.lowest_marking(12), Err(refusal(Question::PrefixTooLong, Place::Event(11))));
+}
+
+#[test]
+fn questions_keep_their_numbers_and_say_what_is_wrong() {
+    let numbers: Vec<u8> = Question::ALL.iter().map(|question| question.number()).collect();
+    let expected: Vec<u8> = (1..=18).chain(21..=29).chain(31..=32).collect();
+    assert_eq!(numbers, expected);
+    for &question in Question::ALL {
+        assert_eq!(Question::from_number(question.number()), Some(question));
+        assert_eq!(question.to_string(), question.text());
+    }
+    assert_eq!(Question::from_number(0), None);
+    assert_eq!(Question::from_number(30), None);
+}
+
+#[test]
+fn a_refusal_is_an_error() {
+    let error: Box<dyn Error> = Box::new(History::read(&[]).unwrap_err());
+    assert_eq!(error.to_string(), "refused 3 at byte 0: the file does not start with the head of a history of edition 1");
+    let error = h0().check(&[]).unwrap_err();
+    assert_eq!(error, refusal(Question::MarkingHead, Place::Byte(0)));
+}
