@@ -1,0 +1,66 @@
+-- Tables of one number for each transaction, filled by going once through the kinds and transactions of the events.
+-- Assumes nothing.
+use Prim.Native.Nat.{ℕ, zero, suc, _+_, _≤_, _<_, max}
+use mathlib.Core.Path.{_≡_}
+use mathlib.Core.Bool.{Bool, false, cond}
+use mathlib.Core.List.{List}
+use lib.Dec.{eqb, ltb}
+use lib.ListN.{length, getD}
+use Rattle.events.specs.declared.event.Event.{Event}
+use Rattle.events.specs.Events.{isBegin, isWrite, isEnd, isCommit, isAbort, asksCommit}
+use Rattle.links.specs.declared.tables.Fact.{Fact}
+use Rattle.links.specs.declared.tables.Fact.the-variants.{LastEvent, LastWrite, LastBegin, FirstBegin, FirstEnd, Standing}
+
+-- an event of which only the kind is looked at
+abbrev pub ofKind : ℕ → Event
+ofKind k = record { kind = k; transaction = 0; register = 0; value = 0 }
+
+-- what stands after event i, where x stood before: one past the last event that passes, one past the first one, 0 for none
+unfoldable pub lastOne : Bool → ℕ → ℕ → ℕ
+lastOne b i x = cond b (i + 1) x
+
+unfoldable pub firstOne : Bool → ℕ → ℕ → ℕ
+firstOne b i x = cond (eqb x 0) (cond b (i + 1) 0) x
+
+-- how far a transaction has come: 3 committed, 2 aborted, 1 commit called, 0 otherwise
+unfoldable pub rank : Bool → Bool → Bool → ℕ
+rank committed aborted called = cond committed 3 (cond aborted 2 (cond called 1 0))
+
+unfoldable pub standing : Event → ℕ
+standing e = rank (isCommit e) (isAbort e) (asksCommit e)
+
+-- what event i makes of the x that stood at its transaction
+abbrev pub slotAt : Fact → Event → ℕ → ℕ → ℕ
+slotAt LastEvent e i x = i + 1
+slotAt LastWrite e i x = lastOne (isWrite e) i x
+slotAt LastBegin e i x = lastOne (isBegin e) i x
+slotAt FirstBegin e i x = firstOne (isBegin e) i x
+slotAt FirstEnd e i x = firstOne (isEnd e) i x
+slotAt Standing e i x = max x (standing e)
+
+-- what stands at t after n events
+unfoldable pub slot : Fact → List ℕ → List ℕ → ℕ → ℕ → ℕ
+slot f kinds transactions t zero = 0
+slot f kinds transactions t (suc i) =
+    let x = slot f kinds transactions t i in
+    cond (eqb (getD transactions i 0) t) (slotAt f (ofKind (getD kinds i 0)) i x) x
+
+pub record Slots (f : Fact) (kinds transactions : List ℕ) (n : ℕ) (table : List ℕ) : Type 0 where
+  pub size : length table ≡ 64
+  pub holds : (t : ℕ) → t < 64 → getD table t 0 ≡ slot f kinds transactions t n
+
+-- an end comes before a begin, each as one past its event, with 0 for none
+unfoldable pub earlier : ℕ → ℕ → Bool
+earlier e b = cond (eqb e 0) false (ltb e b)
+
+-- how many of the first n events begin a transaction
+unfoldable pub beginsIn : List ℕ → ℕ → ℕ
+beginsIn kinds zero = 0
+beginsIn kinds (suc i) = let x = beginsIn kinds i in cond (isBegin (ofKind (getD kinds i 0))) (x + 1) x
+
+-- n events, not too many, of transactions that have a slot
+pub record Tabled (kinds transactions : List ℕ) (n : ℕ) : Type 0 where
+  pub kinds-long : n ≤ length kinds
+  pub transactions-long : n ≤ length transactions
+  pub few : n ≤ 2048
+  pub low : (i : ℕ) → i < n → getD transactions i 0 < 64

@@ -1,0 +1,44 @@
+-- `marking::check::check_marking` meets its contract.
+-- Assumes nothing.
+use Prim.Native.Nat.{_-_}
+use mathlib.Core.Path.{sym, _∙_}
+use Rattle.events.specs.Columns.{columns}
+use Rattle.marking.specs.Answer.{answerFrom, verdictAnswer}
+use Rattle.marking.proofs.CheckLaws.{ground}
+use Rattle.events.proofs.ReadableLaws.{columns-readable}
+use borrow.Author.Needs.{needs}
+use Rattle.marking.proofs.check.check_marking.Statement.{statement}
+use Rattle.marking.proofs.check.check_marking.Tie as tie
+
+check-columns-requires : tie.Need-check-columns-requires
+check-columns-requires c κs = search needs
+
+enum-known-checked : tie.Need-enum-known-checked
+enum-known-checked c = search needs
+
+enum-told : tie.Need-enum-told
+enum-told c = search needs
+
+check-file-requires : tie.Need-check-file-requires
+check-file-requires c κs =
+    let w = columns-readable (columns (c .before .before .before .before .before .before .before .before .args .kinds .now) (c .before .before .before .before .before .before .before .before .args .transactions .now) (c .before .before .before .before .before .before .before .before .args .registers .now) (c .before .before .before .before .before .before .before .before .args .values .now)) (c .before .before .before .before .before .before .before .before .args .count) (sym (c .before .before .check-columns .ensures) ∙ c .enum-told .given .1) in
+    ground (columns (c .before .before .before .before .before .before .before .before .args .kinds .now) (c .before .before .before .before .before .before .before .before .args .transactions .now) (c .before .before .before .before .before .before .before .before .args .registers .now) (c .before .before .before .before .before .before .before .before .args .values .now)) (c .before .before .before .before .before .before .before .before .args .count) (w .1) (w .0)
+
+returns : tie.Need-returns
+unfolding verdictAnswer answerFrom
+returns c = rw (sym (c .before .before .before .check-columns .ensures) ∙ c .before .checked .given .1)
+
+returns-2 : tie.Need-returns-2
+unfolding verdictAnswer answerFrom
+returns-2 c = rw (sym (c .before .before .before .check-columns .ensures) ∙ c .before .enum-told .given .1) (c .check-file .ensures)
+
+pub check-marking-spec : {M : Type 1} → statement M
+check-marking-spec =
+    tie.close
+    (tie.spec
+    check-columns-requires
+    enum-known-checked
+    enum-told
+    check-file-requires
+    returns
+    returns-2)

@@ -1,0 +1,55 @@
+-- `marking::read::head_asked` meets its contract.
+-- Assumes nothing.
+use Prim.Native.Nat.{_-_}
+use borrow.Author.Tests.{eq-eqb, ne-eqb}
+use Rattle.events.specs.Lists.{_and_}
+use Rattle.events.specs.Questions.{refusal}
+use Rattle.marking.specs.File.{headQuestions}
+use borrow.Author.Needs.{needs}
+use Rattle.marking.proofs.read.head_asked.Statement.{statement}
+use Rattle.marking.proofs.read.head_asked.Tie as tie
+
+returns : tie.Need-returns
+unfolding headQuestions refusal _and_
+returns c = rw (ne-eqb _ _ (c .if1 .taken))
+
+returns-2 : tie.Need-returns-2
+unfolding headQuestions refusal _and_
+returns-2 c = rw (eq-eqb _ _ (c .before .before .if1 .left), ne-eqb _ _ (c .if2 .taken))
+
+add-end : tie.Need-add-end
+add-end c = search needs
+
+sub-u16-at : tie.Need-sub-u16-at
+sub-u16-at c = search needs
+
+part-u16-at-start : tie.Need-part-u16-at-start
+part-u16-at-start c = search needs
+
+part-u16-at-end : tie.Need-part-u16-at-end
+part-u16-at-end c = search needs
+
+u16-at-requires : tie.Need-u16-at-requires
+u16-at-requires c κs = search needs
+
+returns-3 : tie.Need-returns-3
+unfolding headQuestions refusal _and_
+returns-3 c = rw (eq-eqb _ _ (c .before .before .before .before .before .before .if1 .left), eq-eqb _ _ (c .before .before .before .before .if2 .left), ← c .before .u16-at .ensures, ne-eqb _ _ (c .if3 .taken))
+
+returns-4 : tie.Need-returns-4
+unfolding headQuestions refusal _and_
+returns-4 c = rw (eq-eqb _ _ (c .before .before .before .before .before .before .if1 .left), eq-eqb _ _ (c .before .before .before .before .if2 .left), ← c .before .u16-at .ensures, eq-eqb _ _ (c .if3 .left))
+
+pub head-asked-spec : {M : Type 1} → statement M
+head-asked-spec =
+    tie.close
+    (tie.spec
+    returns
+    returns-2
+    add-end
+    sub-u16-at
+    part-u16-at-start
+    part-u16-at-end
+    u16-at-requires
+    returns-3
+    returns-4)

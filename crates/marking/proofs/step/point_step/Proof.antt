@@ -1,0 +1,51 @@
+-- `marking::step::point_step` meets its contract.
+-- Assumes nothing.
+use Prim.Native.Nat.{_-_}
+use mathlib.Core.Path.{sym, _∙_}
+use mathlib.Core.Bool.{false}
+use borrow.Author.Tests.{eq-eqb, ne-eqb}
+use lib.Dec.{eqb}
+use lib.ListN.{getD}
+use Rattle.events.specs.Questions.{refusal}
+use Rattle.marking.specs.declared.step.Step.the-variants.{Pointed, Refused}
+use Rattle.marking.specs.State.{pointQuestions, pointStep}
+use Rattle.marking.proofs.StepLaws.{unless-none, unless-some, point-none}
+use borrow.Author.Needs.{needs}
+use Rattle.marking.proofs.step.point_step.Statement.{statement}
+use Rattle.marking.proofs.step.point_step.Tie as tie
+
+returns : tie.Need-returns
+unfolding pointStep
+returns c = rw (ne-eqb _ _ (c .if1 .taken))
+
+u32-at-requires : tie.Need-u32-at-requires
+u32-at-requires c κs = search needs
+
+cast-e : tie.Need-cast-e
+cast-e c = search needs
+
+u16-at-requires : tie.Need-u16-at-requires
+u16-at-requires c κs = search needs
+
+point-asked-requires : tie.Need-point-asked-requires
+point-asked-requires c κs = c .before .before .before .before .pre
+
+returns-2 : tie.Need-returns-2
+unfolding pointStep
+returns-2 c = rw (eq-eqb _ _ (c .before .before .before .before .if1 .left), ← c .before .before .before .u32-at .ensures, ← c .before .before .u16-at .ensures) (unless-none (refusal (pointQuestions (c .before .before .before .before .before .before .args .begun) (c .before .before .before .before .before .before .args .next) (eqb (c .before .before .before .before .before .before .args .filled) (c .before .before .before .before .before .before .args .begun)) (getD (c .before .before .before .before .before .before .args .reads .now) (c .before .before .before .u32-at .result) false) (c .before .before .before .u32-at .result) (c .before .before .u16-at .result))) Refused _ (point-none (c .before .before .before .before .before .before .args .begun) (c .before .before .before .before .before .before .args .next) (eqb (c .before .before .before .before .before .before .args .filled) (c .before .before .before .before .before .before .args .begun)) _ _ _ (sym (c .if2 .taken) ∙ c .before .point-asked .ensures)))
+
+returns-3 : tie.Need-returns-3
+unfolding pointStep
+returns-3 c = rw (eq-eqb _ _ (c .before .before .before .before .if1 .left), ← c .before .before .before .u32-at .ensures, ← c .before .before .u16-at .ensures) (unless-some (refusal (pointQuestions (c .before .before .before .before .before .before .args .begun) (c .before .before .before .before .before .before .args .next) (eqb (c .before .before .before .before .before .before .args .filled) (c .before .before .before .before .before .before .args .begun)) (getD (c .before .before .before .before .before .before .args .reads .now) (c .before .before .before .u32-at .result) false) (c .before .before .before .u32-at .result) (c .before .before .u16-at .result))) Refused (Pointed (c .before .before .before .u32-at .result) (c .before .before .u16-at .result) (c .before .before .before .before .before .before .args .end)) _ (c .if2 .left) (c .before .point-asked .ensures))
+
+pub point-step-spec : {M : Type 1} → statement M
+point-step-spec =
+    tie.close
+    (tie.spec
+    returns
+    u32-at-requires
+    cast-e
+    u16-at-requires
+    point-asked-requires
+    returns-2
+    returns-3)

@@ -1,0 +1,58 @@
+-- The checker's answer.
+-- Assumes nothing.
+use Prim.Native.Nat.{ℕ}
+use mathlib.Core.Bool.{Bool, true, false}
+use mathlib.Core.List.{List}
+use Rattle.events.specs.declared.event.Event.{Event}
+use Rattle.events.specs.declared.columns.Checked.{Checked}
+use Rattle.events.specs.declared.columns.Checked.the-variants.{Readable, Refused}
+use Rattle.events.specs.Columns.{Columns, history}
+use Rattle.events.specs.Questions.{columnsAnswer}
+use Rattle.opacity.specs.declared.verdict.Verdict.the-variants.{Accepted, Broken}
+use Rattle.opacity.specs.declared.verdict.Rule.{Rule}
+use Rattle.opacity.specs.declared.verdict.Rule.the-variants.{A, B, C, D, E}
+use Rattle.opacity.specs.Marking.{verdict}
+use Rattle.rules.specs.Judge.{zeros}
+use Rattle.marking.specs.declared.check.Judged.{Judged}
+use Rattle.marking.specs.declared.check.Judged.the-variants.{Ruled, HistoryRefused, MarkingRefused}
+use Rattle.marking.specs.File.{known, FileRead, content, refused, fileRead}
+
+-- the verdict on the content of the file, or the question that refuses the file
+abbrev pub ruled : (ℕ → ℕ) → List Event → FileRead → Judged
+ruled start h (content m) = Ruled (verdict start h m)
+ruled start h (refused q byte) = MarkingRefused q byte
+
+abbrev pub afterColumns : (ℕ → ℕ) → List Event → List ℕ → Checked → Judged
+afterColumns start h file Readable = ruled start h (fileRead (known h) file)
+afterColumns start h file (Refused q event) = HistoryRefused q event
+
+-- 17 and each event's own questions, then the marking's, then the rules; the start values are a parameter
+unfoldable pub answerFrom : (ℕ → ℕ) → Columns → ℕ → List ℕ → Judged
+answerFrom start c n file = afterColumns start (history c n) file (columnsAnswer c n)
+
+-- with start value 0 everywhere
+unfoldable pub verdictAnswer : Columns → ℕ → List ℕ → Judged
+verdictAnswer c n file = answerFrom zeros c n file
+
+-- What the answer says in the paper's words, 0 for what a case lacks: the question that says no (1 to 29), with the event for 17 and an
+-- event's own question and the byte for one of the marking; or the broken rule (1 for A to 5 for E) with its event and transaction.
+pub record Said : Type 0 where
+  pub accepted : Bool
+  pub question : ℕ
+  pub byte : ℕ
+  pub rule : ℕ
+  pub event : ℕ
+  pub transaction : ℕ
+
+abbrev pub ruleNumber : Rule → ℕ
+ruleNumber A = 1
+ruleNumber B = 2
+ruleNumber C = 3
+ruleNumber D = 4
+ruleNumber E = 5
+
+abbrev pub said : Judged → Said
+said (Ruled Accepted) = record { accepted = true; question = 0; byte = 0; rule = 0; event = 0; transaction = 0 }
+said (Ruled (Broken r e t)) = record { accepted = false; question = 0; byte = 0; rule = ruleNumber r; event = e; transaction = t }
+said (HistoryRefused q e) = record { accepted = false; question = q; byte = 0; rule = 0; event = e; transaction = 0 }
+said (MarkingRefused q byte) = record { accepted = false; question = q; byte = byte; rule = 0; event = 0; transaction = 0 }

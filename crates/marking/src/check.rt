@@ -1,0 +1,81 @@
+// The checker: the questions of columns, those of the marking file, and the verdict.
+ghost use mathlib.Core.Path.{_≡_};
+ghost use Rattle.events.specs.Columns.{columns, history};
+ghost use Rattle.rules.specs.Judge.{zeros, Ground};
+ghost use Rattle.marking.specs.File.{known, fileRead};
+ghost use Rattle.marking.specs.Answer.{ruled, verdictAnswer};
+use crate::read::read_marking;
+use events::columns::Checked;
+use events::columns::check_columns;
+use links::tables::count_begins;
+use links::writes::links;
+use links::writes::store_reads;
+use opacity::verdict::Verdict;
+use rules::judge::judge;
+
+// The checker's answer: the verdict of the rules; the question that refuses the history, with its
+// event; or the question that refuses the marking, with its byte.
+pub enum Judged {
+    Ruled(Verdict),
+    HistoryRefused { question: u8, event: usize },
+    MarkingRefused { question: u8, byte: usize },
+}
+
+// The answer for a readable history.
+fn check_file(
+    kinds: &[u16],
+    transactions: &[u16],
+    registers: &[u16],
+    values: &[u32],
+    count: usize,
+    file: &[u8],
+) -> Judged
+    requires { ⌜ Ground (columns (now kinds) (now transactions) (now registers) (now values)) count ⌝ }
+    ensures { λ r. ⌜ r ≡ ruled zeros (history (columns (now (kinds .entry)) (now (transactions .entry)) (now (registers .entry)) (now (values .entry))) count) (fileRead (known (history (columns (now (kinds .entry)) (now (transactions .entry)) (now (registers .entry)) (now (values .entry))) count)) (now (file .entry))) ⌝ }
+{
+    let begun = count_begins(kinds, count);
+    let link = links(kinds, transactions, count);
+    let reads = store_reads(kinds, registers, values, &link, count);
+    let reading = read_marking(&reads, count, begun, file);
+    if reading.question != 0 {
+        return Judged::MarkingRefused {
+            question: reading.question,
+            byte: reading.byte,
+        };
+    }
+    let order = reading.order;
+    let outcomes = reading.outcomes;
+    let gaps = reading.gaps;
+    let verdict = judge(
+        kinds,
+        transactions,
+        registers,
+        values,
+        count,
+        &link,
+        &reads,
+        &order,
+        &outcomes,
+        &gaps,
+    );
+    Judged::Ruled(verdict)
+}
+
+// Checks a marking file against the history in the first `count` entries of the columns. Writes to
+// none of them.
+pub fn check_marking(
+    kinds: &[u16],
+    transactions: &[u16],
+    registers: &[u16],
+    values: &[u32],
+    count: usize,
+    file: &[u8],
+) -> Judged
+    ensures { λ r. ⌜ r ≡ verdictAnswer (columns (now (kinds .entry)) (now (transactions .entry)) (now (registers .entry)) (now (values .entry))) count (now (file .entry)) ⌝ }
+{
+    let checked = check_columns(kinds, transactions, registers, values, count);
+    match checked {
+        Checked::Refused { question, event } => Judged::HistoryRefused { question, event },
+        Checked::Readable => check_file(kinds, transactions, registers, values, count, file),
+    }
+}

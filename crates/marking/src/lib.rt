@@ -1,0 +1,4 @@
+// The marking reader and the checker.
+pub mod check;
+pub mod read;
+pub mod step;

@@ -1,0 +1,69 @@
+-- `rules::places::places_of` meets its contract.
+-- Assumes nothing.
+use Prim.Native.Nat.{ℕ, _-_, _≤_, _<_}
+use mathlib.Core.Path.{_≡_, refl, subst}
+use native.Mathlib.Omega.{arith}
+use Rattle.rules.specs.Orders.{Inverse}
+use Rattle.rules.proofs.OrderLaws.{inverse-start, inverse-more}
+use borrow.Author.Needs.{needs}
+use Rattle.rules.proofs.places.places_of.Statement.{statement}
+use Rattle.rules.proofs.places.places_of.Tie as tie
+
+abbrev Inv-loop : tie.InvT-loop
+Inv-loop order begun place₀ k₀ place k = (k ≤ begun) × Inverse order k place
+
+abbrev μ-loop : tie.MeasureT-loop
+μ-loop order begun place₀ k₀ place k = begun - k
+
+loop-holds : tie.Need-loop-holds Inv-loop μ-loop
+loop-holds c = (omega arith, inverse-start _)
+
+mul-wide : tie.Need-mul-wide Inv-loop μ-loop
+mul-wide c = let l : c .before .loop .k < 64 = omega (arith, c .before .before .pre .few) in search needs
+
+element-copy-out-wide : tie.Need-element-copy-out-wide Inv-loop μ-loop
+element-copy-out-wide c = omega (arith, c .before .before .pre .few)
+
+wide-requires : tie.Need-wide-requires Inv-loop μ-loop
+wide-requires c κs = search needs
+
+cast-place : tie.Need-cast-place Inv-loop μ-loop
+cast-place c = omega (arith, c .before .before .before .before .pre .few)
+
+mul-place : tie.Need-mul-place Inv-loop μ-loop
+mul-place c = let l : c .wide .result < 64 = omega (arith, c .wide .ensures, c .before .before .before .before .pre .low (c .before .before .before .loop .k) (omega arith)) in search needs
+
+array-write-place : tie.Need-array-write-place Inv-loop μ-loop
+array-write-place c = omega (arith, c .wide .ensures, c .before .before .before .before .pre .low (c .before .before .before .loop .k) (omega arith), c .before .before .before .loop .inv .1 .size)
+
+add-k : tie.Need-add-k Inv-loop μ-loop
+add-k c = search needs
+
+loop-less : tie.Need-loop-less Inv-loop μ-loop
+loop-less c = search needs
+
+loop-again : tie.Need-loop-again Inv-loop μ-loop
+loop-again c = (omega arith, inverse-more _ (c .before .before .before .loop .place) (c .before .before .before .before .args .begun) (c .before .before .before .loop .k) _ _ (c .before .before .before .before .pre) (omega arith) (c .wide .ensures) refl (c .before .before .before .loop .inv .1))
+
+returns : tie.Need-returns Inv-loop μ-loop
+returns c =
+    let e : c .before .loop .k ≡ c .before .before .args .begun = omega arith in
+    subst (λ (x : ℕ). Inverse (c .before .before .args .order .now) x (c .before .loop .place)) e (c .before .loop .inv .1)
+
+pub places-of-spec : {M : Type 1} → statement M
+places-of-spec =
+    tie.close
+    (tie.spec
+    Inv-loop
+    μ-loop
+    loop-holds
+    mul-wide
+    element-copy-out-wide
+    wide-requires
+    cast-place
+    mul-place
+    array-write-place
+    add-k
+    loop-less
+    loop-again
+    returns)

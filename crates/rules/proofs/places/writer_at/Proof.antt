@@ -1,0 +1,45 @@
+-- `rules::places::writer_at` meets its contract.
+-- Assumes nothing.
+use Prim.Native.Nat.{_-_, _<_}
+use native.Mathlib.Omega.{arith}
+use borrow.Author.Tests.{eq-eqb, ne-eqb}
+use borrow.Author.Needs.{needs}
+use Rattle.rules.proofs.places.writer_at.Statement.{statement}
+use Rattle.rules.proofs.places.writer_at.Tie as tie
+
+element-copy-out-if1 : tie.Need-element-copy-out-if1
+element-copy-out-if1 c = search needs
+
+returns : tie.Need-returns
+returns c = rw (ne-eqb _ _ (c .if1 .taken))
+
+mul-wide : tie.Need-mul-wide
+mul-wide c = search needs
+
+element-copy-out-wide : tie.Need-element-copy-out-wide
+element-copy-out-wide c = search needs
+
+wide-requires : tie.Need-wide-requires
+wide-requires c κs = search needs
+
+mul-result : tie.Need-mul-result
+mul-result c = let l : c .wide .result < 64 = omega (arith, c .wide .ensures, c .before .before .before .before .pre .1) in search needs
+
+element-copy-out-result : tie.Need-element-copy-out-result
+element-copy-out-result c = omega (arith, c .wide .ensures, c .before .before .before .before .pre .1)
+
+returns-2 : tie.Need-returns-2
+returns-2 c = rw (eq-eqb _ _ (c .before .before .before .if1 .left), ← (c .before .wide .ensures))
+
+pub writer-at-spec : {M : Type 1} → statement M
+writer-at-spec =
+    tie.close
+    (tie.spec
+    element-copy-out-if1
+    returns
+    mul-wide
+    element-copy-out-wide
+    wide-requires
+    mul-result
+    element-copy-out-result
+    returns-2)

@@ -1,0 +1,56 @@
+-- `rules::reads::rule_d` meets its contract.
+-- Assumes nothing.
+use Prim.Native.Nat.{ℕ, _-_, _≤_, _<_}
+use mathlib.Core.Path.{_≡_, sym, _∙_, subst}
+use mathlib.Core.Bool.{true}
+use native.Mathlib.Omega.{arith}
+use borrow.Author.Tests.{not-true, not-false}
+use native.Mathlib.Nat.{not-suc-le-zero}
+use Rattle.rules.proofs.Numbers.{broken-at, broken-none, so-far}
+use Rattle.rules.specs.Walks.{noWriterBy}
+use borrow.Author.Needs.{needs}
+use Rattle.rules.proofs.reads.rule_d.Statement.{statement}
+use Rattle.rules.proofs.reads.rule_d.Tie as tie
+
+abbrev Inv-loop : tie.InvT-loop
+Inv-loop transactions registers values count link writers place reads gaps i₀ i = (i ≤ count) × ((k : ℕ) → k < i → noWriterBy transactions registers values link writers place reads gaps k ≡ true)
+
+abbrev μ-loop : tie.MeasureT-loop
+μ-loop transactions registers values count link writers place reads gaps i₀ i = count - i
+
+loop-holds : tie.Need-loop-holds Inv-loop μ-loop
+loop-holds c = (omega arith, λ k l. absurd (not-suc-le-zero l))
+
+no-writer-between-requires : tie.Need-no-writer-between-requires Inv-loop μ-loop
+no-writer-between-requires c κs = (c .before .before .before .before .before .pre, omega arith)
+
+returns : tie.Need-returns Inv-loop μ-loop
+returns c = sym (broken-at (noWriterBy (c .before .before .before .before .before .before .before .args .transactions .now) (c .before .before .before .before .before .before .before .args .registers .now) (c .before .before .before .before .before .before .before .args .values .now) (c .before .before .before .before .before .before .before .args .link .now) (c .before .before .before .before .before .before .before .args .writers .now) (c .before .before .before .before .before .before .before .args .place .now) (c .before .before .before .before .before .before .before .args .reads .now) (c .before .before .before .before .before .before .before .args .gaps .now)) (c .before .before .before .before .before .before .before .args .count) (c .before .before .before .loop .i) (omega arith) (c .before .before .before .loop .inv .1) (sym (c .before .no-writer-between .ensures) ∙ not-true _ (c .if1 .taken)))
+
+add-i : tie.Need-add-i Inv-loop μ-loop
+add-i c = search needs
+
+loop-less : tie.Need-loop-less Inv-loop μ-loop
+loop-less c = search needs
+
+loop-again : tie.Need-loop-again Inv-loop μ-loop
+loop-again c = (omega arith, so-far (noWriterBy (c .before .before .before .before .before .before .before .args .transactions .now) (c .before .before .before .before .before .before .before .args .registers .now) (c .before .before .before .before .before .before .before .args .values .now) (c .before .before .before .before .before .before .before .args .link .now) (c .before .before .before .before .before .before .before .args .writers .now) (c .before .before .before .before .before .before .before .args .place .now) (c .before .before .before .before .before .before .before .args .reads .now) (c .before .before .before .before .before .before .before .args .gaps .now)) (c .before .before .before .before .before .before .before .args .count) (c .before .before .before .loop .i) (c .before .before .before .loop .inv .1) (sym (c .before .no-writer-between .ensures) ∙ not-false _ (c .if1 .left)))
+
+returns-2 : tie.Need-returns-2 Inv-loop μ-loop
+returns-2 c =
+    let e : c .before .loop .i ≡ c .before .before .before .before .before .args .count = omega arith in
+    sym (broken-none (noWriterBy (c .before .before .before .before .before .args .transactions .now) (c .before .before .before .before .before .args .registers .now) (c .before .before .before .before .before .args .values .now) (c .before .before .before .before .before .args .link .now) (c .before .before .before .before .before .args .writers .now) (c .before .before .before .before .before .args .place .now) (c .before .before .before .before .before .args .reads .now) (c .before .before .before .before .before .args .gaps .now)) (c .before .before .before .before .before .args .count) (subst (λ (x : ℕ). (k : ℕ) → k < x → noWriterBy (c .before .before .before .before .before .args .transactions .now) (c .before .before .before .before .before .args .registers .now) (c .before .before .before .before .before .args .values .now) (c .before .before .before .before .before .args .link .now) (c .before .before .before .before .before .args .writers .now) (c .before .before .before .before .before .args .place .now) (c .before .before .before .before .before .args .reads .now) (c .before .before .before .before .before .args .gaps .now) k ≡ true) e (c .before .loop .inv .1)))
+
+pub rule-d-spec : {M : Type 1} → statement M
+rule-d-spec =
+    tie.close
+    (tie.spec
+    Inv-loop
+    μ-loop
+    loop-holds
+    no-writer-between-requires
+    returns
+    add-i
+    loop-less
+    loop-again
+    returns-2)

@@ -1,0 +1,57 @@
+-- `rules::reads::rule_e` meets its contract.
+-- Assumes nothing.
+use Prim.Native.Nat.{ℕ, _-_, _≤_, _<_}
+use mathlib.Core.Path.{_≡_, sym, _∙_, subst}
+use mathlib.Core.Bool.{true}
+use native.Mathlib.Omega.{arith}
+use borrow.Author.Tests.{not-true, not-false}
+use native.Mathlib.Nat.{not-suc-le-zero}
+use Rattle.rules.proofs.Numbers.{broken-at, broken-none, so-far}
+use Rattle.rules.specs.Walks.{valueBy}
+use Rattle.rules.specs.Judge.{zeros}
+use borrow.Author.Needs.{needs}
+use Rattle.rules.proofs.reads.rule_e.Statement.{statement}
+use Rattle.rules.proofs.reads.rule_e.Tie as tie
+
+abbrev Inv-loop : tie.InvT-loop
+Inv-loop transactions registers values count link writers place reads gaps i₀ i = (i ≤ count) × ((k : ℕ) → k < i → valueBy zeros transactions registers values link writers place reads gaps k ≡ true)
+
+abbrev μ-loop : tie.MeasureT-loop
+μ-loop transactions registers values count link writers place reads gaps i₀ i = count - i
+
+loop-holds : tie.Need-loop-holds Inv-loop μ-loop
+loop-holds c = (omega arith, λ k l. absurd (not-suc-le-zero l))
+
+value-at-gap-requires : tie.Need-value-at-gap-requires Inv-loop μ-loop
+value-at-gap-requires c κs = (c .before .before .before .before .before .pre, omega arith)
+
+returns : tie.Need-returns Inv-loop μ-loop
+returns c = sym (broken-at (valueBy zeros (c .before .before .before .before .before .before .before .args .transactions .now) (c .before .before .before .before .before .before .before .args .registers .now) (c .before .before .before .before .before .before .before .args .values .now) (c .before .before .before .before .before .before .before .args .link .now) (c .before .before .before .before .before .before .before .args .writers .now) (c .before .before .before .before .before .before .before .args .place .now) (c .before .before .before .before .before .before .before .args .reads .now) (c .before .before .before .before .before .before .before .args .gaps .now)) (c .before .before .before .before .before .before .before .args .count) (c .before .before .before .loop .i) (omega arith) (c .before .before .before .loop .inv .1) (sym (c .before .value-at-gap .ensures) ∙ not-true _ (c .if1 .taken)))
+
+add-i : tie.Need-add-i Inv-loop μ-loop
+add-i c = search needs
+
+loop-less : tie.Need-loop-less Inv-loop μ-loop
+loop-less c = search needs
+
+loop-again : tie.Need-loop-again Inv-loop μ-loop
+loop-again c = (omega arith, so-far (valueBy zeros (c .before .before .before .before .before .before .before .args .transactions .now) (c .before .before .before .before .before .before .before .args .registers .now) (c .before .before .before .before .before .before .before .args .values .now) (c .before .before .before .before .before .before .before .args .link .now) (c .before .before .before .before .before .before .before .args .writers .now) (c .before .before .before .before .before .before .before .args .place .now) (c .before .before .before .before .before .before .before .args .reads .now) (c .before .before .before .before .before .before .before .args .gaps .now)) (c .before .before .before .before .before .before .before .args .count) (c .before .before .before .loop .i) (c .before .before .before .loop .inv .1) (sym (c .before .value-at-gap .ensures) ∙ not-false _ (c .if1 .left)))
+
+returns-2 : tie.Need-returns-2 Inv-loop μ-loop
+returns-2 c =
+    let e : c .before .loop .i ≡ c .before .before .before .before .before .args .count = omega arith in
+    sym (broken-none (valueBy zeros (c .before .before .before .before .before .args .transactions .now) (c .before .before .before .before .before .args .registers .now) (c .before .before .before .before .before .args .values .now) (c .before .before .before .before .before .args .link .now) (c .before .before .before .before .before .args .writers .now) (c .before .before .before .before .before .args .place .now) (c .before .before .before .before .before .args .reads .now) (c .before .before .before .before .before .args .gaps .now)) (c .before .before .before .before .before .args .count) (subst (λ (x : ℕ). (k : ℕ) → k < x → valueBy zeros (c .before .before .before .before .before .args .transactions .now) (c .before .before .before .before .before .args .registers .now) (c .before .before .before .before .before .args .values .now) (c .before .before .before .before .before .args .link .now) (c .before .before .before .before .before .args .writers .now) (c .before .before .before .before .before .args .place .now) (c .before .before .before .before .before .args .reads .now) (c .before .before .before .before .before .args .gaps .now) k ≡ true) e (c .before .loop .inv .1)))
+
+pub rule-e-spec : {M : Type 1} → statement M
+rule-e-spec =
+    tie.close
+    (tie.spec
+    Inv-loop
+    μ-loop
+    loop-holds
+    value-at-gap-requires
+    returns
+    add-i
+    loop-less
+    loop-again
+    returns-2)

@@ -1,0 +1,61 @@
+-- Orders of places in arrays, and the rules A and B by tables.
+-- Assumes nothing.
+use Prim.Native.Nat.{ℕ, zero, suc, _≤_, _<_}
+use mathlib.Core.Path.{_≡_}
+use mathlib.Core.Bool.{Bool, true, not, cond}
+use mathlib.Core.List.{List, [], _∷_, _++_}
+use mathlib.Core.Option.{Option·getD}
+use lib.Dec.{eqb, ltb}
+use lib.ListN.{length, getD}
+use Rattle.events.specs.Lists.{_implies_, first, every}
+use Rattle.opacity.specs.Justification.{Place}
+use Rattle.links.specs.Tables.{earlier}
+
+abbrev pub placeAt : List ℕ → List ℕ → ℕ → Place
+placeAt order outcomes k = record { transaction = getD order k 0; committed = eqb (getD outcomes k 0) 1 }
+
+-- the first k places
+unfoldable pub placesOf : List ℕ → List ℕ → ℕ → List Place
+placesOf order outcomes zero = []
+placesOf order outcomes (suc k) = placesOf order outcomes k ++ (placeAt order outcomes k ∷ [])
+
+-- the first b places hold transactions that have a slot, each once
+pub record Apart (order : List ℕ) (b : ℕ) : Type 0 where
+  pub few : b ≤ 64
+  pub low : (k : ℕ) → k < b → getD order k 0 < 64
+  pub distinct : (j k : ℕ) → j < b → k < b → getD order j 0 ≡ getD order k 0 → j ≡ k
+
+-- the place of each of the transactions at the first k places
+pub record Inverse (order : List ℕ) (k : ℕ) (place : List ℕ) : Type 0 where
+  pub size : length place ≡ 64
+  pub low : (t : ℕ) → getD place t 0 < 64
+  pub holds : (j : ℕ) → j < k → getD place (getD order j 0) 0 ≡ j
+
+-- one past the last write of the transaction at place k, or 0 where that is not committed
+abbrev pub writerAt : List ℕ → List ℕ → List ℕ → ℕ → ℕ
+writerAt order outcomes last k = cond (eqb (getD outcomes k 0) 1) (getD last (getD order k 0) 0) 0
+
+-- the same as a table of the first b places, 0 past them
+pub record Writers (order outcomes last : List ℕ) (b : ℕ) (table : List ℕ) : Type 0 where
+  pub size : length table ≡ 64
+  pub holds : (k : ℕ) → getD table k 0 ≡ cond (ltb k b) (writerAt order outcomes last k) 0
+
+-- the first number below n that fails, or n
+unfoldable pub broken : (ℕ → Bool) → ℕ → ℕ
+broken p n = Option·getD (first (λ i. not (p i)) n) n
+
+-- does the standing allow the outcome
+unfoldable pub allowsBy : ℕ → Bool → Bool
+allowsBy s c = cond (eqb s 3) c (cond (eqb s 1) true (not c))
+
+-- rule A at t
+unfoldable pub outcomeBy : List ℕ → List ℕ → List ℕ → ℕ → Bool
+outcomeBy standing place outcomes t = allowsBy (getD standing t 0) (eqb (getD outcomes (getD place t 0) 0) 1)
+
+-- t, if it ended before u began, is placed before u
+unfoldable pub pairBy : List ℕ → List ℕ → List ℕ → ℕ → ℕ → Bool
+pairBy ended begun place u t = earlier (getD ended t 0) (getD begun u 0) implies ltb (getD place t 0) (getD place u 0)
+
+-- rule B at u
+unfoldable pub realTimeBy : List ℕ → List ℕ → List ℕ → ℕ → ℕ → Bool
+realTimeBy ended begun place b u = every (pairBy ended begun place u) b

@@ -1,0 +1,151 @@
+// The verdict: the first rule that is broken, from A to E, with its event and transaction.
+ghost use mathlib.Core.Path.{_≡_};
+ghost use Prim.Native.Nat.{ℕ, _-_, _≤_};
+ghost use lib.ListN.{length};
+ghost use Rattle.events.specs.Columns.{columns, history};
+ghost use Rattle.opacity.specs.Marking.{verdict};
+ghost use Rattle.rules.specs.Walks.{Walkable};
+ghost use Rattle.rules.specs.Judge.{zeros, content, Given, readsVerdict};
+use crate::order::rule_a;
+use crate::order::rule_b;
+use crate::places::places_of;
+use crate::places::writers_of;
+use crate::reads::rule_c;
+use crate::reads::rule_d;
+use crate::reads::rule_e;
+use links::tables::Fact;
+use links::tables::count_begins;
+use links::tables::table;
+use links::tables::wide;
+use opacity::verdict::Rule;
+use opacity::verdict::Verdict;
+
+// Rules C to E.
+fn judge_reads(
+    kinds: &[u16],
+    transactions: &[u16],
+    registers: &[u16],
+    values: &[u32],
+    count: usize,
+    link: &[u16; 2048],
+    writers: &[u16; 64],
+    place: &[u16; 64],
+    reads: &[bool; 2048],
+    gaps: &[u16; 2048],
+) -> Verdict
+    requires { ⌜ Walkable (now transactions) (now registers) (now values) count (now link) (now writers) (now place) (now reads) (now gaps) ⌝ }
+    requires { ⌜ count ≤ length (now kinds) ⌝ }
+    ensures { λ v. ⌜ v ≡ readsVerdict zeros (columns (now (kinds .entry)) (now (transactions .entry)) (now (registers .entry)) (now (values .entry))) count (now (link .entry)) (now (writers .entry)) (now (place .entry)) (now (reads .entry)) (now (gaps .entry)) ⌝ }
+{
+    let c = rule_c(kinds, registers, values, count, link);
+    if c < count {
+        return Verdict::Broken {
+            rule: Rule::C,
+            event: c,
+            transaction: wide(transactions[c]),
+        };
+    }
+    let d = rule_d(
+        transactions,
+        registers,
+        values,
+        count,
+        link,
+        writers,
+        place,
+        reads,
+        gaps,
+    );
+    if d < count {
+        return Verdict::Broken {
+            rule: Rule::D,
+            event: d,
+            transaction: wide(transactions[d]),
+        };
+    }
+    let e = rule_e(
+        transactions,
+        registers,
+        values,
+        count,
+        link,
+        writers,
+        place,
+        reads,
+        gaps,
+    );
+    if e < count {
+        return Verdict::Broken {
+            rule: Rule::E,
+            event: e,
+            transaction: wide(transactions[e]),
+        };
+    }
+    Verdict::Accepted
+}
+
+// One less, or 0.
+fn less_one(x: u16) -> usize
+    ensures { λ r. ⌜ r ≡ x - 1 ⌝ }
+{
+    if x == 0 {
+        return 0;
+    }
+    wide(x) - 1
+}
+
+// The verdict on a readable marking of a readable history, whose writes are linked and whose store
+// reads are tabled.
+pub fn judge(
+    kinds: &[u16],
+    transactions: &[u16],
+    registers: &[u16],
+    values: &[u32],
+    count: usize,
+    link: &[u16; 2048],
+    reads: &[bool; 2048],
+    order: &[u16; 64],
+    outcomes: &[u8; 64],
+    gaps: &[u16; 2048],
+) -> Verdict
+    requires { ⌜ Given (columns (now kinds) (now transactions) (now registers) (now values)) count (now link) (now reads) (now order) (now outcomes) (now gaps) ⌝ }
+    ensures { λ v. ⌜ v ≡ verdict zeros (history (columns (now (kinds .entry)) (now (transactions .entry)) (now (registers .entry)) (now (values .entry))) count) (content (history (columns (now (kinds .entry)) (now (transactions .entry)) (now (registers .entry)) (now (values .entry))) count) (now (order .entry)) (now (outcomes .entry)) (now (gaps .entry))) ⌝ }
+{
+    let begun = count_begins(kinds, count);
+    let place = places_of(order, begun);
+    let standing = table(kinds, transactions, count, Fact::Standing);
+    let t = rule_a(&standing, &place, outcomes, begun);
+    if t < begun {
+        let last = table(kinds, transactions, count, Fact::LastEvent);
+        return Verdict::Broken {
+            rule: Rule::A,
+            event: less_one(last[t]),
+            transaction: t,
+        };
+    }
+    let ended = table(kinds, transactions, count, Fact::FirstEnd);
+    let began = table(kinds, transactions, count, Fact::LastBegin);
+    let u = rule_b(&ended, &began, &place, begun);
+    if u < begun {
+        let first = table(kinds, transactions, count, Fact::FirstBegin);
+        return Verdict::Broken {
+            rule: Rule::B,
+            event: less_one(first[u]),
+            transaction: u,
+        };
+    }
+    let written = table(kinds, transactions, count, Fact::LastWrite);
+    let writers = writers_of(order, outcomes, &written, begun);
+    judge_reads(
+        kinds,
+        transactions,
+        registers,
+        values,
+        count,
+        link,
+        &writers,
+        &place,
+        reads,
+        gaps,
+    )
+}
