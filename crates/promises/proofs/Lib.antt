@@ -1,1 +1,2 @@
+pub mod BuffersKept
 pub mod FinderAccepted

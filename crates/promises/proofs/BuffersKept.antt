@@ -1,0 +1,52 @@
+-- No lent buffer changes where a question says no (demand 1), for each public function that is lent buffers to fill: the reader's columns,
+-- the writer's output and the finder's output. Checker and scan are lent nothing that they can write to. `number` gives the paper's number,
+-- 0 for none.
+-- Assumes nothing.
+use Prim.Native.Nat.{ℕ}
+use mathlib.Core.Path.{_≡_, refl, sym, ap, _∙_}
+use mathlib.Core.List.{List}
+use Rattle.events.specs.declared.columns.Checked.{Checked}
+use Rattle.events.specs.declared.columns.Checked.the-variants.{Readable, Refused as Refuses}
+use Rattle.events.specs.Columns.{Columns, history}
+use Rattle.events.specs.Questions.{columnsAnswer}
+use Rattle.reader.specs.declared.Reading.{Reading}
+use Rattle.reader.specs.declared.Reading.the-variants.{Read, Refused as Unread}
+use Rattle.reader.specs.Reading.{readAnswer, number as readNumber}
+use Rattle.writer.specs.declared.Writing.{Writing}
+use Rattle.writer.specs.declared.Writing.the-variants.{Written, Refused as Unwritten}
+use Rattle.writer.specs.Writing.{writtenAnswer, number as writtenNumber}
+use Rattle.writer.proofs.RoundTrip.{refused-unread, refused-unwritten}
+use Rattle.finder.specs.declared.Found.{Found}
+use Rattle.finder.specs.Answer.{foundAnswer, number as foundNumber}
+use Rattle.finder.proofs.Theorems.{refused-unchanged}
+use Rattle.promises.specs.Numbers.{number}
+
+pub reader-keeps : (file : List ℕ) (c : Columns) → (readNumber (readAnswer file c .result) ≡ 0 → ⊥) → readAnswer file c .columns ≡ c
+unfolding readNumber
+reader-keeps file c n = go (readAnswer file c .result) refl n
+  where
+    go : (r : Reading) → readAnswer file c .result ≡ r → (readNumber r ≡ 0 → ⊥) → readAnswer file c .columns ≡ c
+    go (Read k) e f = absurd (f refl)
+    go (Unread q at) e f = refused-unread file c q at e
+
+pub writer-keeps : (c : Columns) (count : ℕ) (output : List ℕ) → (writtenNumber (writtenAnswer c count output .result) ≡ 0 → ⊥) → writtenAnswer c count output .output ≡ output
+unfolding writtenNumber
+writer-keeps c count output n = go (writtenAnswer c count output .result) refl n
+  where
+    go : (r : Writing) → writtenAnswer c count output .result ≡ r → (writtenNumber r ≡ 0 → ⊥) → writtenAnswer c count output .output ≡ output
+    go (Written k) e f = absurd (f refl)
+    go (Unwritten q i) e f = refused-unwritten c count output q i e
+
+pub finder-keeps : (c : Columns) (count prefix : ℕ) (output : List ℕ) → (foundNumber (foundAnswer c count prefix output .result) ≡ 0 → ⊥) → foundAnswer c count prefix output .output ≡ output
+unfolding foundNumber
+finder-keeps c count prefix output n = go (foundAnswer c count prefix output .result) refl n
+  where
+    go : (r : Found) → foundAnswer c count prefix output .result ≡ r → (foundNumber r ≡ 0 → ⊥) → foundAnswer c count prefix output .output ≡ output
+    go (Found.Marking k) e f = absurd (f refl)
+    go Found.None e f = absurd (f refl)
+    go (Found.Refused q i) e f = refused-unchanged c count prefix output q i e
+
+-- columns to which no question says no have the number 0
+pub readable-number : (c : Columns) (count : ℕ) → columnsAnswer c count ≡ Readable → number (columnsAnswer c count) ≡ 0
+unfolding number
+readable-number c count e = ap number e
