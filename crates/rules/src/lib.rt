@@ -2,8 +2,8 @@
 //
 // Cost: the tables take one pass over the events each. Rule A looks at each transaction once, rule B
 // at each pair. Rules D and E look, for each store read, at each place between two gaps once, and at
-// each write of a transaction placed there at most once. With at most 64 transactions that is about
-// reads x places + events steps, since a write costs an event that could have been a read.
+// each write of a transaction placed there at most once: reads x (places + writes) steps at most.
+// Reads and writes share the events, so where there are many reads there are few writes.
 pub mod judge;
 pub mod order;
 pub mod places;
