@@ -1,0 +1,30 @@
+-- The answers of the counts ("Scan and report"): "transactions" counts those begun, "reads" the store reads.
+-- Assumes nothing.
+use Prim.Native.Nat.{ℕ}
+use lib.ListN.{length}
+use Rattle.events.specs.declared.columns.Checked.{Checked}
+use Rattle.events.specs.Events.{begins}
+use Rattle.events.specs.Columns.{Columns, history}
+use Rattle.events.specs.Questions.{columnsAnswer}
+use Rattle.opacity.specs.Transactions.{storeReads}
+use Rattle.counts.specs.declared.Counting.{Counting}
+
+-- a number of columns to which no question says no
+abbrev pub counted : Checked → ℕ → Counting
+counted Checked.Readable n = Counting.Counted n
+counted (Checked.Refused q e) n = Counting.Refused q e
+
+unfoldable pub transactionsAnswer : Columns → ℕ → Counting
+transactionsAnswer c count = counted (columnsAnswer c count) (begins (history c count))
+
+unfoldable pub storeReadsAnswer : Columns → ℕ → Counting
+storeReadsAnswer c count = counted (columnsAnswer c count) (length (storeReads (history c count)))
+
+-- the paper's number of an answer, 0 where it was counted, and its value: the number counted, or the event
+unfoldable pub number : Counting → ℕ
+number (Counting.Counted n) = 0
+number (Counting.Refused q e) = q
+
+unfoldable pub value : Counting → ℕ
+value (Counting.Counted n) = n
+value (Counting.Refused q e) = e

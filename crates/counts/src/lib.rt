@@ -1,0 +1,49 @@
+// The counts of the report's first line, of columns that no one has put a question to yet: 17 and
+// each event's own questions come first, then the events are counted in one pass.
+ghost use mathlib.Core.Path.{_≡_};
+ghost use Rattle.events.specs.Columns.{columns};
+ghost use Rattle.counts.specs.Answer.{transactionsAnswer, storeReadsAnswer};
+use events::columns::Checked;
+use events::columns::check_columns;
+
+// A count's answer: the number, or the question that says no with its event.
+pub enum Counting {
+    Counted(usize),
+    Refused { question: u8, event: usize },
+}
+
+// How many transactions begin in the first `count` events.
+pub fn count_transactions(
+    kinds: &[u16],
+    transactions: &[u16],
+    registers: &[u16],
+    values: &[u32],
+    count: usize,
+) -> Counting
+    ensures { λ r. ⌜ r ≡ transactionsAnswer (columns (now (kinds .entry)) (now (transactions .entry)) (now (registers .entry)) (now (values .entry))) count ⌝ }
+{
+    let checked = check_columns(kinds, transactions, registers, values, count);
+    if let Checked::Refused { question, event } = checked {
+        return Counting::Refused { question, event };
+    }
+    let begun = opacity::counts::transactions_begun(kinds, transactions, registers, values, count);
+    Counting::Counted(begun)
+}
+
+// How many store reads the first `count` events have.
+pub fn count_store_reads(
+    kinds: &[u16],
+    transactions: &[u16],
+    registers: &[u16],
+    values: &[u32],
+    count: usize,
+) -> Counting
+    ensures { λ r. ⌜ r ≡ storeReadsAnswer (columns (now (kinds .entry)) (now (transactions .entry)) (now (registers .entry)) (now (values .entry))) count ⌝ }
+{
+    let checked = check_columns(kinds, transactions, registers, values, count);
+    if let Checked::Refused { question, event } = checked {
+        return Counting::Refused { question, event };
+    }
+    let reads = opacity::counts::store_reads(kinds, transactions, registers, values, count);
+    Counting::Counted(reads)
+}
