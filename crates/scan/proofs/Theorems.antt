@@ -26,7 +26,7 @@ module _ (c : Columns) (count : ℕ) where
   abbrev pub Passes : Type 0
   Passes = scanRefusal c count ≡ Checked.Readable
 
-  -- the history has as refused-31 events as the count says, so its prefixes are those of 0 to count events
+  -- the history has as many events as the count says, so its prefixes are those of 0 to count events
   pub whole : length (history c count) ≡ count
   whole = history-length c count
 

@@ -1,0 +1,104 @@
+-- What the report says, in both directions, from the bytes of the two files on. `report_on` gives `reportOn`, so each theorem is one about
+-- its result.
+-- Assumes nothing.
+use Prim.Native.Nat.{ℕ, _≤_, _<_}
+use native.Mathlib.Omega.{arith}
+use mathlib.Core.Path.{_≡_, refl, sym, ap, _∙_}
+use mathlib.Core.Logic.{_↔_}
+use mathlib.Core.Bool.{Bool, true, false, cond}
+use mathlib.Core.List.{List}
+use lib.Dec.{leb}
+use borrow.Author.Tests.{leb-true, leb-false, le-leb, lt-leb}
+use Rattle.events.specs.declared.event.Event.{Event}
+use Rattle.events.specs.Bytes.{Bytes}
+use Rattle.events.specs.Events.{begins}
+use Rattle.events.specs.Questions.{readable as isReadable}
+use Rattle.opacity.specs.declared.verdict.Scanned.{Scanned}
+use Rattle.opacity.specs.declared.verdict.Verdict.{Verdict}
+use Rattle.opacity.specs.Justification.{Justified}
+use Rattle.opacity.specs.Marking.{Marking as Content, verdict, RuleD}
+use Rattle.opacity.specs.Scan.{scan, AllJustified, FaultsAt}
+use Rattle.opacity.proofs.Theorems.{opaque-iff, faulted-iff, accepted-iff-justified}
+use Rattle.rules.specs.Judge.{zeros}
+use Rattle.marking.specs.File.{known, FileRead, content, refused as unread, fileRead}
+use Rattle.marking.proofs.ContentLaws.{content-readable}
+use Rattle.reader.specs.Reading.{Outcome, readable, refused, historyOf}
+use Rattle.writer.proofs.WriteBack.{write-back}
+use Rattle.capture.specs.declared.Marking.{Marking}
+use Rattle.capture.specs.declared.Opacity.{Opacity}
+use Rattle.capture.specs.declared.Report.{Report}
+use Rattle.capture.specs.Report.{countsOf, ruledOn, markingOf, opacityOf, judged, saidOf, reportOn}
+
+-- A history is refused exactly where one of its questions says no, with that question's byte,
+pub history-refused : (s marking : List ℕ) (q byte : ℕ) → (reportOn s marking ≡ Report.Refused q byte) ↔ (historyOf s ≡ refused q byte)
+unfolding reportOn judged
+history-refused s marking q byte = (go (historyOf s), λ e. ap (λ (x : Outcome). saidOf x marking) e)
+  where
+    go : (o : Outcome) → saidOf o marking ≡ Report.Refused q byte → o ≡ refused q byte
+    go (readable h) d = absurd (let z : _≡_ {A = ℕ} 0 1 = cc in omega arith)
+    go (refused a b) d = cc
+
+-- and otherwise the report has three lines, all of them on the events in the file.
+module _ (s : List ℕ) (by : Bytes s) (h : List Event) (file : historyOf s ≡ readable h) (marking : List ℕ) where
+  pub three-lines : reportOn s marking ≡ Report.Judged (countsOf h) (markingOf h marking) (opacityOf h)
+  unfolding reportOn judged
+  three-lines = ap (λ (x : Outcome). saidOf x marking) file
+
+  is-readable : isReadable h ≡ true
+  is-readable = write-back s h by file .1
+
+  -- what the scan says is said of at most 10 transactions, and 31 of more
+  scanned : (x : Scanned) → (opacityOf h ≡ Opacity.Scanned x) ↔ ((begins h ≤ 10) × (scan zeros h ≡ x))
+  unfolding opacityOf
+  scanned x = (go (leb (begins h) 10) refl, λ w. rw (le-leb (begins h) 10 (w .0)) (ap Opacity.Scanned (w .1)))
+    where
+      go : (b : Bool) → leb (begins h) 10 ≡ b → cond b (Opacity.Scanned (scan zeros h)) (Opacity.Refused 31) ≡ Opacity.Scanned x → (begins h ≤ 10) × (scan zeros h ≡ x)
+      go true e d = let k : scan zeros h ≡ x = cc in (leb-true _ _ e, k)
+      go false e d = absurd (let z : _≡_ {A = ℕ} 0 1 = cc in omega arith)
+
+  pub says-31 : (opacityOf h ≡ Opacity.Refused 31) ↔ (10 < begins h)
+  unfolding opacityOf
+  says-31 = (go (leb (begins h) 10) refl, λ l. rw (lt-leb (begins h) 10 l) refl)
+    where
+      go : (b : Bool) → leb (begins h) 10 ≡ b → cond b (Opacity.Scanned (scan zeros h)) (Opacity.Refused 31) ≡ Opacity.Refused 31 → 10 < begins h
+      go true e d = absurd (let z : _≡_ {A = ℕ} 0 1 = cc in omega arith)
+      go false e d = leb-false _ _ e
+
+  -- "opaque yes" exactly where every prefix has a justification,
+  pub says-opaque : (opacityOf h ≡ Opacity.Scanned Scanned.Opaque) ↔ ((begins h ≤ 10) × AllJustified zeros h)
+  says-opaque =
+      let w = scanned Scanned.Opaque in
+      let o = opaque-iff zeros h is-readable in
+      (λ e. (w .0 e .0, o .0 (w .0 e .1)), λ p. w .1 (p .0, o .1 (p .1)))
+
+  -- "opaque no event e" exactly where the prefix that ends with e is the first without one,
+  pub says-faulted : (e why : ℕ) → (opacityOf h ≡ Opacity.Scanned (Scanned.Faulted e why)) ↔ ((begins h ≤ 10) × FaultsAt zeros h e why)
+  says-faulted e why =
+      let w = scanned (Scanned.Faulted e why) in
+      let o = faulted-iff zeros h is-readable e why in
+      (λ d. (w .0 d .0, o .0 (w .0 d .1)), λ p. w .1 (p .0, o .1 (p .1)))
+
+  -- the marking file holds a marking that justifies the history and keeps rule D
+  pub record Justifying : Type 0 where
+    pub marked : Content
+    pub holds : fileRead (known h) marking ≡ content marked
+    pub justified : Justified zeros h (marked .places)
+    pub ruleD : RuleD h marked
+
+  -- and "marking accepted" exactly where the marking's outcomes and order are a justification and no other committed writer of the register
+  -- stands between a read's point and its reader.
+  pub says-accepted : (markingOf h marking ≡ Marking.Ruled Verdict.Accepted) ↔ Justifying
+  unfolding markingOf
+  says-accepted = (go (fileRead (known h) marking) refl, back)
+    where
+      by-rules : (m : Content) → fileRead (known h) marking ≡ content m → (verdict zeros h m ≡ Verdict.Accepted) ↔ (Justified zeros h (m .places) × RuleD h m)
+      by-rules m e = accepted-iff-justified zeros h is-readable m (content-readable h marking m is-readable e)
+
+      go : (x : FileRead) → fileRead (known h) marking ≡ x → ruledOn h x ≡ Marking.Ruled Verdict.Accepted → Justifying
+      go (content m) e d =
+          let a = by-rules m e .0 cc in
+          record { marked = m; holds = e; justified = a .0; ruleD = a .1 }
+      go (unread q byte) e d = absurd (let z : _≡_ {A = ℕ} 0 1 = cc in omega arith)
+
+      back : Justifying → ruledOn h (fileRead (known h) marking) ≡ Marking.Ruled Verdict.Accepted
+      back j = ap (ruledOn h) (j .holds) ∙ ap Marking.Ruled (by-rules (j .marked) (j .holds) .1 (j .justified, j .ruleD))

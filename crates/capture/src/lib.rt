@@ -1,0 +1,175 @@
+// The report on a capture, a history file and a marking file: every number of its lines, as one
+// function of the bytes of the two files.
+//
+// The columns stand in here and are as long as a history may be, so that no buffer is lent and none
+// can be too short. The report is proved to be that of the events in the history file: what the
+// columns are asked again, between the reader and the other functions, always says yes.
+ghost use mathlib.Core.Path.{_≡_};
+ghost use mathlib.Core.Bool.{true};
+ghost use Rattle.events.specs.Columns.{columns, history, hold};
+ghost use Rattle.events.specs.Questions.{columnsAnswer};
+ghost use Rattle.events.specs.declared.columns.Checked.{Checked};
+ghost use Rattle.capture.specs.Report.{countsOf, markingOf, opacityOf, judged, reportOn};
+use marking::check::Judged;
+use marking::check::check_marking;
+use opacity::verdict::Scanned;
+use opacity::verdict::Verdict;
+use reader::Reading;
+use reader::read_history;
+use scan::Judgement;
+use scan::scan_history;
+
+// The report's first line: events, transactions begun and store reads.
+pub struct Counts {
+    pub events: usize,
+    pub transactions: usize,
+    pub reads: usize,
+}
+
+// The line on the marking: the verdict, or the question that says no with its byte.
+pub enum Marking {
+    Ruled(Verdict),
+    Refused { question: u8, byte: usize },
+}
+
+// The line on opacity: what the scan says, or the question that says no.
+pub enum Opacity {
+    Scanned(Scanned),
+    Refused(u8),
+}
+
+// The report: the history is refused with its byte and nothing more is said; or the three lines.
+pub enum Report {
+    Refused {
+        question: u8,
+        byte: usize,
+    },
+    Judged {
+        counts: Counts,
+        marking: Marking,
+        opacity: Opacity,
+    },
+}
+
+// The first line, of columns to which no question says no.
+fn counts_of(
+    kinds: &[u16],
+    transactions: &[u16],
+    registers: &[u16],
+    values: &[u32],
+    count: usize,
+) -> Counts
+    requires { ⌜ columnsAnswer (columns (now kinds) (now transactions) (now registers) (now values)) count ≡ Checked.Readable ⌝ }
+    ensures { λ r. ⌜ r ≡ countsOf (history (columns (now (kinds .entry)) (now (transactions .entry)) (now (registers .entry)) (now (values .entry))) count) ⌝ }
+{
+    let begun = opacity::counts::transactions_begun(kinds, transactions, registers, values, count);
+    let reads = opacity::counts::store_reads(kinds, transactions, registers, values, count);
+    Counts {
+        events: count,
+        transactions: begun,
+        reads,
+    }
+}
+
+// The line on the marking. The checker's own questions to the columns say yes: the last case, which
+// would be said of them, does not come.
+fn marking_of(
+    kinds: &[u16],
+    transactions: &[u16],
+    registers: &[u16],
+    values: &[u32],
+    count: usize,
+    file: &[u8],
+) -> Marking
+    requires { ⌜ columnsAnswer (columns (now kinds) (now transactions) (now registers) (now values)) count ≡ Checked.Readable ⌝ }
+    ensures { λ r. ⌜ r ≡ markingOf (history (columns (now (kinds .entry)) (now (transactions .entry)) (now (registers .entry)) (now (values .entry))) count) (now (file .entry)) ⌝ }
+{
+    let answer = check_marking(kinds, transactions, registers, values, count, file);
+    match answer {
+        Judged::Ruled(verdict) => Marking::Ruled(verdict),
+        Judged::MarkingRefused { question, byte } => Marking::Refused { question, byte },
+        Judged::HistoryRefused { question, event } => Marking::Refused {
+            question,
+            byte: event,
+        },
+    }
+}
+
+// The line on opacity.
+fn opacity_of(
+    kinds: &[u16],
+    transactions: &[u16],
+    registers: &[u16],
+    values: &[u32],
+    count: usize,
+) -> Opacity
+    requires { ⌜ columnsAnswer (columns (now kinds) (now transactions) (now registers) (now values)) count ≡ Checked.Readable ⌝ }
+    ensures { λ r. ⌜ r ≡ opacityOf (history (columns (now (kinds .entry)) (now (transactions .entry)) (now (registers .entry)) (now (values .entry))) count) ⌝ }
+{
+    let answer = scan_history(kinds, transactions, registers, values, count);
+    match answer {
+        Judgement::Scanned(scanned) => Opacity::Scanned(scanned),
+        Judgement::Refused { question, event: _ } => Opacity::Refused(question),
+    }
+}
+
+// The three lines, of columns to which no question says no.
+fn judge_columns(
+    kinds: &[u16],
+    transactions: &[u16],
+    registers: &[u16],
+    values: &[u32],
+    count: usize,
+    file: &[u8],
+) -> Report
+    requires { ⌜ columnsAnswer (columns (now kinds) (now transactions) (now registers) (now values)) count ≡ Checked.Readable ⌝ }
+    ensures { λ r. ⌜ r ≡ judged (history (columns (now (kinds .entry)) (now (transactions .entry)) (now (registers .entry)) (now (values .entry))) count) (now (file .entry)) ⌝ }
+{
+    let counts = counts_of(kinds, transactions, registers, values, count);
+    let marking = marking_of(kinds, transactions, registers, values, count, file);
+    let opacity = opacity_of(kinds, transactions, registers, values, count);
+    Report::Judged {
+        counts,
+        marking,
+        opacity,
+    }
+}
+
+// The report, with columns that are as long as a history may be; what they held makes no difference.
+fn report_in(
+    history: &[u8],
+    marking: &[u8],
+    kinds: &mut [u16],
+    transactions: &mut [u16],
+    registers: &mut [u16],
+    values: &mut [u32],
+) -> Report
+    requires { ⌜ hold (columns (now kinds) (now transactions) (now registers) (now values)) 2048 ≡ true ⌝ }
+    ensures { λ r. ⌜ r ≡ reportOn (now (history .entry)) (now (marking .entry)) ⌝ }
+{
+    let reading = read_history(history, kinds, transactions, registers, values);
+    match reading {
+        Reading::Read(count) => {
+            judge_columns(kinds, transactions, registers, values, count, marking)
+        }
+        Reading::Refused { question, byte } => Report::Refused { question, byte },
+    }
+}
+
+// The report on a history file and a marking file.
+pub fn report_on(history: &[u8], marking: &[u8]) -> Report
+    ensures { λ r. ⌜ r ≡ reportOn (now (history .entry)) (now (marking .entry)) ⌝ }
+{
+    let mut kinds = [0u16; 2048];
+    let mut transactions = [0u16; 2048];
+    let mut registers = [0u16; 2048];
+    let mut values = [0u32; 2048];
+    report_in(
+        history,
+        marking,
+        &mut kinds,
+        &mut transactions,
+        &mut registers,
+        &mut values,
+    )
+}
