@@ -1,2 +1,3 @@
 pub mod BuffersKept
 pub mod FinderAccepted
+pub mod PastCount
