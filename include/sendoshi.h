@@ -54,7 +54,8 @@ enum {
 #define SENDOSHI_MARKING_SIZE(prefix) (6 + 8 * (size_t)SENDOSHI_MAX_JUDGED + 10 * (size_t)(prefix))
 
 /*
- * Each call returns code * 2^32 + place.
+ * Each call returns code * 2^32 + place. Taken apart by the functions below, the number gives the answer back, every case of it
+ * (proved: crates/exports/proofs/Theorems).
  *
  *   code        meaning                         place
  *   0           done                            the event count (read), the length (write, find), the number counted
@@ -66,8 +67,8 @@ enum {
  *   201 to 205  check: rule A to E is broken    event * 65536 + transaction
  *
  * Questions about files have a byte as their place: where the record begins, 0 for question 1 and for an empty file, the file's
- * length for 14, for 29 and for 28 at the end. All others have an event: its number, or the count for 15, 17, 18, 31 and 32. (A
- * count of 2^32 or more is refused with 17 like any other that the columns do not hold; its place then does not tell it.)
+ * length for 14, for 29 and for 28 at the end. All others have an event: its number, or the count for 15, 17, 18, 31 and 32. A
+ * place never reaches into the code: a count of 2^32 or more, which 17 or 18 refuses, is told as 2^32 - 1. No other place is as large.
  */
 enum {
     SENDOSHI_DONE = 0,
@@ -116,7 +117,7 @@ enum {
     SENDOSHI_FAULT_READ = 101,      /* cause 1: a read returned */
     SENDOSHI_FAULT_COMMITTED = 102, /* cause 2: a transaction committed */
     SENDOSHI_FAULT_ABORTED = 103,   /* cause 3: a transaction aborted */
-    SENDOSHI_FAULT_OTHER = 104,     /* cause 4: an event of another kind */
+    SENDOSHI_FAULT_OTHER = 104,     /* cause 4: an event of another kind; proved never to come */
 
     SENDOSHI_RULE_A = 201, /* an outcome that the history does not allow; the lowest such transaction, its last event */
     SENDOSHI_RULE_B = 202, /* real time is not kept; the lowest transaction placed too early, its begin */

@@ -3,11 +3,12 @@
 //! [`compare`] puts one call to the library and to the brute force and wants the same answer and the same buffers. Inputs come from
 //! [`walk`] (random readable histories), [`simulate`] (a transactional memory), [`limits`] (histories at each limit), [`marks`]
 //! (markings) and [`damage`] (files, columns and markings that are not quite right). [`rounds`] runs many of them, each from a seed
-//! of its own.
+//! of its own. [`lent`] and [`guarded`] are the buffers that the calls are lent.
 
 pub mod compare;
 pub mod coverage;
 pub mod damage;
+pub mod guarded;
 pub mod lent;
 pub mod limits;
 pub mod marks;

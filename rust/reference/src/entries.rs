@@ -9,7 +9,7 @@ use crate::reads;
 use crate::record::{refuse, Refusal};
 use crate::rules::{verdict, Rule, Verdict};
 
-/// A code and its place, as the library packs them into one number.
+/// A code and its place, as the library packs them into one number. A place that is too large for it is told as the largest.
 #[derive(Clone, Copy, Debug, PartialEq, Eq)]
 pub struct Answer {
     pub code: u32,
@@ -24,7 +24,7 @@ pub const MOST_JUDGED: usize = 10;
 
 fn answer(result: Result<(u32, usize), Refusal>) -> Answer {
     let (code, place) = result.unwrap_or_else(|refusal| (u32::from(refusal.number), refusal.place));
-    Answer { code, place: place as u32 }
+    Answer { code, place: u32::try_from(place).unwrap_or(u32::MAX) }
 }
 
 /// Reads a file into columns.

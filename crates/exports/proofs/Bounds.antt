@@ -1,0 +1,91 @@
+-- What the answers of scan and checker hold, for every columns, count and file: a cause is 1 to 4, and the event and the transaction of a
+-- broken rule are those of a readable history.
+-- Assumes nothing.
+use mathlib.Core.Path.{_≡_, refl, sym, _∙_}
+use Prim.Native.Nat.{ℕ, _<_}
+use native.Mathlib.Omega.{arith}
+use mathlib.Core.Bool.{Bool, true, false, cond}
+use mathlib.Core.List.{List}
+use Rattle.events.specs.declared.event.Event.{Event}
+use Rattle.events.specs.declared.columns.Checked.{Checked}
+use Rattle.events.specs.Events.{isRead, isCommit, isAbort}
+use Rattle.events.specs.Columns.{Columns, history}
+use Rattle.events.specs.Questions.{readable, columnsAnswer}
+use Rattle.events.proofs.ReadableLaws.{columns-readable, readable-most}
+use Rattle.opacity.specs.declared.verdict.Rule.{Rule}
+use Rattle.opacity.specs.declared.verdict.Verdict.{Verdict}
+use Rattle.opacity.specs.declared.verdict.Scanned.{Scanned}
+use Rattle.opacity.specs.Marking.{Marking, verdict, putTo, namedEvent, namedTransaction}
+use Rattle.opacity.specs.Scan.{cause}
+use Rattle.opacity.proofs.Bounds.{at-most-64, transaction-low}
+use Rattle.opacity.proofs.Meanings.{last-event-means, begin-of-means}
+use Rattle.opacity.proofs.Theorems.{broken-iff-first}
+use Rattle.scan.specs.declared.Judgement.{Judgement}
+use Rattle.scan.specs.Answer.{scanAnswer}
+use Rattle.scan.proofs.AnswerLaws.{scanned-e}
+use Rattle.scan.proofs.Theorems.{faulted-exactly}
+use Rattle.rules.specs.Judge.{zeros}
+use Rattle.marking.specs.declared.check.Judged.{Judged}
+use Rattle.marking.specs.File.{known, FileRead, content, refused, fileRead}
+use Rattle.marking.specs.Answer.{ruled, afterColumns, answerFrom, verdictAnswer}
+use Rattle.exports.specs.Codes.{Cause, Named, ScanKnown, CheckKnown}
+
+-- ---- the scan
+
+its-cause : (e : Event) → Cause (cause e)
+unfolding cause
+its-cause e = go (isRead e) (isCommit e) (isAbort e)
+  where
+    go : (a b c : Bool) → Cause (cond a 1 (cond b 2 (cond c 3 4)))
+    go true b c = record { least = omega arith; most = omega arith }
+    go false true c = record { least = omega arith; most = omega arith }
+    go false false true = record { least = omega arith; most = omega arith }
+    go false false false = record { least = omega arith; most = omega arith }
+
+pub faulted-cause : (c : Columns) (count e w : ℕ) → scanAnswer c count ≡ Judgement.Scanned (Scanned.Faulted e w) → Cause w
+unfolding scanAnswer
+faulted-cause c count e w x =
+    let f = faulted-exactly c count (scanned-e _ _ _ x .0) e w .0 x in
+    rw (f .why) (its-cause _)
+
+pub scan-known : (c : Columns) (count : ℕ) (j : Judgement) → j ≡ scanAnswer c count → ScanKnown j
+scan-known c count j q s a e w b = faulted-cause c count e w (sym q ∙ a ∙ (λ i. Judgement.Scanned (b i)))
+
+-- ---- the checker
+
+module _ (h : List Event) (r : readable h ≡ true) where
+  named-within : (q : Rule) (k : ℕ) → k < putTo h q → Named (namedEvent h q k) (namedTransaction h q k)
+  named-within Rule.A k l = record { event = omega (arith, last-event-means h r k l .inside, readable-most h r); transaction = omega (arith, at-most-64 h r) }
+  named-within Rule.B k l = record { event = omega (arith, begin-of-means h r k l .inside, readable-most h r); transaction = omega (arith, at-most-64 h r) }
+  named-within Rule.C k l = record { event = omega (arith, readable-most h r); transaction = transaction-low h r k l }
+  named-within Rule.D k l = record { event = omega (arith, readable-most h r); transaction = transaction-low h r k l }
+  named-within Rule.E k l = record { event = omega (arith, readable-most h r); transaction = transaction-low h r k l }
+
+  verdict-within : (start : ℕ → ℕ) (m : Marking) (q : Rule) (e t : ℕ) → verdict start h m ≡ Verdict.Broken q e t → Named e t
+  verdict-within start m q e t v =
+      let w = broken-iff-first start h r m q e t .0 v in
+      let k = named-within q (w .0) (w .1 .inside) in
+      record { event = omega (arith, w .2, k .event); transaction = omega (arith, w .3, k .transaction) }
+
+pub broken-bounds : (start : ℕ → ℕ) (c : Columns) (count : ℕ) (file : List ℕ) (q : Rule) (e t : ℕ)
+    → answerFrom start c count file ≡ Judged.Ruled (Verdict.Broken q e t) → Named e t
+unfolding answerFrom
+broken-bounds start c count file q e t x = go (columnsAnswer c count) refl x
+  where
+    ruled-within : columnsAnswer c count ≡ Checked.Readable → (y : FileRead) → ruled start (history c count) y ≡ Judged.Ruled (Verdict.Broken q e t) → Named e t
+    ruled-within fine (content m) d =
+        let v : verdict start (history c count) m ≡ Verdict.Broken q e t = cc in
+        verdict-within (history c count) (columns-readable c count fine .1) start m q e t v
+    ruled-within fine (refused a b) d = absurd (let z : _≡_ {A = ℕ} 0 1 = cc in omega arith)
+
+    go : (y : Checked) → columnsAnswer c count ≡ y → afterColumns start (history c count) file y ≡ Judged.Ruled (Verdict.Broken q e t) → Named e t
+    go Checked.Readable fine d = ruled-within fine (fileRead (known (history c count)) file) d
+    go (Checked.Refused a b) fine d = absurd (let z : _≡_ {A = ℕ} 0 1 = cc in omega arith)
+
+pub broken-named : (c : Columns) (count : ℕ) (file : List ℕ) (q : Rule) (e t : ℕ)
+    → verdictAnswer c count file ≡ Judged.Ruled (Verdict.Broken q e t) → Named e t
+unfolding verdictAnswer
+broken-named c count file = broken-bounds zeros c count file
+
+pub check-known : (c : Columns) (count : ℕ) (file : List ℕ) (j : Judged) → j ≡ verdictAnswer c count file → CheckKnown j
+check-known c count file j x v a q e t b = broken-named c count file q e t (sym x ∙ a ∙ (λ i. Judged.Ruled (b i)))

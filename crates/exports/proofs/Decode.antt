@@ -1,0 +1,195 @@
+-- Each answer comes back out of its number: a refusal whose question is below 100, and a place of at most 2^32 − 1.
+-- Assumes nothing.
+use mathlib.Core.Path.{_≡_, refl, sym, ap, _∙_}
+use mathlib.Core.Logic.{⊎-elim}
+use Prim.Native.Nat.{ℕ, _+_, _-_, _≤_, _<_}
+use native.Mathlib.Omega.{arith}
+use mathlib.Core.Bool.{true, false}
+use lib.Dec.{eqb, ltb}
+use borrow.Author.Tests.{ne-eqb, lt-ltb, le-ltb}
+use Rattle.reader.specs.declared.Reading.{Reading}
+use Rattle.writer.specs.declared.Writing.{Writing}
+use Rattle.finder.specs.declared.Found.{Found}
+use Rattle.opacity.specs.declared.verdict.Rule.{Rule}
+use Rattle.opacity.specs.declared.verdict.Verdict.{Verdict}
+use Rattle.opacity.specs.declared.verdict.Scanned.{Scanned}
+use Rattle.opacity.specs.Marking.{ruleNumber}
+use Rattle.scan.specs.declared.Judgement.{Judgement}
+use Rattle.marking.specs.declared.check.Judged.{Judged}
+use Rattle.counts.specs.declared.Counting.{Counting}
+use Rattle.exports.specs.Codes.{most, packed, brokenPlace, Cause, Named, codeOf, placeOf}
+use Rattle.exports.specs.Decoded.{readingOf, writingOf, foundOf, judgementOf, ruleOf, judgedOf, countingOf}
+use Rattle.exports.specs.Classes.{Class, classOf}
+use Rattle.exports.proofs.CodeLaws.{code-back, place-back, event-back, transaction-back}
+use Rattle.exports.proofs.Numbers.{Within}
+use Rattle.exports.proofs.Files.{MarkingNumber}
+
+-- ---- done
+
+module _ (n : ℕ) (l : n ≤ most) where
+  exact : placeOf (packed 0 n) ≡ n
+  exact = place-back 0 n .1 l
+
+  pub read-back : readingOf (packed 0 n) ≡ Reading.Read n
+  unfolding readingOf
+  read-back = rw (code-back 0 n, exact)
+
+  pub written-back : writingOf (packed 0 n) ≡ Writing.Written n
+  unfolding writingOf
+  written-back = rw (code-back 0 n, exact)
+
+  pub marking-back : foundOf (packed 0 n) ≡ Found.Marking n
+  unfolding foundOf
+  marking-back = rw (code-back 0 n, exact)
+
+  pub counted-back : countingOf (packed 0 n) ≡ Counting.Counted n
+  unfolding countingOf
+  counted-back = rw (code-back 0 n, exact)
+
+pub none-back : foundOf (packed 100 0) ≡ Found.None
+unfolding foundOf
+none-back = rw (code-back 100 0)
+
+pub opaque-back : judgementOf (packed 0 0) ≡ Judgement.Scanned Scanned.Opaque
+unfolding judgementOf
+opaque-back = rw (code-back 0 0)
+
+pub accepted-back : judgedOf (packed 0 0) ≡ Judged.Ruled Verdict.Accepted
+unfolding judgedOf
+accepted-back = rw (code-back 0 0)
+
+-- ---- refused
+
+module _ {q e : ℕ} (w : Within 1 99 q) (l : e ≤ most) where
+  at : placeOf (packed q e) ≡ e
+  at = place-back q e .1 l
+
+  not-done : eqb q 0 ≡ false
+  not-done = let a = w .least in ne-eqb q 0 (λ z. omega arith)
+
+  not-none : eqb q 100 ≡ false
+  not-none = let a = w .most in ne-eqb q 100 (λ z. omega arith)
+
+  not-faulted : ltb 100 q ≡ false
+  not-faulted = let a = w .most in le-ltb 100 q (omega arith)
+
+  not-broken : ltb 200 q ≡ false
+  not-broken = let a = w .most in le-ltb 200 q (omega arith)
+
+  pub unread-back : readingOf (packed q e) ≡ Reading.Refused q e
+  unfolding readingOf
+  unread-back = rw (code-back q e, at, not-done)
+
+  pub unwritten-back : writingOf (packed q e) ≡ Writing.Refused q e
+  unfolding writingOf
+  unwritten-back = rw (code-back q e, at, not-done)
+
+  pub unfound-back : foundOf (packed q e) ≡ Found.Refused q e
+  unfolding foundOf
+  unfound-back = rw (code-back q e, at, not-done, not-none)
+
+  pub uncounted-back : countingOf (packed q e) ≡ Counting.Refused q e
+  unfolding countingOf
+  uncounted-back = rw (code-back q e, at, not-done)
+
+  pub unjudged-back : judgementOf (packed q e) ≡ Judgement.Refused q e
+  unfolding judgementOf
+  unjudged-back = rw (code-back q e, at, not-done, not-faulted)
+
+  pub history-back : 3 ≤ q → q < 21 → judgedOf (packed q e) ≡ Judged.HistoryRefused q e
+  unfolding judgedOf
+  history-back a b = rw (code-back q e, at, not-done, not-broken, le-ltb q 3 a, lt-ltb q 21 b)
+
+  pub marking-low-back : q ≤ 2 → judgedOf (packed q e) ≡ Judged.MarkingRefused q e
+  unfolding judgedOf
+  marking-low-back a = let b : ltb q 3 ≡ true = lt-ltb q 3 (omega arith) in rw (code-back q e, at, not-done, not-broken, b)
+
+  pub marking-high-back : 21 ≤ q → judgedOf (packed q e) ≡ Judged.MarkingRefused q e
+  unfolding judgedOf
+  marking-high-back a =
+      let b : ltb q 3 ≡ false = le-ltb q 3 (omega arith) in
+      rw (code-back q e, at, not-done, not-broken, b, le-ltb q 21 a)
+
+pub marking-refused-back : (q e : ℕ) → MarkingNumber q → e ≤ most → judgedOf (packed q e) ≡ Judged.MarkingRefused q e
+marking-refused-back q e m l =
+    let a = m .least in
+    let b = m .most in
+    let w : Within 1 99 q = record { least = omega arith; most = omega arith } in
+    ⊎-elim (marking-low-back w l) (marking-high-back w l) (m .apart)
+
+-- ---- faulted, and a broken rule
+
+pub faulted-back : (e w : ℕ) → Cause w → e ≤ most → judgementOf (packed (100 + w) e) ≡ Judgement.Scanned (Scanned.Faulted e w)
+unfolding judgementOf
+faulted-back e w c l =
+    let a = c .least in
+    let b : eqb (100 + w) 0 ≡ false = ne-eqb (100 + w) 0 (λ z. omega arith) in
+    let d : ltb 100 (100 + w) ≡ true = lt-ltb 100 (100 + w) (omega arith) in
+    let f : 100 + w - 100 ≡ w = omega arith in
+    rw (code-back (100 + w) e, place-back (100 + w) e .1 l, b, d, f)
+
+rule-back : (r : Rule) → ruleOf (200 + ruleNumber r) ≡ r
+rule-back Rule.A = refl
+rule-back Rule.B = refl
+rule-back Rule.C = refl
+rule-back Rule.D = refl
+rule-back Rule.E = refl
+
+rule-positive : (r : Rule) → 1 ≤ ruleNumber r
+rule-positive Rule.A = omega arith
+rule-positive Rule.B = omega arith
+rule-positive Rule.C = omega arith
+rule-positive Rule.D = omega arith
+rule-positive Rule.E = omega arith
+
+pub broken-back : (r : Rule) (e t : ℕ) → Named e t → judgedOf (packed (200 + ruleNumber r) (brokenPlace e t)) ≡ Judged.Ruled (Verdict.Broken r e t)
+unfolding judgedOf
+broken-back r e t n = go (200 + ruleNumber r) refl (rule-positive r)
+  where
+    go : (k : ℕ) → 200 + ruleNumber r ≡ k → 1 ≤ ruleNumber r → judgedOf (packed k (brokenPlace e t)) ≡ Judged.Ruled (Verdict.Broken r e t)
+    go k w l =
+        let a : eqb k 0 ≡ false = ne-eqb k 0 (λ z. omega arith) in
+        let b : ltb 200 k ≡ true = lt-ltb 200 k (omega arith) in
+        let f : ruleOf k ≡ r = ap ruleOf (sym w) ∙ rule-back r in
+        rw (code-back k (brokenPlace e t), a, b, event-back k e t n, transaction-back k e t n, f)
+
+-- ---- what the code alone says
+
+pub class-done : (n : ℕ) → classOf (codeOf (packed 0 n)) ≡ Class.done
+unfolding classOf
+class-done n = rw (code-back 0 n)
+
+pub class-none : classOf (codeOf (packed 100 0)) ≡ Class.none
+unfolding classOf
+class-none = rw (code-back 100 0)
+
+pub class-refused : (q e : ℕ) → Within 1 99 q → classOf (codeOf (packed q e)) ≡ Class.refused
+unfolding classOf
+class-refused q e w =
+    let a = w .least in
+    let b = w .most in
+    let c : eqb q 0 ≡ false = ne-eqb q 0 (λ z. omega arith) in
+    let d : ltb q 100 ≡ true = lt-ltb q 100 (omega arith) in
+    rw (code-back q e, c, d)
+
+pub class-faulted : (e w : ℕ) → Cause w → classOf (codeOf (packed (100 + w) e)) ≡ Class.faulted
+unfolding classOf
+class-faulted e w k = go (100 + w) refl
+  where
+    go : (n : ℕ) → 100 + w ≡ n → classOf (codeOf (packed n e)) ≡ Class.faulted
+    go n q =
+        let a = k .least in
+        let b = k .most in
+        let c : eqb n 0 ≡ false = ne-eqb n 0 (λ z. omega arith) in
+        let d : ltb n 100 ≡ false = le-ltb n 100 (omega arith) in
+        let f : eqb n 100 ≡ false = ne-eqb n 100 (λ z. omega arith) in
+        let g : ltb n 105 ≡ true = lt-ltb n 105 (omega arith) in
+        rw (code-back n e, c, d, f, g)
+
+pub class-broken : (r : Rule) (p : ℕ) → classOf (codeOf (packed (200 + ruleNumber r) p)) ≡ Class.broken
+unfolding classOf
+class-broken Rule.A p = rw (code-back 201 p)
+class-broken Rule.B p = rw (code-back 202 p)
+class-broken Rule.C p = rw (code-back 203 p)
+class-broken Rule.D p = rw (code-back 204 p)
+class-broken Rule.E p = rw (code-back 205 p)

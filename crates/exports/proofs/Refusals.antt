@@ -1,0 +1,175 @@
+-- What the answers of the functions called tell of a refusal and of what is done: the question is one of the paper's, and the place is
+-- that of something that was read, or the count of 17 or 18.
+-- Assumes nothing.
+use mathlib.Core.Path.{_≡_, refl, ap, ap₂, _∙_}
+use mathlib.Core.Logic.{inl, ⊎-elim}
+use Prim.Native.Nat.{ℕ, _≤_, _<_}
+use native.Mathlib.Omega.{arith}
+use mathlib.Core.Bool.{Bool, true, false, cond}
+use mathlib.Core.List.{List}
+use lib.Dec.{leb}
+use lib.ListN.{length, take}
+use Rattle.events.specs.declared.event.Event.{Event}
+use Rattle.events.specs.declared.columns.Checked.{Checked}
+use Rattle.events.specs.Lists.{_and_, all}
+use Rattle.events.specs.Events.{begins}
+use Rattle.events.specs.Bytes.{over}
+use Rattle.events.specs.Columns.{Columns, history, hold, filledWith}
+use Rattle.events.specs.Questions.{readable, columnsAnswer}
+use Rattle.events.proofs.ColumnLaws.{history-length}
+use Rattle.events.proofs.QuestionLaws.{answer-readable, readable-take}
+use Rattle.events.proofs.ReadableLaws.{columns-readable, readable-most}
+use Rattle.opacity.specs.declared.verdict.Scanned.{Scanned}
+use Rattle.opacity.proofs.Theorems.{places-are-n, lowest-some}
+use Rattle.reader.specs.declared.Reading.{Reading}
+use Rattle.reader.specs.Reading.{Outcome, readable as isRead, refused as unread, historyOf, answered as answers, filled, readAnswer}
+use Rattle.writer.specs.declared.Writing.{Writing}
+use Rattle.writer.specs.Writing.{fileOf, written, answered, writtenAnswer}
+use Rattle.finder.specs.declared.Found.{Found}
+use Rattle.finder.specs.Answer.{markingSize, prefixRefusal, findRefusal, foundAnswer}
+use Rattle.finder.proofs.AnswerLaws.{marking-e, marking-some, passed}
+use Rattle.finder.proofs.OrderLaws.{room-is}
+use Rattle.finder.proofs.PointLaws.{reads-low}
+use Rattle.scan.specs.declared.Judgement.{Judgement}
+use Rattle.scan.specs.Answer.{sizeRefusal, scanRefusal, scanAnswer}
+use Rattle.scan.proofs.AnswerLaws.{scanned-e, refused-e as unscanned-e, passed as scan-passed}
+use Rattle.scan.proofs.Theorems.{faulted-exactly}
+use Rattle.marking.specs.declared.check.Judged.{Judged}
+use Rattle.rules.specs.Judge.{zeros}
+use Rattle.marking.specs.File.{known, FileRead, content, refused, fileRead}
+use Rattle.marking.specs.Answer.{ruled, afterColumns, answerFrom, verdictAnswer}
+use Rattle.marking.proofs.Theorems.{history-refused}
+use Rattle.counts.specs.declared.Counting.{Counting}
+use Rattle.counts.specs.Answer.{counted}
+use Rattle.exports.specs.Codes.{most}
+use Rattle.exports.proofs.Numbers.{Within, CountRefused, Refusal, events-number, columns-number, first-number, late-number, then-cases, widen}
+use Rattle.exports.proofs.Files.{history-number, read-limits, MarkingNumber, marking-number}
+
+-- what a refusal with an event says of its number and its place
+pub below-100 : {low high count q e : ℕ} → 1 ≤ low → high ≤ 99 → Refusal low high count q e → Within 1 99 q
+below-100 a b r = let w = widen a b r in w .number
+
+pub place-fits : {low high count q e : ℕ} → count ≤ most → Refusal low high count q e → e ≤ most
+place-fits {count = count} {e = e} l r = ⊎-elim (λ a. omega arith) (λ a. omega (arith, a .event)) (r .place)
+
+-- a place of 2^32 or more is the count, and 17 or 18 refuses it
+pub beyond : {low high count q e : ℕ} → Refusal low high count q e → most < e → CountRefused count q e
+beyond r l = ⊎-elim (λ a. absurd (omega arith)) (λ a. a) (r .place)
+
+pub read-refusal : (file : List ℕ) (c : Columns) (q b : ℕ) → readAnswer file c .result ≡ Reading.Refused q b → Within 1 99 q × (b ≤ most)
+unfolding readAnswer
+read-refusal file c q b x = go (historyOf file) refl x
+  where
+    held : (h : List Event) (y : Bool) → historyOf file ≡ isRead h
+        → cond y (answers (Reading.Read (length h)) (filledWith h c)) (answers (Reading.Refused 14 (length file)) c) .result ≡ Reading.Refused q b
+        → Within 1 99 q × (b ≤ most)
+    held h true w k = let z : _≡_ {A = ℕ} 0 1 = cc in absurd (omega arith)
+    held h false w k =
+        let e : 14 ≡ q = cc in
+        let f : length file ≡ b = cc in
+        (record { least = omega arith; most = omega arith }, omega (arith, read-limits file h w .0))
+
+    go : (o : Outcome) → historyOf file ≡ o → filled file c o .result ≡ Reading.Refused q b → Within 1 99 q × (b ≤ most)
+    go (isRead h) w k = held h (hold c (length h)) w k
+    go (unread p at) w k =
+        let e : p ≡ q = cc in
+        let f : at ≡ b = cc in
+        let r = history-number file p at w in
+        (record { least = omega (arith, r .0 .least); most = omega (arith, r .0 .most) }, omega (arith, r .1))
+
+pub write-refusal : (c : Columns) (count : ℕ) (output : List ℕ) (q e : ℕ) → writtenAnswer c count output .result ≡ Writing.Refused q e → Refusal 4 17 count q e
+unfolding writtenAnswer
+write-refusal c count output q e x = go (columnsAnswer c count) refl x
+  where
+    room : columnsAnswer c count ≡ Checked.Readable → (y : Bool) → cond y (answered (Writing.Written (length (fileOf (history c count)))) (over (fileOf (history c count)) output)) (answered (Writing.Refused 15 count) output) .result ≡ Writing.Refused q e
+        → Refusal 4 17 count q e
+    room w true k = let z : _≡_ {A = ℕ} 0 1 = cc in absurd (omega arith)
+    room w false k =
+        let a : 15 ≡ q = cc in
+        let b : count ≡ e = cc in
+        let l = readable-most (history c count) (columns-readable c count w .1) in
+        record { number = record { least = omega arith; most = omega arith }; place = inl (omega (arith, history-length c count)) }
+
+    go : (v : Checked) → columnsAnswer c count ≡ v → written c count output v .result ≡ Writing.Refused q e → Refusal 4 17 count q e
+    go Checked.Readable w k = room w (leb (length (fileOf (history c count))) (length output)) k
+    go (Checked.Refused p i) w k =
+        let a : p ≡ q = cc in
+        let b : i ≡ e = cc in
+        columns-number c count q e (w ∙ ap₂ (λ (x y : ℕ). Checked.Refused x y) a b)
+
+pub find-refusal : (c : Columns) (count prefix room q e : ℕ) → findRefusal c count prefix room ≡ Checked.Refused q e → Refusal 4 32 count q e
+unfolding findRefusal prefixRefusal all _and_
+find-refusal c count prefix room q e x =
+    ⊎-elim
+    (λ a. widen (omega arith) (omega arith) (first-number count _ refl q e a))
+    (λ a.
+    ⊎-elim
+    (λ b. widen (omega arith) (omega arith) (events-number (history c count) count q e b))
+    (λ b. late-number 4 32 c count _ refl (answer-readable (history c count) (b .0)) q e (b .1))
+    (then-cases _ _ q e (a .1)))
+    (then-cases _ _ q e x)
+
+-- the length of a marking: its transactions are at most 10, and its store reads at most as many as the events
+pub marking-fits : (c : Columns) (count prefix : ℕ) (output : List ℕ) (n : ℕ) → foundAnswer c count prefix output .result ≡ Found.Marking n → n ≤ most
+unfolding foundAnswer
+marking-fits c count prefix output n x =
+    let h : List Event = take prefix (history c count) in
+    let a = marking-e _ _ output n x in
+    let p = passed c count prefix (length output) (a .passes) in
+    let i : prefix ≤ length (history c count) = omega (arith, p .inside, history-length c count) in
+    let r : readable h ≡ true = readable-take (history c count) prefix i (p .readable) in
+    let j = marking-some (λ y. 0) h (a .found) in
+    let o = lowest-some (λ y. 0) h r (j .0) .0 (j .1) in
+    let s : length (a .bytes) ≡ markingSize h = ap length (j .2) ∙ room-is h (j .0) (places-are-n (begins h) (j .0) (o .justifies .order)) in
+    omega (arith, a .size, s, p .few, reads-low h r)
+
+pub scan-refusal : (c : Columns) (count q e : ℕ) → scanAnswer c count ≡ Judgement.Refused q e → Refusal 4 32 count q e
+unfolding scanAnswer scanRefusal sizeRefusal all _and_
+scan-refusal c count q e x =
+    ⊎-elim
+    (λ a. widen (omega arith) (omega arith) (columns-number c count q e a))
+    (λ a. late-number 4 32 c count _ refl (columns-readable c count (a .0) .1) q e (a .1))
+    (then-cases _ _ q e (unscanned-e _ _ q e x))
+
+pub faulted-fits : (c : Columns) (count e w : ℕ) → scanAnswer c count ≡ Judgement.Scanned (Scanned.Faulted e w) → e ≤ most
+unfolding scanAnswer
+faulted-fits c count e w x =
+    let p = scanned-e _ _ _ x .0 in
+    let f = faulted-exactly c count p e w .0 x in
+    omega (arith, f .inside, readable-most (history c count) (scan-passed c count p .readable))
+
+pub check-history : (c : Columns) (count : ℕ) (file : List ℕ) (q e : ℕ) → verdictAnswer c count file ≡ Judged.HistoryRefused q e → Refusal 4 17 count q e
+unfolding verdictAnswer
+check-history c count file q e x = columns-number c count q e (history-refused zeros c count file q e .0 x)
+
+pub check-marking : (c : Columns) (count : ℕ) (file : List ℕ) (q b : ℕ) → verdictAnswer c count file ≡ Judged.MarkingRefused q b → MarkingNumber q × (b ≤ 32768)
+unfolding verdictAnswer answerFrom
+check-marking c count file q b x = go (columnsAnswer c count) x
+  where
+    read : (y : FileRead) → fileRead (known (history c count)) file ≡ y → ruled zeros (history c count) y ≡ Judged.MarkingRefused q b → MarkingNumber q × (b ≤ 32768)
+    read (content m) w k = let z : _≡_ {A = ℕ} 0 1 = cc in absurd (omega arith)
+    read (refused p i) w k =
+        let a : p ≡ q = cc in
+        let d : i ≡ b = cc in
+        marking-number (known (history c count)) file q b (w ∙ ap₂ (λ (x y : ℕ). refused x y) a d)
+
+    go : (y : Checked) → afterColumns zeros (history c count) file y ≡ Judged.MarkingRefused q b → MarkingNumber q × (b ≤ 32768)
+    go Checked.Readable k = read (fileRead (known (history c count)) file) refl k
+    go (Checked.Refused p i) k = let z : _≡_ {A = ℕ} 0 1 = cc in absurd (omega arith)
+
+pub count-refusal : (c : Columns) (count n q e : ℕ) → counted (columnsAnswer c count) n ≡ Counting.Refused q e → Refusal 4 17 count q e
+count-refusal c count n q e x = go (columnsAnswer c count) refl x
+  where
+    go : (y : Checked) → columnsAnswer c count ≡ y → counted y n ≡ Counting.Refused q e → Refusal 4 17 count q e
+    go Checked.Readable w k = let z : _≡_ {A = ℕ} 0 1 = cc in absurd (omega arith)
+    go (Checked.Refused p i) w k =
+        let a : p ≡ q = cc in
+        let b : i ≡ e = cc in
+        columns-number c count q e (w ∙ ap₂ (λ (x y : ℕ). Checked.Refused x y) a b)
+
+pub count-readable : (c : Columns) (count n m : ℕ) → counted (columnsAnswer c count) n ≡ Counting.Counted m → (readable (history c count) ≡ true) × (n ≡ m)
+count-readable c count n m x = go (columnsAnswer c count) refl x
+  where
+    go : (y : Checked) → columnsAnswer c count ≡ y → counted y n ≡ Counting.Counted m → (readable (history c count) ≡ true) × (n ≡ m)
+    go Checked.Readable w k = let e : n ≡ m = cc in (columns-readable c count w .1, e)
+    go (Checked.Refused p i) w k = let z : _≡_ {A = ℕ} 0 1 = cc in absurd (omega arith)

@@ -1,0 +1,27 @@
+-- `exports::sendoshi_check` meets its contract.
+-- Assumes nothing.
+use mathlib.Core.Path.{ap, _∙_}
+use Rattle.events.specs.Columns.{columns}
+use denote.Ref.{now}
+use Rattle.exports.specs.Codes.{checkCode}
+use Rattle.exports.specs.Calls.{checkCall}
+use Rattle.exports.proofs.Bounds.{check-known}
+use borrow.Author.Needs.{needs}
+use Rattle.exports.proofs.sendoshi_check.Statement.{statement}
+use Rattle.exports.proofs.sendoshi_check.Tie as tie
+
+check-marking-requires : tie.Need-check-marking-requires
+check-marking-requires c κs = search needs
+
+check-code-requires : tie.Need-check-code-requires
+check-code-requires c κs =
+    let start = c .before .before .before .before .before .before in
+    let cs = columns (now (start .args .kinds)) (now (start .args .transactions)) (now (start .args .registers)) (now (start .args .values)) in
+    check-known cs (start .args .count) (now (start .args .file)) _ (c .check-marking .ensures)
+
+returns : tie.Need-returns
+unfolding checkCall
+returns c = c .check-code .ensures ∙ ap checkCode (c .before .check-marking .ensures)
+
+pub sendoshi-check-spec : {M : Type 1} → statement M
+sendoshi-check-spec = tie.close (tie.spec check-marking-requires check-code-requires returns)

@@ -1,0 +1,105 @@
+-- Every answer as one number, a code and a place. Code 0 is done, 1 to 99 the paper's number of the question that says no, 100 none,
+-- 101 to 104 the causes, 201 to 205 the rules A to E.
+-- Assumes nothing.
+use mathlib.Core.Path.{_≡_}
+use Prim.Native.Nat.{ℕ, _+_, _*_, _/_, _%_, _≤_, _<_, min}
+use Rattle.reader.specs.declared.Reading.{Reading}
+use Rattle.writer.specs.declared.Writing.{Writing}
+use Rattle.finder.specs.declared.Found.{Found}
+use Rattle.opacity.specs.declared.verdict.Rule.{Rule}
+use Rattle.opacity.specs.declared.verdict.Verdict.{Verdict}
+use Rattle.opacity.specs.declared.verdict.Scanned.{Scanned}
+use Rattle.opacity.specs.Marking.{ruleNumber}
+use Rattle.scan.specs.declared.Judgement.{Judgement}
+use Rattle.marking.specs.declared.check.Judged.{Judged}
+use Rattle.counts.specs.declared.Counting.{Counting}
+
+-- the largest place that is told, 2^32 − 1: a larger one is told as this
+abbrev pub most : ℕ
+most = 4294967295
+
+-- code × 2^32 + place
+unfoldable pub packed : ℕ → ℕ → ℕ
+packed code place = code * 4294967296 + min place most
+
+-- the event count, or the byte
+unfoldable pub readCode : Reading → ℕ
+readCode (Reading.Read n) = packed 0 n
+readCode (Reading.Refused q byte) = packed q byte
+
+-- the length, or the event
+unfoldable pub writtenCode : Writing → ℕ
+writtenCode (Writing.Written n) = packed 0 n
+writtenCode (Writing.Refused q e) = packed q e
+
+unfoldable pub foundCode : Found → ℕ
+foundCode (Found.Marking n) = packed 0 n
+foundCode Found.None = packed 100 0
+foundCode (Found.Refused q e) = packed q e
+
+-- the cause, and the event that faults the history
+unfoldable pub scannedCode : Scanned → ℕ
+scannedCode Scanned.Opaque = packed 0 0
+scannedCode (Scanned.Faulted e w) = packed (100 + w) e
+
+unfoldable pub scanCode : Judgement → ℕ
+scanCode (Judgement.Scanned s) = scannedCode s
+scanCode (Judgement.Refused q e) = packed q e
+
+-- the place of a broken rule: event × 65,536 + transaction
+unfoldable pub brokenPlace : ℕ → ℕ → ℕ
+brokenPlace e t = e * 65536 + t
+
+unfoldable pub verdictCode : Verdict → ℕ
+verdictCode Verdict.Accepted = packed 0 0
+verdictCode (Verdict.Broken r e t) = packed (200 + ruleNumber r) (brokenPlace e t)
+
+-- the event of the history's question, the byte of the marking's
+unfoldable pub checkCode : Judged → ℕ
+checkCode (Judged.Ruled v) = verdictCode v
+checkCode (Judged.HistoryRefused q e) = packed q e
+checkCode (Judged.MarkingRefused q byte) = packed q byte
+
+-- the number counted, or the event
+unfoldable pub countCode : Counting → ℕ
+countCode (Counting.Counted n) = packed 0 n
+countCode (Counting.Refused q e) = packed q e
+
+-- ---- what is known of an answer before it is told
+
+-- a cause is 1 to 4
+pub record Cause (w : ℕ) : Type 0 where
+  pub least : 1 ≤ w
+  pub most : w ≤ 4
+
+abbrev pub CauseKnown : Scanned → Type 0
+CauseKnown s = (e w : ℕ) → s ≡ Scanned.Faulted e w → Cause w
+
+-- a broken rule's event and transaction are those of a readable history
+pub record Named (e t : ℕ) : Type 0 where
+  pub event : e < 2048
+  pub transaction : t < 64
+
+abbrev pub NamesKnown : Verdict → Type 0
+NamesKnown v = (r : Rule) (e t : ℕ) → v ≡ Verdict.Broken r e t → Named e t
+
+abbrev pub ScanKnown : Judgement → Type 0
+ScanKnown j = (s : Scanned) → j ≡ Judgement.Scanned s → CauseKnown s
+
+abbrev pub CheckKnown : Judged → Type 0
+CheckKnown j = (v : Verdict) → j ≡ Judged.Ruled v → NamesKnown v
+
+-- ---- from a number back to what it tells, as a caller does it (include/sendoshi.h)
+
+abbrev pub codeOf : ℕ → ℕ
+codeOf n = n / 4294967296
+
+abbrev pub placeOf : ℕ → ℕ
+placeOf n = n % 4294967296
+
+-- of a broken rule's number
+abbrev pub eventOf : ℕ → ℕ
+eventOf n = placeOf n / 65536
+
+abbrev pub transactionOf : ℕ → ℕ
+transactionOf n = placeOf n % 65536

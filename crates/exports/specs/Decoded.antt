@@ -1,0 +1,53 @@
+-- From a number back to the answer, as a caller takes it apart (include/sendoshi.h).
+-- Assumes nothing.
+use Prim.Native.Nat.{ℕ, _-_}
+use mathlib.Core.Bool.{cond}
+use lib.Dec.{eqb, ltb}
+use Rattle.reader.specs.declared.Reading.{Reading}
+use Rattle.writer.specs.declared.Writing.{Writing}
+use Rattle.finder.specs.declared.Found.{Found}
+use Rattle.opacity.specs.declared.verdict.Rule.{Rule}
+use Rattle.opacity.specs.declared.verdict.Verdict.{Verdict}
+use Rattle.opacity.specs.declared.verdict.Scanned.{Scanned}
+use Rattle.scan.specs.declared.Judgement.{Judgement}
+use Rattle.marking.specs.declared.check.Judged.{Judged}
+use Rattle.counts.specs.declared.Counting.{Counting}
+use Rattle.exports.specs.Codes.{codeOf, placeOf, eventOf, transactionOf}
+
+unfoldable pub readingOf : ℕ → Reading
+readingOf n = cond (eqb (codeOf n) 0) (Reading.Read (placeOf n)) (Reading.Refused (codeOf n) (placeOf n))
+
+unfoldable pub writingOf : ℕ → Writing
+writingOf n = cond (eqb (codeOf n) 0) (Writing.Written (placeOf n)) (Writing.Refused (codeOf n) (placeOf n))
+
+unfoldable pub foundOf : ℕ → Found
+foundOf n =
+    cond (eqb (codeOf n) 0) (Found.Marking (placeOf n))
+    (cond (eqb (codeOf n) 100) Found.None
+    (Found.Refused (codeOf n) (placeOf n)))
+
+unfoldable pub judgementOf : ℕ → Judgement
+judgementOf n =
+    cond (eqb (codeOf n) 0) (Judgement.Scanned Scanned.Opaque)
+    (cond (ltb 100 (codeOf n)) (Judgement.Scanned (Scanned.Faulted (placeOf n) (codeOf n - 100)))
+    (Judgement.Refused (codeOf n) (placeOf n)))
+
+abbrev pub ruleOf : ℕ → Rule
+ruleOf code =
+    cond (eqb code 201) Rule.A
+    (cond (eqb code 202) Rule.B
+    (cond (eqb code 203) Rule.C
+    (cond (eqb code 204) Rule.D
+    Rule.E)))
+
+-- 4 to 17 are asked of the events, 1, 2 and 21 to 29 of the marking
+unfoldable pub judgedOf : ℕ → Judged
+judgedOf n =
+    cond (eqb (codeOf n) 0) (Judged.Ruled Verdict.Accepted)
+    (cond (ltb 200 (codeOf n)) (Judged.Ruled (Verdict.Broken (ruleOf (codeOf n)) (eventOf n) (transactionOf n)))
+    (cond (ltb (codeOf n) 3) (Judged.MarkingRefused (codeOf n) (placeOf n))
+    (cond (ltb (codeOf n) 21) (Judged.HistoryRefused (codeOf n) (placeOf n))
+    (Judged.MarkingRefused (codeOf n) (placeOf n)))))
+
+unfoldable pub countingOf : ℕ → Counting
+countingOf n = cond (eqb (codeOf n) 0) (Counting.Counted (placeOf n)) (Counting.Refused (codeOf n) (placeOf n))

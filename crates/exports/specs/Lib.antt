@@ -1,0 +1,4 @@
+pub mod Codes
+pub mod Calls
+pub mod Decoded
+pub mod Classes

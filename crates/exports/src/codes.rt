@@ -1,0 +1,144 @@
+// Every answer as one number, code × 2^32 + place. A place of 2^32 or more is told as 2^32 − 1, so
+// that it never spills into the code. Each function gives the number that specs/Codes gives for its
+// answer. Required: a cause is 1 to 4, and a broken rule names an event below 2,048 and a transaction
+// below 64; proofs/Bounds shows that of every answer of scan and checker.
+ghost use mathlib.Core.Path.{_≡_};
+ghost use Prim.Native.Nat.{_+_, min};
+ghost use Rattle.opacity.specs.Marking.{ruleNumber};
+ghost use Rattle.exports.specs.Codes.{most, packed, readCode, writtenCode, foundCode, scannedCode, scanCode, verdictCode, checkCode, countCode, CauseKnown, NamesKnown, ScanKnown, CheckKnown};
+use counts::Counting;
+use finder::Found;
+use marking::check::Judged;
+use opacity::verdict::Rule;
+use opacity::verdict::Scanned;
+use opacity::verdict::Verdict;
+use reader::Reading;
+use scan::Judgement;
+use writer::Writing;
+
+// What a code is multiplied by.
+const SHIFT: u64 = 4294967296;
+
+// The largest place that is told.
+const MOST: usize = 4294967295;
+
+// A place, or the largest that is told.
+fn told(place: usize) -> u64
+    ensures { λ r. ⌜ r ≡ min place most ⌝ }
+{
+    if place > MOST {
+        return MOST as u64;
+    }
+    place as u64
+}
+
+// A code and a place as one number.
+fn pack(code: u32, place: usize) -> u64
+    ensures { λ r. ⌜ r ≡ packed code place ⌝ }
+{
+    let low = told(place);
+    (code as u64) * SHIFT + low
+}
+
+// The rules' codes.
+fn rule_code(rule: Rule) -> u32
+    ensures { λ r. ⌜ r ≡ 200 + ruleNumber rule ⌝ }
+{
+    match rule {
+        Rule::A => 201,
+        Rule::B => 202,
+        Rule::C => 203,
+        Rule::D => 204,
+        Rule::E => 205,
+    }
+}
+
+// The reader's answer.
+pub fn read_code(answer: Reading) -> u64
+    ensures { λ r. ⌜ r ≡ readCode answer ⌝ }
+{
+    match answer {
+        Reading::Read(count) => pack(0, count),
+        Reading::Refused { question, byte } => pack(question as u32, byte),
+    }
+}
+
+// The writer's answer.
+pub fn written_code(answer: Writing) -> u64
+    ensures { λ r. ⌜ r ≡ writtenCode answer ⌝ }
+{
+    match answer {
+        Writing::Written(length) => pack(0, length),
+        Writing::Refused { question, event } => pack(question as u32, event),
+    }
+}
+
+// The finder's answer.
+pub fn found_code(answer: Found) -> u64
+    ensures { λ r. ⌜ r ≡ foundCode answer ⌝ }
+{
+    match answer {
+        Found::Marking(length) => pack(0, length),
+        Found::None => pack(100, 0),
+        Found::Refused { question, event } => pack(question as u32, event),
+    }
+}
+
+// What the scan of a history says.
+fn scanned_code(scanned: Scanned) -> u64
+    requires { ⌜ CauseKnown scanned ⌝ }
+    ensures { λ r. ⌜ r ≡ scannedCode scanned ⌝ }
+{
+    match scanned {
+        Scanned::Opaque => pack(0, 0),
+        Scanned::Faulted { event, cause } => pack(100 + cause, event),
+    }
+}
+
+// The scan's answer.
+pub fn scan_code(answer: Judgement) -> u64
+    requires { ⌜ ScanKnown answer ⌝ }
+    ensures { λ r. ⌜ r ≡ scanCode answer ⌝ }
+{
+    match answer {
+        Judgement::Scanned(scanned) => scanned_code(scanned),
+        Judgement::Refused { question, event } => pack(question as u32, event),
+    }
+}
+
+// The verdict of the rules: the place holds the event and the transaction.
+fn verdict_code(verdict: Verdict) -> u64
+    requires { ⌜ NamesKnown verdict ⌝ }
+    ensures { λ r. ⌜ r ≡ verdictCode verdict ⌝ }
+{
+    match verdict {
+        Verdict::Accepted => pack(0, 0),
+        Verdict::Broken {
+            rule,
+            event,
+            transaction,
+        } => pack(rule_code(rule), event * 65536 + transaction),
+    }
+}
+
+// The checker's answer.
+pub fn check_code(answer: Judged) -> u64
+    requires { ⌜ CheckKnown answer ⌝ }
+    ensures { λ r. ⌜ r ≡ checkCode answer ⌝ }
+{
+    match answer {
+        Judged::Ruled(verdict) => verdict_code(verdict),
+        Judged::HistoryRefused { question, event } => pack(question as u32, event),
+        Judged::MarkingRefused { question, byte } => pack(question as u32, byte),
+    }
+}
+
+// The answer of a count.
+pub fn count_code(answer: Counting) -> u64
+    ensures { λ r. ⌜ r ≡ countCode answer ⌝ }
+{
+    match answer {
+        Counting::Counted(number) => pack(0, number),
+        Counting::Refused { question, event } => pack(question as u32, event),
+    }
+}

@@ -1,0 +1,137 @@
+// The library that other programs call: numbers and slices only, and every answer as one u64,
+// code × 2^32 + place (include/sendoshi.h). Proved of each function, for every call: its result, in
+// every case of the answer, and every lent buffer afterwards, by one equation over specs/Calls.
+// Assumed of the caller, since no function can test it: each slice is a pointer that is good for its
+// length, and nothing else refers to what is written.
+ghost use mathlib.Core.Path.{_≡_};
+ghost use Rattle.events.specs.Columns.{columns};
+ghost use Rattle.exports.specs.Calls.{filled, put, readCall, writeCall, findCall, scanCall, checkCall, transactionsCall, storeReadsCall};
+
+mod codes;
+
+use crate::codes::check_code;
+use crate::codes::count_code;
+use crate::codes::found_code;
+use crate::codes::read_code;
+use crate::codes::scan_code;
+use crate::codes::written_code;
+
+// Reads a history's file into the columns: the event count, or the question and the byte.
+#[no_mangle]
+pub extern "C" fn sendoshi_read(
+    file: &[u8],
+    kinds: &mut [u16],
+    transactions: &mut [u16],
+    registers: &mut [u16],
+    values: &mut [u32],
+) -> u64
+    ensures { λ r. ⌜ filled r (columns (now (kinds .exit)) (now (transactions .exit)) (now (registers .exit)) (now (values .exit))) ≡ readCall (now (file .entry)) (columns (now (kinds .entry)) (now (transactions .entry)) (now (registers .entry)) (now (values .entry))) ⌝ }
+{
+    let answer = reader::read_history(file, kinds, transactions, registers, values);
+    read_code(answer)
+}
+
+// Writes the first `count` events as a file: its length, or the question and the event.
+#[no_mangle]
+pub extern "C" fn sendoshi_write(
+    kinds: &[u16],
+    transactions: &[u16],
+    registers: &[u16],
+    values: &[u32],
+    count: usize,
+    output: &mut [u8],
+) -> u64
+    ensures { λ r. ⌜ put r (now (output .exit)) ≡ writeCall (columns (now (kinds .entry)) (now (transactions .entry)) (now (registers .entry)) (now (values .entry))) count (now (output .entry)) ⌝ }
+{
+    let answer = writer::write_history(kinds, transactions, registers, values, count, output);
+    written_code(answer)
+}
+
+// Writes the lowest marking of the first `prefix` of the first `count` events: its length, or none, or
+// the question and the event.
+#[no_mangle]
+pub extern "C" fn sendoshi_find(
+    kinds: &[u16],
+    transactions: &[u16],
+    registers: &[u16],
+    values: &[u32],
+    count: usize,
+    prefix: usize,
+    output: &mut [u8],
+) -> u64
+    ensures { λ r. ⌜ put r (now (output .exit)) ≡ findCall (columns (now (kinds .entry)) (now (transactions .entry)) (now (registers .entry)) (now (values .entry))) count prefix (now (output .entry)) ⌝ }
+{
+    let answer = finder::find_marking(
+        kinds,
+        transactions,
+        registers,
+        values,
+        count,
+        prefix,
+        output,
+    );
+    found_code(answer)
+}
+
+// Judges the prefixes of the first `count` events: opaque, or the cause and the event, or the question
+// and the event.
+#[no_mangle]
+pub extern "C" fn sendoshi_scan(
+    kinds: &[u16],
+    transactions: &[u16],
+    registers: &[u16],
+    values: &[u32],
+    count: usize,
+) -> u64
+    ensures { λ r. ⌜ r ≡ scanCall (columns (now (kinds .entry)) (now (transactions .entry)) (now (registers .entry)) (now (values .entry))) count ⌝ }
+{
+    let answer = scan::scan_history(kinds, transactions, registers, values, count);
+    scan_code(answer)
+}
+
+// Checks a marking file against the first `count` events: accepted, or the rule with its event and
+// transaction, or the question with its event or byte.
+#[no_mangle]
+pub extern "C" fn sendoshi_check(
+    kinds: &[u16],
+    transactions: &[u16],
+    registers: &[u16],
+    values: &[u32],
+    count: usize,
+    file: &[u8],
+) -> u64
+    ensures { λ r. ⌜ r ≡ checkCall (columns (now (kinds .entry)) (now (transactions .entry)) (now (registers .entry)) (now (values .entry))) count (now (file .entry)) ⌝ }
+{
+    let answer = marking::check::check_marking(kinds, transactions, registers, values, count, file);
+    check_code(answer)
+}
+
+// How many transactions begin in the first `count` events, or the question and the event.
+#[no_mangle]
+pub extern "C" fn sendoshi_transactions(
+    kinds: &[u16],
+    transactions: &[u16],
+    registers: &[u16],
+    values: &[u32],
+    count: usize,
+) -> u64
+    ensures { λ r. ⌜ r ≡ transactionsCall (columns (now (kinds .entry)) (now (transactions .entry)) (now (registers .entry)) (now (values .entry))) count ⌝ }
+{
+    let answer = counts::count_transactions(kinds, transactions, registers, values, count);
+    count_code(answer)
+}
+
+// How many store reads the first `count` events have, or the question and the event.
+#[no_mangle]
+pub extern "C" fn sendoshi_store_reads(
+    kinds: &[u16],
+    transactions: &[u16],
+    registers: &[u16],
+    values: &[u32],
+    count: usize,
+) -> u64
+    ensures { λ r. ⌜ r ≡ storeReadsCall (columns (now (kinds .entry)) (now (transactions .entry)) (now (registers .entry)) (now (values .entry))) count ⌝ }
+{
+    let answer = counts::count_store_reads(kinds, transactions, registers, values, count);
+    count_code(answer)
+}
