@@ -8,3 +8,4 @@ pub mod StateLaws
 pub mod StepLaws
 pub mod CheckLaws
 pub mod ReadableLaws
+pub mod FieldLaws

@@ -1,17 +1,18 @@
 -- Laws of the tests and searches of `specs/Lists.antt`. Nothing here is about histories.
 -- Assumes nothing.
 use Prim.Native.Nat.{ℕ, zero, suc, _+_, _≤_, _<_}
-use native.Mathlib.Nat.{le-of-suc-le-suc, not-suc-le-zero, eq-or-lt-of-le, le-step, lt-suc-self, lt-irrefl, lt-of-not-le, add-zero}
+use native.Mathlib.Nat.{le-of-suc-le-suc, not-suc-le-zero, eq-or-lt-of-le, le-step, lt-suc-self, lt-of-not-le, add-zero}
 use native.Mathlib.Decide.{decLe}
 use native.Mathlib.Omega.{arith}
 use mathlib.Core.Path.{_≡_, refl, sym, ap, _∙_, subst}
-use mathlib.Core.Logic.{_⊎_, inl, inr, ⊎-elim}
+use mathlib.Core.Logic.{_⊎_, ⊎-elim}
 use mathlib.Core.Bool.{Bool, true, false, not, cond, true≢false, false≢true}
 use mathlib.Core.List.{List, [], _∷_, _++_}
 use mathlib.Core.Option.{Option, none, some, Option·none-ne-some, Option·some-ne-none, Option·some-injective}
 use lib.Dec.{eqb}
+use lib.ListN.{length, length-append}
 use borrow.Author.Tests.{eqb-true, eq-eqb}
-use Rattle.events.specs.Lists.{_and_, _or_, _implies_, orElse, isNone, any, all, push, keep, latest, every, lowest, lowestFrom, first}
+use Rattle.events.specs.Lists.{_and_, _or_, _implies_, orElse, isNone, any, all, push, keep, latest, every, lowest, lowestFrom, first, range}
 
 -- ---- tests. The two Bools are explicit, and a call writes `_` for each.
 
@@ -279,6 +280,11 @@ module _ {A : Type 0} where
   any-weaken p q [] f t = refl
   any-weaken p q (x ∷ xs) f t = nor-i _ _ (contra (q x) (p x) (f x) (nor-l _ _ t)) (any-weaken p q xs f (nor-r _ _ t))
 
+  pub all-weaken : (p q : A → Bool) (xs : List A) → ((x : A) → p x ≡ true → q x ≡ true) → all p xs ≡ true → all q xs ≡ true
+  unfolding all
+  all-weaken p q [] f t = refl
+  all-weaken p q (x ∷ xs) f t = and-i _ _ (f x (and-l _ _ t)) (all-weaken p q xs f (and-r _ _ t))
+
   pub none-append : (p : A → Bool) (xs ys : List A) → any p xs ≡ false → any p ys ≡ false → any p (xs ++ ys) ≡ false
   none-append p xs ys s t = any-append p xs ys ∙ nor-i _ _ s t
 
@@ -294,6 +300,15 @@ module _ {A : Type 0} where
   keep-append p [] ys = refl
   keep-append p (x ∷ xs) ys = ap (push (p x) x) (keep-append p xs ys) ∙ sym (push-append (p x) x (keep p xs) (keep p ys))
 
+  pub keep-length : (p : A → Bool) (xs : List A) → length (keep p xs) ≤ length xs
+  unfolding keep
+  keep-length p [] = omega arith
+  keep-length p (x ∷ xs) = go (p x) (keep-length p xs)
+    where
+      go : (b : Bool) → length (keep p xs) ≤ length xs → length (push b x (keep p xs)) ≤ suc (length xs)
+      go true l = omega arith
+      go false l = omega arith
+
   pub latest-append : {B : Type 0} (f : A → Option B) (xs ys : List A) → latest f (xs ++ ys) ≡ orElse (latest f ys) (latest f xs)
   unfolding latest
   latest-append f [] ys = sym (orElse-none (latest f ys))
@@ -304,3 +319,8 @@ module _ {A : Type 0} where
   pub latest-snoc : {B : Type 0} (f : A → Option B) (xs : List A) (x : A) → latest f (xs ++ (x ∷ [])) ≡ orElse (f x) (latest f xs)
   unfolding latest
   latest-snoc f xs x = latest-append f xs (x ∷ [])
+
+pub range-length : (n : ℕ) → length (range n) ≡ n
+unfolding range
+range-length zero = refl
+range-length (suc n) = omega (arith, length-append (range n) (n ∷ []), range-length n)

@@ -1,31 +1,26 @@
 -- The bytes of a marking, one place or point more.
 -- Assumes nothing.
 use mathlib.Core.Path.{_≡_, refl, sym, ap, ap₂, _∙_}
-use Prim.Native.Nat.{ℕ, suc, _+_, _*_, _-_, _/_, _%_, _≤_, _<_}
+use Prim.Native.Nat.{ℕ, suc, _+_, _*_, _/_, _%_, _≤_, _<_}
 use native.Mathlib.Numerals.{add-one}
 use native.Mathlib.Omega.{arith}
-use mathlib.Core.Bool.{Bool, true, false}
-use mathlib.Core.List.{List, [], _∷_, _++_, append-assoc}
+use mathlib.Core.Bool.{false}
+use mathlib.Core.List.{List, [], _∷_, _++_}
 use lib.ListN.{length, take, drop, getD, take-append-drop}
 use lib.Seq.{take-suc, take-take, drop-cons, getD-take, length-take-le}
-use lib.Dec.{eqb}
-use borrow.Author.Tests.{eqb-true, eqb-false, ne-eqb}
-use Rattle.events.specs.Lists.{_or_, any}
+use borrow.Author.Tests.{ne-eqb}
+use Rattle.events.specs.Lists.{any}
 use Rattle.opacity.specs.Justification.{Place, isOf, placed, before}
 use Rattle.opacity.specs.Marking.{placeOf}
 use Rattle.events.proofs.ListLaws.{nor-l, nor-r, nor-i}
+use Rattle.opacity.proofs.MarkingBytes.{outcome-back, flat-append, flat-length}
 use Rattle.opacity.proofs.Orders.{before-here}
 use Rattle.tables.specs.Order.{coded, decode}
 use Rattle.events.specs.Bytes as bytes
 use Rattle.events.specs.Bytes.{u16Bytes}
-use Rattle.opacity.specs.Marking.{outcomeNumber, placeBytes, flat}
+use Rattle.opacity.specs.Marking.{placeBytes, flat}
 use Rattle.tables.proofs.TreeLink.{decode-snoc, placed-snoc}
 use Rattle.finder.proofs.RunLaws.{placed-then}
-
-pub flat-append : {A : Type 0} (f : A → List ℕ) (xs ys : List A) → flat f (xs ++ ys) ≡ flat f xs ++ flat f ys
-unfolding flat
-flat-append f [] ys = refl
-flat-append f (x ∷ xs) ys = ap (λ (l : List ℕ). f x ++ l) (flat-append f xs ys) ∙ sym (append-assoc (f x) (flat f xs) (flat f ys))
 
 pub decode-append : (p q : List ℕ) → decode (p ++ q) ≡ decode p ++ decode q
 unfolding decode
@@ -37,21 +32,9 @@ unfolding decode
 decode-length [] = refl
 decode-length (c ∷ p) = ap suc (decode-length p)
 
-pub flat-places-length : (J : List Place) → length (flat placeBytes J) ≡ 8 * length J
-unfolding flat
-flat-places-length [] = refl
-flat-places-length (p ∷ J) = let i = flat-places-length J in omega arith
-
-outcome-code : (c : ℕ) → outcomeNumber (eqb (c % 2) 1) ≡ c % 2
-outcome-code c = go (eqb (c % 2) 1) refl
-  where
-    go : (b : Bool) → eqb (c % 2) 1 ≡ b → outcomeNumber b ≡ c % 2
-    go true e = sym (eqb-true (c % 2) 1 e)
-    go false e = let n : (c % 2 ≡ 1 → ⊥) = eqb-false (c % 2) 1 e in omega arith
-
 module _ (places : List ℕ) (size : length places ≡ 10) where
   pub places-length : (i : ℕ) → i ≤ 10 → length (flat placeBytes (decode (take i places))) ≡ 8 * i
-  places-length i l = flat-places-length (decode (take i places)) ∙ ap (λ (k : ℕ). 8 * k) (decode-length (take i places) ∙ length-take-le i places (omega arith))
+  places-length i l = flat-length placeBytes 8 (decode (take i places)) (λ p. refl) ∙ ap (λ (k : ℕ). 8 * k) (decode-length (take i places) ∙ length-take-le i places (omega arith))
 
   -- one place more in the buffer
   pub places-more : (d o o′ : List ℕ) (i code : ℕ) → i < 10 → 6 + 8 * i ≤ length d → code ≡ getD places i 0
@@ -66,7 +49,7 @@ module _ (places : List ℕ) (size : length places ≡ 10) where
       ap (λ (m : ℕ). decode (take m places)) (add-one i) ∙ ap decode (take-suc places i 0 (omega arith)) ∙ decode-snoc (take i places) (getD places i 0)
       ∙ ap (λ (m : ℕ). P ++ (coded m ∷ [])) (sym c) in
       let b : flat placeBytes (decode (take (i + 1) places)) ≡ flat placeBytes P ++ (u16Bytes 6 ++ u16Bytes 32 ++ u16Bytes (code / 2) ++ u16Bytes (code % 2)) =
-      ap (flat placeBytes) k ∙ flat-append placeBytes P (coded code ∷ []) ∙ ap (λ (m : ℕ). flat placeBytes P ++ (u16Bytes 6 ++ u16Bytes 32 ++ u16Bytes (code / 2) ++ u16Bytes m)) (outcome-code code) in
+      ap (flat placeBytes) k ∙ flat-append placeBytes P (coded code ∷ []) ∙ ap (λ (m : ℕ). flat placeBytes P ++ (u16Bytes 6 ++ u16Bytes 32 ++ u16Bytes (code / 2) ++ u16Bytes m)) (outcome-back (code % 2) (omega arith)) in
       placed-then d o o′ 6 (flat placeBytes P) (u16Bytes 6 ++ u16Bytes 32 ++ u16Bytes (code / 2) ++ u16Bytes (code % 2)) (6 + 8 * i) e f (omega arith) room
       ∙ ap (bytes.placed d 6) (sym b)
 

@@ -2,19 +2,17 @@
 -- Assumes nothing.
 use mathlib.Core.Path.{_≡_, refl, sym, ap, ap₂, _∙_}
 use mathlib.Core.Logic.{⊎-elim}
-use Prim.Native.Nat.{ℕ, zero, suc, _+_, _*_, _-_, _≤_, _<_}
+use Prim.Native.Nat.{ℕ, zero, suc, _+_, _*_, _≤_, _<_}
 use native.Mathlib.Nat.{le-refl, le-of-lt, le-of-suc-le-suc, eq-or-lt-of-le}
-use native.Mathlib.Decide.{decLe}
 use native.Mathlib.Numerals.{add-one}
 use native.Mathlib.Omega.{arith}
 use mathlib.Core.Bool.{Bool, true, false}
-use mathlib.Core.List.{List, [], _∷_, _++_, map}
+use mathlib.Core.List.{List, [], _∷_, _++_, map, map-append}
 use mathlib.Core.Option.{Option, none, some}
 use lib.ListN.{length, take, drop, getD, length-append}
 use lib.Dec.{eqb}
-use lib.Seq.{length-take-le}
 use Rattle.events.specs.Questions.{readable}
-use Rattle.events.proofs.QuestionLaws.{asked-at}
+use Rattle.events.proofs.ReadableLaws.{readable-most}
 use borrow.Author.Tests.{ne-eqb}
 use Rattle.events.specs.Lists.{_and_, isNone, push, keep, range}
 use Rattle.events.specs.declared.event.Event.{Event}
@@ -24,8 +22,9 @@ use Rattle.events.specs.Columns.{Columns, entry, history}
 use Rattle.opacity.specs.Counts.{ofKind}
 use Rattle.opacity.specs.Justification.{Place}
 use Rattle.opacity.specs.Marking.{Point, placeOf, marked}
-use Rattle.events.proofs.ListLaws.{keep-append}
+use Rattle.events.proofs.ListLaws.{keep-append, keep-length, range-length}
 use Rattle.events.proofs.ColumnLaws.{history-length, history-at, history-take}
+use Rattle.opacity.proofs.MarkingBytes.{flat-append}
 use Rattle.opacity.proofs.Prefixes.{store-read-at}
 use Rattle.tables.specs.declared.Tables.{Tables}
 use Rattle.tables.specs.Tables.{next, empty, goThrough, tablesOf}
@@ -38,13 +37,9 @@ use Rattle.tables.proofs.TableLaws.{tables-more}
 use Rattle.tables.proofs.Meaning.{Fine, plus, written-holds}
 use Rattle.tables.proofs.GoodHistory.{good}
 use Rattle.finder.proofs.RunLaws.{placed-then, placed-nothing}
-use Rattle.finder.proofs.MarkLaws.{flat-append, places-length}
+use Rattle.finder.proofs.MarkLaws.{places-length}
 
 -- ---- the points of the definition
-
-map-append : {A B : Type 0} (f : A → B) (xs ys : List A) → map f (xs ++ ys) ≡ map f xs ++ map f ys
-map-append f [] ys = refl
-map-append f (x ∷ xs) ys = ap (λ (l : List _). f x ∷ l) (map-append f xs ys)
 
 points-are : (store : ℕ → Bool) (gap : ℕ → ℕ) (n : ℕ)
     → flat pointBytes (map (λ i. record { event = i; gap = gap i }) (keep store (range n))) ≡ pointsTo store gap n
@@ -189,34 +184,7 @@ module _ (c : Columns) (n : ℕ) (places : List ℕ) (size : length places ≡ 1
       starts : (d xs : List ℕ) → bytes.placed d 0 xs ≡ over xs d
       starts d xs = let z : 0 + length xs ≡ length xs = omega arith in ap (λ (k : ℕ). xs ++ drop k d) z
 
--- a readable history has at most 2,048 events, and no more store reads
-pub events-low : (h : List Event) → readable h ≡ true → length h ≤ 2048
-events-low h r =
-    elim (decLe (length h) 2048) [
-      | yes x ↦ x
-      | no x ↦
-          let l : 2048 < length h = omega arith in
-          let q : length (take 2048 h) < 2048 = asked-at h r 2048 l .room in
-          absurd (omega (arith, length-take-le 2048 h (le-of-lt l)))
-    ]
-
-keep-le : {A : Type 0} (p : A → Bool) (xs : List A) → length (keep p xs) ≤ length xs
-unfolding keep
-keep-le p [] = le-refl 0
-keep-le p (x ∷ xs) = go (p x) (keep-le p xs)
-  where
-    go : (b : Bool) → length (keep p xs) ≤ length xs → length (push b x (keep p xs)) ≤ suc (length xs)
-    go true ih = omega arith
-    go false ih = omega arith
-
-range-length : (n : ℕ) → length (range n) ≡ n
-unfolding range
-range-length zero = refl
-range-length (suc n) = omega (arith, length-append (range n) (n ∷ []), range-length n)
-
+-- a readable history has at most 2,048 store reads
 pub reads-low : (h : List Event) → readable h ≡ true → length (storeReads h) ≤ 2048
 unfolding storeReads
-reads-low h r = omega (arith, keep-le (isStoreRead h) (range (length h)), range-length (length h), events-low h r)
-
-pub low-count : (c : Columns) (n : ℕ) → Judged c n → n ≤ 2048
-low-count c n j = rw (history-length c n) at (events-low (history c n) (j .readable))
+reads-low h r = omega (arith, keep-length (isStoreRead h) (range (length h)), range-length (length h), readable-most h r)

@@ -6,23 +6,26 @@ use native.Mathlib.Numerals.{add-one}
 use native.Mathlib.Omega.{arith}
 use mathlib.Core.Path.{_≡_, refl, sym, ap, _∙_}
 use mathlib.Core.Bool.{Bool, true, false, not, cond}
-use mathlib.Core.List.{List, [], _∷_, _++_}
+use mathlib.Core.List.{List}
 use mathlib.Core.Option.{Option, none, some, Option·getD}
 use lib.Dec.{eqb, ltb}
 use lib.ListN.{getD, set, replicate, length-set, getD-replicate, length-replicate}
 use lib.Seq.{getD-set-same, getD-set-other}
 use borrow.Author.Tests.{eqb-true, ne-eqb, eqb-false, lt-ltb, le-ltb}
 use Rattle.events.specs.declared.event.Event.{Event}
-use Rattle.events.specs.Lists.{_and_, _or_, any, orElse, keep, first, last, lowest}
-use Rattle.events.specs.Events.{eventAt, isBegin, isEnd, isCommit, isAbort, asksCommit, by, has, begins}
+use Rattle.events.specs.Lists.{_and_, _or_, any, orElse, first, last, lowest}
+use Rattle.events.specs.Events.{eventAt, isBegin, isEnd, isCommit, isAbort, asksCommit, by, has}
 use Rattle.events.specs.Columns.{Columns, entry, history}
-use Rattle.events.proofs.ListLaws.{any-append, or-false}
-use Rattle.events.proofs.ColumnLaws.{history-at, history-length, begins-snoc, begins-same}
+use Rattle.events.proofs.ListLaws.{or-false}
+use Rattle.events.proofs.ColumnLaws.{history-at, history-length}
+use Rattle.events.proofs.StateLaws.{has-snoc}
 use Rattle.opacity.specs.Transactions.{Status, committed, aborted, pending, live, status, precedes}
 use Rattle.opacity.specs.Marking.{lastEvent, beginOf}
+use Rattle.opacity.proofs.Snoc.{precedes-more}
 use Rattle.links.specs.declared.tables.Fact.{Fact}
 use Rattle.links.specs.declared.tables.Fact.the-variants.{LastEvent, LastBegin, FirstBegin, FirstEnd, Standing}
-use Rattle.links.specs.Tables.{ofKind, lastOne, firstOne, rank, standing, slotAt, slot, Slots, earlier, beginsIn}
+use Rattle.opacity.specs.Counts.{ofKind}
+use Rattle.links.specs.Tables.{lastOne, firstOne, rank, standing, slotAt, slot, Slots, earlier}
 
 -- ---- filling
 
@@ -52,34 +55,7 @@ module _ (f : Fact) (kinds transactions : List ℕ) where
           (ap (λ (x : ℕ). getD (set table t v) x 0) w ∙ getD-set-same table t v 0 (rw (h .size) b)) ∙ (q ∙ (s ∙ sym (slot-here u i d)))
       go u l false d = getD-set-other table t u v 0 (λ w. eqb-false _ _ d (sym e ∙ sym w)) ∙ (h .holds u l ∙ sym (slot-other u i d))
 
-pub begins-in-more : (kinds : List ℕ) (i : ℕ) → isBegin (ofKind (getD kinds i 0)) ≡ true → beginsIn kinds (i + 1) ≡ beginsIn kinds i + 1
-unfolding beginsIn
-begins-in-more kinds i e = rw (add-one i, e)
-
-pub begins-in-same : (kinds : List ℕ) (i : ℕ) → isBegin (ofKind (getD kinds i 0)) ≡ false → beginsIn kinds (i + 1) ≡ beginsIn kinds i
-unfolding beginsIn
-begins-in-same kinds i e = rw (add-one i, e)
-
-pub begins-in-le : (kinds : List ℕ) (n : ℕ) → beginsIn kinds n ≤ n
-unfolding beginsIn
-begins-in-le kinds zero = le-refl 0
-begins-in-le kinds (suc n) = go (isBegin (ofKind (getD kinds n 0))) (begins-in-le kinds n)
-  where
-    go : (b : Bool) → beginsIn kinds n ≤ n → cond b (beginsIn kinds n + 1) (beginsIn kinds n) ≤ suc n
-    go true l = omega arith
-    go false l = le-step l
-
 -- ---- what they say
-
-pub begins-table : (c : Columns) (n : ℕ) → beginsIn (c .kinds) n ≡ begins (history c n)
-unfolding beginsIn history isBegin begins keep
-begins-table c zero = refl
-begins-table c (suc n) = go (isBegin (entry c n)) refl (begins-table c n)
-  where
-    go : (b : Bool) → isBegin (entry c n) ≡ b → beginsIn (c .kinds) n ≡ begins (history c n)
-        → cond (isBegin (ofKind (getD (c .kinds) n 0))) (beginsIn (c .kinds) n + 1) (beginsIn (c .kinds) n) ≡ begins (history c n ++ (entry c n ∷ []))
-    go true e h = rw e (ap (λ (x : ℕ). x + 1) h ∙ sym (begins-snoc (history c n) (entry c n) e))
-    go false e h = rw e (h ∙ sym (begins-same (history c n) (entry c n) e))
 
 -- one less than the slot is the last event, and the first begin, with 0 for none
 module _ (c : Columns) (n t : ℕ) where
@@ -135,32 +111,6 @@ module _ (c : Columns) (n t : ℕ) where
       less : (o : Option ℕ) → up o - 1 ≡ Option·getD o 0
       less none = refl
       less (some k) = omega arith
-
-has-more : (p : Event → Bool) (t : ℕ) (h : List Event) (e : Event) → has p t (h ++ (e ∷ [])) ≡ (has p t h or by p t e)
-unfolding has any
-has-more p t h e = any-append (by p t) h (e ∷ []) ∙ ap (λ (b : Bool). any (by p t) h or b) (or-false (by p t e))
-
-joined : (x k b p q : Bool) → ((x and (k or b)) or (p or (q and b))) ≡ (((x and k) or p) or ((x or q) and b))
-unfolding _and_ _or_
-joined false k b p q = refl
-joined true true b p q = refl
-joined true false true true q = refl
-joined true false true false q = refl
-joined true false false true q = refl
-joined true false false false true = refl
-joined true false false false false = refl
-
-precedes-more : (h : List Event) (e : Event) (t u : ℕ) → precedes (h ++ (e ∷ [])) t u ≡ (precedes h t u or (has isEnd t h and by isBegin u e))
-unfolding precedes has any _or_ _and_
-precedes-more [] e t u = none (by isEnd t e)
-  where
-    none : (x : Bool) → ((x and false) or false) ≡ false
-    none true = refl
-    none false = refl
-precedes-more (d ∷ h) e t u =
-    ap (λ (b : Bool). (by isEnd t d and b) or precedes (h ++ (e ∷ [])) t u) (has-more isBegin u h e)
-    ∙ (ap (λ (b : Bool). (by isEnd t d and (has isBegin u h or by isBegin u e)) or b) (precedes-more h e t u)
-    ∙ joined (by isEnd t d) (has isBegin u h) (by isBegin u e) (precedes h t u) (has isEnd t h))
 
 first-le : (x m : ℕ) (a d : Bool) → x ≤ m → cond a (firstOne d m x) x ≤ suc m
 unfolding firstOne
@@ -249,7 +199,7 @@ module _ (c : Columns) where
   unfolding slot history by isEnd isCommit isAbort has any
   end-has t zero = refl
   end-has t (suc m) =
-      has-more isEnd t (history c m) (entry c m)
+      has-snoc isEnd (history c m) (entry c m) t
       ∙ (ap (λ (b : Bool). b or by isEnd t (entry c m)) (end-has t m)
       ∙ first-has (slot FirstEnd (c .kinds) (c .transactions) t m) m (eqb (getD (c .transactions) m 0) t) (isEnd (ofKind (getD (c .kinds) m 0))))
 
@@ -310,7 +260,7 @@ module _ (c : Columns) (t : ℕ) where
   ranks zero = refl
   ranks (suc m) =
       ap (λ (x : ℕ). cond (eqb (getD (c .transactions) m 0) t) (max x (standing (ofKind (getD (c .kinds) m 0)))) x) (ranks m)
-      ∙ sym (rw (has-more isCommit t (history c m) (entry c m), has-more isAbort t (history c m) (entry c m), has-more asksCommit t (history c m) (entry c m))
+      ∙ sym (rw (has-snoc isCommit (history c m) (entry c m) t, has-snoc isAbort (history c m) (entry c m) t, has-snoc asksCommit (history c m) (entry c m) t)
       (rank-more (has isCommit t (history c m)) (has isAbort t (history c m)) (has asksCommit t (history c m)) (isCommit (entry c m)) (isAbort (entry c m)) (asksCommit (entry c m)) (eqb (getD (c .transactions) m 0) t)))
 
   pub status-table : (m : ℕ) → slot Standing (c .kinds) (c .transactions) t m ≡ standingOf (status (history c m) t)

@@ -1,10 +1,10 @@
 -- Laws of the linked writes: how the links are filled and followed, and what is found there.
 -- Assumes nothing.
-use Prim.Native.Nat.{ℕ, zero, suc, _+_, _≤_, _<_}
+use Prim.Native.Nat.{ℕ, zero, suc, _+_, _-_, _≤_, _<_}
 use native.Mathlib.Nat.{not-suc-le-zero, le-refl, le-step}
 use native.Mathlib.Numerals.{add-one}
 use native.Mathlib.Omega.{arith}
-use mathlib.Core.Path.{_≡_, refl, sym, ap, _∙_}
+use mathlib.Core.Path.{_≡_, refl, sym, ap, _∙_, subst}
 use mathlib.Core.Logic.{⊎-elim}
 use mathlib.Core.Bool.{Bool, true, false, not, cond}
 use mathlib.Core.List.{List}
@@ -22,7 +22,8 @@ use Rattle.events.proofs.ColumnLaws.{history-at}
 use Rattle.opacity.specs.Transactions.{lastWrite, ownWrite, isOwnRead, isStoreRead, ownRight, isValue}
 use Rattle.opacity.proofs.Prefixes.{own-write-at}
 use Rattle.links.specs.declared.tables.Fact.the-variants.{LastWrite}
-use Rattle.links.specs.Tables.{ofKind, lastOne, slot}
+use Rattle.opacity.specs.Counts.{ofKind}
+use Rattle.links.specs.Tables.{lastOne, slot}
 use Rattle.links.specs.Writes.{Links, following, writeFrom, Linked, plusOne, ownBy, storeReadBy, agrees, ownRightBy, Reads}
 
 -- ---- filling
@@ -110,36 +111,41 @@ pub record Followed (registers values link : List ℕ) (n r : ℕ) (o : Option �
   pub enough : j ≤ left
   pub same : following registers values link r left j ≡ o
 
-module _ {registers values link : List ℕ} {n : ℕ} (y : Linked registers values link n) (r : ℕ) (o : Option ℕ) where
+module _ {registers values link : List ℕ} {n r : ℕ} {o : Option ℕ} (y : Linked registers values link n) where
   pub follow-start : (j : ℕ) → j ≤ n → writeFrom registers values link r j ≡ o → Followed registers values link n r o j
   follow-start j l e = record { low = l; left = j; enough = le-refl j; same = e }
 
-  pub follow-none : Followed registers values link n r o 0 → o ≡ none
+  pub follow-none : {j : ℕ} → Followed registers values link n r o j → j ≡ 0 → o ≡ none
   unfolding following
-  follow-none w = sym (w .same) ∙ go (w .left)
+  follow-none w z = sym (w .same) ∙ rw z (go (w .left))
     where
       go : (k : ℕ) → following registers values link r k 0 ≡ none
       go zero = refl
       go (suc k) = refl
 
-  pub follow-found : (e : ℕ) → Followed registers values link n r o (suc e) → eqb (getD registers e 0) r ≡ true → o ≡ some (getD values e 0)
-  unfolding following
-  follow-found e w q = sym (w .same) ∙ go (w .left) (w .enough)
-    where
-      go : (k : ℕ) → suc e ≤ k → following registers values link r k (suc e) ≡ some (getD values e 0)
-      go zero l = absurd (not-suc-le-zero l)
-      go (suc k) l = rw q
+  -- at one past an event
+  module _ {j : ℕ} (w : Followed registers values link n r o j) (some-left : j ≡ 0 → ⊥) where
+    here : Followed registers values link n r o (suc (j - 1))
+    here = let s : j ≡ suc (j - 1) = omega arith in subst (Followed registers values link n r o) s w
 
-  pub follow-next : (e : ℕ) → Followed registers values link n r o (suc e) → eqb (getD registers e 0) r ≡ false → Followed registers values link n r o (getD link e 0)
-  unfolding following
-  follow-next e w q = go (w .left) (w .enough) (w .same)
-    where
-      go : (k : ℕ) → suc e ≤ k → following registers values link r k (suc e) ≡ o → Followed registers values link n r o (getD link e 0)
-      go zero l s = absurd (not-suc-le-zero l)
-      go (suc k) l s =
-          let b = y .back e (w .low) in
-          let m = w .low in
-          record { low = omega arith; left = k; enough = omega arith; same = rw q at s }
+    pub follow-found : getD registers (j - 1) 0 ≡ r → o ≡ some (getD values (j - 1) 0)
+    unfolding following
+    follow-found q = sym (here .same) ∙ go (here .left) (here .enough)
+      where
+        go : (k : ℕ) → suc (j - 1) ≤ k → following registers values link r k (suc (j - 1)) ≡ some (getD values (j - 1) 0)
+        go zero l = absurd (not-suc-le-zero l)
+        go (suc k) l = rw (eq-eqb _ _ q)
+
+    pub follow-next : {next : ℕ} → next ≡ getD link (j - 1) 0 → (getD registers (j - 1) 0 ≡ r → ⊥) → Followed registers values link n r o next
+    unfolding following
+    follow-next {next} e q = subst (Followed registers values link n r o) (sym e) (go (here .left) (here .enough) (here .same))
+      where
+        go : (k : ℕ) → suc (j - 1) ≤ k → following registers values link r k (suc (j - 1)) ≡ o → Followed registers values link n r o (getD link (j - 1) 0)
+        go zero l s = absurd (not-suc-le-zero l)
+        go (suc k) l s =
+            let m = here .low in
+            let b = y .back (j - 1) m in
+            record { low = omega arith; left = k; enough = omega arith; same = rw (ne-eqb _ _ q) at s }
 
 -- ---- what is found
 

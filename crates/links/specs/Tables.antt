@@ -8,12 +8,9 @@ use lib.Dec.{eqb, ltb}
 use lib.ListN.{length, getD}
 use Rattle.events.specs.declared.event.Event.{Event}
 use Rattle.events.specs.Events.{isBegin, isWrite, isEnd, isCommit, isAbort, asksCommit}
+use Rattle.opacity.specs.Counts.{ofKind}
 use Rattle.links.specs.declared.tables.Fact.{Fact}
 use Rattle.links.specs.declared.tables.Fact.the-variants.{LastEvent, LastWrite, LastBegin, FirstBegin, FirstEnd, Standing}
-
--- an event of which only the kind is looked at
-abbrev pub ofKind : ℕ → Event
-ofKind k = record { kind = k; transaction = 0; register = 0; value = 0 }
 
 -- what stands after event i, where x stood before: one past the last event that passes, one past the first one, 0 for none
 unfoldable pub lastOne : Bool → ℕ → ℕ → ℕ
@@ -52,11 +49,6 @@ pub record Slots (f : Fact) (kinds transactions : List ℕ) (n : ℕ) (table : L
 -- an end comes before a begin, each as one past its event, with 0 for none
 unfoldable pub earlier : ℕ → ℕ → Bool
 earlier e b = cond (eqb e 0) false (ltb e b)
-
--- how many of the first n events begin a transaction
-unfoldable pub beginsIn : List ℕ → ℕ → ℕ
-beginsIn kinds zero = 0
-beginsIn kinds (suc i) = let x = beginsIn kinds i in cond (isBegin (ofKind (getD kinds i 0))) (x + 1) x
 
 -- n events, not too many, of transactions that have a slot
 pub record Tabled (kinds transactions : List ℕ) (n : ℕ) : Type 0 where

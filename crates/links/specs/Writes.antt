@@ -10,7 +10,8 @@ use lib.ListN.{length, getD}
 use Rattle.events.specs.Lists.{_and_, _implies_, isNone}
 use Rattle.events.specs.Events.{isRead}
 use Rattle.links.specs.declared.tables.Fact.the-variants.{LastWrite}
-use Rattle.links.specs.Tables.{ofKind, slot}
+use Rattle.opacity.specs.Counts.{ofKind}
+use Rattle.links.specs.Tables.{slot}
 
 -- each entry holds one past the last write of its event's transaction before that event, 0 for none
 pub record Links (kinds transactions : List ℕ) (n : ℕ) (link : List ℕ) : Type 0 where

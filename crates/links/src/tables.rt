@@ -1,10 +1,9 @@
 // Tables of one number for each transaction. Each is filled by going once through the events.
 ghost use mathlib.Core.Path.{_≡_};
-ghost use mathlib.Core.Bool.{Bool};
-ghost use Prim.Native.Nat.{ℕ, _+_, _≤_, _<_, max};
-ghost use lib.ListN.{length};
+ghost use Prim.Native.Nat.{_<_, max};
 ghost use Rattle.events.specs.Events.{isEnd};
-ghost use Rattle.links.specs.Tables.{ofKind, lastOne, firstOne, standing, slotAt, Slots, beginsIn, Tabled};
+ghost use Rattle.opacity.specs.Counts.{ofKind};
+ghost use Rattle.links.specs.Tables.{lastOne, firstOne, standing, slotAt, Slots, Tabled};
 use events::record::Record;
 
 // What a table tells of a transaction: one past an event, with 0 for none, or how far it has come.
@@ -100,20 +99,4 @@ pub fn table(kinds: &[u16], transactions: &[u16], count: usize, fact: Fact) -> [
         i += 1;
     }
     slots
-}
-
-// How many transactions begin.
-pub fn count_begins(kinds: &[u16], count: usize) -> usize
-    requires { ⌜ count ≤ length (now kinds) ⌝ }
-    ensures { λ r. ⌜ r ≡ beginsIn (now (kinds .entry)) count ⌝ }
-{
-    let mut begun: usize = 0;
-    let mut i: usize = 0;
-    while i < count {
-        if kinds[i] == Record::BEGIN {
-            begun += 1;
-        }
-        i += 1;
-    }
-    begun
 }

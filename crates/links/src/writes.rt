@@ -35,6 +35,31 @@ pub fn stored(x: u32) -> u64
     x as u64 + 1
 }
 
+// What was written last to r among the writes that are linked from one past an event on, plus 1,
+// with 0 for none.
+pub fn write_from(
+    registers: &[u16],
+    values: &[u32],
+    link: &[u16; 2048],
+    count: usize,
+    r: u16,
+    from: usize,
+) -> u64
+    requires { ⌜ Linked (now registers) (now values) (now link) count ⌝ }
+    requires { ⌜ from ≤ count ⌝ }
+    ensures { λ w. ⌜ w ≡ plusOne (writeFrom (now (registers .entry)) (now (values .entry)) (now (link .entry)) r from) ⌝ }
+{
+    let mut j = from;
+    while j != 0 {
+        let e = j - 1;
+        if registers[e] == r {
+            return stored(values[e]);
+        }
+        j = wide(link[e]);
+    }
+    0
+}
+
 // What the transaction of event i wrote last to its register before event i, plus 1, with 0 for
 // none: looks at the writes of that transaction alone.
 pub fn own_write(
@@ -48,16 +73,8 @@ pub fn own_write(
     requires { ⌜ i < count ⌝ }
     ensures { λ w. ⌜ w ≡ plusOne (ownBy (now (registers .entry)) (now (values .entry)) (now (link .entry)) i) ⌝ }
 {
-    let r = registers[i];
-    let mut j = wide(link[i]);
-    while j != 0 {
-        let e = j - 1;
-        if registers[e] == r {
-            return stored(values[e]);
-        }
-        j = wide(link[e]);
-    }
-    0
+    let from = wide(link[i]);
+    write_from(registers, values, link, count, registers[i], from)
 }
 
 fn is_store_read(

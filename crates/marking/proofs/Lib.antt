@@ -2,7 +2,8 @@ pub mod StepLaws
 pub mod SoundLaws
 pub mod WalkLaws
 pub mod CheckLaws
+pub mod ReadLaws
 pub mod ContentLaws
-pub mod ByteLaws
-pub mod FileLaws
+pub mod WriteBack
+pub mod ReadBack
 pub mod Theorems

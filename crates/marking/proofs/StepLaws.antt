@@ -82,6 +82,12 @@ refused≢pointed q t o e d = let z : _≡_ {A = ℕ} 0 1 = cc in omega arith
 placed≢pointed : (x y w t o e : ℕ) → Placed x y w ≡ Pointed t o e → ⊥
 placed≢pointed x y w t o e d = let z : _≡_ {A = ℕ} 0 1 = cc in omega arith
 
+-- a body that is answered with something other than a refusal has its size, and no question says no
+body-given : (b : Bool) (o : Option ℕ) (x y : Step) → ((q : ℕ) → Refused q ≡ y → ⊥) → cond b (unless o Refused x) (Refused 23) ≡ y → (b ≡ true) × (o ≡ none) × (x ≡ y)
+body-given true none x y n d = (refl, refl, d)
+body-given true (some q) x y n d = absurd (n q d)
+body-given false o x y n d = absurd (n 23 d)
+
 -- a record that gives a place: its body, and that no question says no
 pub record PlaceTold (a : Asked) (s : List ℕ) (at t o end : ℕ) : Type 0 where
   pub whole : Record
@@ -104,84 +110,70 @@ pub record PointTold (a : Asked) (s : List ℕ) (at e g end : ℕ) : Type 0 wher
   pub fine : refusal (pointQuestions (a .transactions) (a .nextEvent) (a .everyPlaced) (a .storeRead e) e g) ≡ none
 
 module _ (a : Asked) (s : List ℕ) (at : ℕ) where
+  abbrev placeAsked : Record → Option ℕ
+  placeAsked r = refusal (placeQuestions (a .transactions) (a .nextEvent) (a .placed (transactionIn (bodyOf s r))) (transactionIn (bodyOf s r)) (outcomeIn (bodyOf s r)))
+
+  abbrev placeGiven : Record → Step
+  placeGiven r = Placed (transactionIn (bodyOf s r)) (outcomeIn (bodyOf s r)) (r .start + r .size)
+
+  abbrev pointAsked : Record → Option ℕ
+  pointAsked r = refusal (pointQuestions (a .transactions) (a .nextEvent) (a .everyPlaced) (a .storeRead (eventIn (bodyOf s r))) (eventIn (bodyOf s r)) (gapIn (bodyOf s r)))
+
+  abbrev pointGiven : Record → Step
+  pointGiven r = Pointed (eventIn (bodyOf s r)) (gapIn (bodyOf s r)) (r .start + r .size)
+
   placed-told-body : (r : Record) (t o end : ℕ) → recordAt s at ≡ Whole r → isPlace (r .kind) ≡ true
       → placeStep (a .transactions) (a .nextEvent) (a .placed) (bodyOf s r) (r .start + r .size) ≡ Placed t o end → PlaceTold a s at t o end
   unfolding placeStep
-  placed-told-body r t o end w k d = go (eqb (length (bodyOf s r)) 4) refl d
-    where
-      inner : (f : Option ℕ) → eqb (length (bodyOf s r)) 4 ≡ true
-          → refusal (placeQuestions (a .transactions) (a .nextEvent) (a .placed (transactionIn (bodyOf s r))) (transactionIn (bodyOf s r)) (outcomeIn (bodyOf s r))) ≡ f
-          → unless f Refused (Placed (transactionIn (bodyOf s r)) (outcomeIn (bodyOf s r)) (r .start + r .size)) ≡ Placed t o end → PlaceTold a s at t o end
-      inner none l q d =
-          let x : transactionIn (bodyOf s r) ≡ t = cc in
-          let y : outcomeIn (bodyOf s r) ≡ o = cc in
-          let z : r .start + r .size ≡ end = cc in
-          record {
-            whole = r;
-            there = w;
-            kind = k;
-            size = eqb-true _ _ l;
-            first = x;
-            second = y;
-            ends = z;
-            fine = subst (λ (u : ℕ). refusal (placeQuestions (a .transactions) (a .nextEvent) (a .placed u) u o) ≡ none) x (subst (λ (v : ℕ). refusal (placeQuestions (a .transactions) (a .nextEvent) (a .placed (transactionIn (bodyOf s r))) (transactionIn (bodyOf s r)) v) ≡ none) y q);
-          }
-      inner (some q) l e d = absurd (refused≢placed q t o end d)
-
-      go : (b : Bool) → eqb (length (bodyOf s r)) 4 ≡ b
-          → cond b (unless (refusal (placeQuestions (a .transactions) (a .nextEvent) (a .placed (transactionIn (bodyOf s r))) (transactionIn (bodyOf s r)) (outcomeIn (bodyOf s r)))) Refused (Placed (transactionIn (bodyOf s r)) (outcomeIn (bodyOf s r)) (r .start + r .size))) (Refused 23) ≡ Placed t o end
-          → PlaceTold a s at t o end
-      go true l d = inner (refusal (placeQuestions (a .transactions) (a .nextEvent) (a .placed (transactionIn (bodyOf s r))) (transactionIn (bodyOf s r)) (outcomeIn (bodyOf s r)))) l refl d
-      go false l d = absurd (refused≢placed 23 t o end d)
+  placed-told-body r t o end w k d =
+      let g = body-given (eqb (length (bodyOf s r)) 4) (placeAsked r) (placeGiven r) (Placed t o end) (λ q. refused≢placed q t o end) d in
+      let same = g .2 in
+      let x : transactionIn (bodyOf s r) ≡ t = cc in
+      let y : outcomeIn (bodyOf s r) ≡ o = cc in
+      let z : r .start + r .size ≡ end = cc in
+      record {
+        whole = r;
+        there = w;
+        kind = k;
+        size = eqb-true _ _ (g .0);
+        first = x;
+        second = y;
+        ends = z;
+        fine = sym (λ i. refusal (placeQuestions (a .transactions) (a .nextEvent) (a .placed (x i)) (x i) (y i))) ∙ g .1;
+      }
 
   pointed-told-body : (r : Record) (t o end : ℕ) → recordAt s at ≡ Whole r → isPoint (r .kind) ≡ true
       → pointStep (a .transactions) (a .nextEvent) (a .everyPlaced) (a .storeRead) (bodyOf s r) (r .start + r .size) ≡ Pointed t o end → PointTold a s at t o end
   unfolding pointStep
-  pointed-told-body r t o end w k d = go (eqb (length (bodyOf s r)) 6) refl d
-    where
-      inner : (f : Option ℕ) → eqb (length (bodyOf s r)) 6 ≡ true
-          → refusal (pointQuestions (a .transactions) (a .nextEvent) (a .everyPlaced) (a .storeRead (eventIn (bodyOf s r))) (eventIn (bodyOf s r)) (gapIn (bodyOf s r))) ≡ f
-          → unless f Refused (Pointed (eventIn (bodyOf s r)) (gapIn (bodyOf s r)) (r .start + r .size)) ≡ Pointed t o end → PointTold a s at t o end
-      inner none l q d =
-          let x : eventIn (bodyOf s r) ≡ t = cc in
-          let y : gapIn (bodyOf s r) ≡ o = cc in
-          let z : r .start + r .size ≡ end = cc in
-          record {
-            whole = r;
-            there = w;
-            kind = k;
-            size = eqb-true _ _ l;
-            first = x;
-            second = y;
-            ends = z;
-            fine = subst (λ (u : ℕ). refusal (pointQuestions (a .transactions) (a .nextEvent) (a .everyPlaced) (a .storeRead u) u o) ≡ none) x (subst (λ (v : ℕ). refusal (pointQuestions (a .transactions) (a .nextEvent) (a .everyPlaced) (a .storeRead (eventIn (bodyOf s r))) (eventIn (bodyOf s r)) v) ≡ none) y q);
-          }
-      inner (some q) l e d = absurd (refused≢pointed q t o end d)
-
-      go : (b : Bool) → eqb (length (bodyOf s r)) 6 ≡ b
-          → cond b (unless (refusal (pointQuestions (a .transactions) (a .nextEvent) (a .everyPlaced) (a .storeRead (eventIn (bodyOf s r))) (eventIn (bodyOf s r)) (gapIn (bodyOf s r)))) Refused (Pointed (eventIn (bodyOf s r)) (gapIn (bodyOf s r)) (r .start + r .size))) (Refused 23) ≡ Pointed t o end
-          → PointTold a s at t o end
-      go true l d = inner (refusal (pointQuestions (a .transactions) (a .nextEvent) (a .everyPlaced) (a .storeRead (eventIn (bodyOf s r))) (eventIn (bodyOf s r)) (gapIn (bodyOf s r)))) l refl d
-      go false l d = absurd (refused≢pointed 23 t o end d)
+  pointed-told-body r t o end w k d =
+      let g = body-given (eqb (length (bodyOf s r)) 6) (pointAsked r) (pointGiven r) (Pointed t o end) (λ q. refused≢pointed q t o end) d in
+      let same = g .2 in
+      let x : eventIn (bodyOf s r) ≡ t = cc in
+      let y : gapIn (bodyOf s r) ≡ o = cc in
+      let z : r .start + r .size ≡ end = cc in
+      record {
+        whole = r;
+        there = w;
+        kind = k;
+        size = eqb-true _ _ (g .0);
+        first = x;
+        second = y;
+        ends = z;
+        fine = sym (λ i. refusal (pointQuestions (a .transactions) (a .nextEvent) (a .everyPlaced) (a .storeRead (x i)) (x i) (y i))) ∙ g .1;
+      }
 
   -- a place's record gives no point, and no end; nor the other way round
   place≢pointed : (r : Record) (t o end : ℕ) → placeStep (a .transactions) (a .nextEvent) (a .placed) (bodyOf s r) (r .start + r .size) ≡ Pointed t o end → ⊥
   unfolding placeStep
-  place≢pointed r t o end d = go (eqb (length (bodyOf s r)) 4) (refusal (placeQuestions (a .transactions) (a .nextEvent) (a .placed (transactionIn (bodyOf s r))) (transactionIn (bodyOf s r)) (outcomeIn (bodyOf s r)))) d
-    where
-      go : (b : Bool) (f : Option ℕ) → cond b (unless f Refused (Placed (transactionIn (bodyOf s r)) (outcomeIn (bodyOf s r)) (r .start + r .size))) (Refused 23) ≡ Pointed t o end → ⊥
-      go true none d = placed≢pointed _ _ _ t o end d
-      go true (some q) d = refused≢pointed q t o end d
-      go false f d = refused≢pointed 23 t o end d
+  place≢pointed r t o end d =
+      placed≢pointed (transactionIn (bodyOf s r)) (outcomeIn (bodyOf s r)) (r .start + r .size) t o end
+      (body-given (eqb (length (bodyOf s r)) 4) (placeAsked r) (placeGiven r) (Pointed t o end) (λ q. refused≢pointed q t o end) d .2)
 
   point≢placed : (r : Record) (t o end : ℕ) → pointStep (a .transactions) (a .nextEvent) (a .everyPlaced) (a .storeRead) (bodyOf s r) (r .start + r .size) ≡ Placed t o end → ⊥
   unfolding pointStep
-  point≢placed r t o end d = go (eqb (length (bodyOf s r)) 6) (refusal (pointQuestions (a .transactions) (a .nextEvent) (a .everyPlaced) (a .storeRead (eventIn (bodyOf s r))) (eventIn (bodyOf s r)) (gapIn (bodyOf s r)))) d
-    where
-      go : (b : Bool) (f : Option ℕ) → cond b (unless f Refused (Pointed (eventIn (bodyOf s r)) (gapIn (bodyOf s r)) (r .start + r .size))) (Refused 23) ≡ Placed t o end → ⊥
-      go true none d = placed≢pointed t o end _ _ _ (sym d)
-      go true (some q) d = refused≢placed q t o end d
-      go false f d = refused≢placed 23 t o end d
+  point≢placed r t o end d =
+      placed≢pointed t o end (eventIn (bodyOf s r)) (gapIn (bodyOf s r)) (r .start + r .size)
+      (sym (body-given (eqb (length (bodyOf s r)) 6) (pointAsked r) (pointGiven r) (Placed t o end) (λ q. refused≢placed q t o end) d .2))
 
   end≢placed : (p q : Bool) (t o e : ℕ) → endStep p q ≡ Placed t o e → ⊥
   unfolding endStep endQuestions refusal

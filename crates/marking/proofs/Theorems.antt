@@ -25,7 +25,8 @@ use Rattle.marking.specs.declared.check.Judged.the-variants.{Ruled, Hist
 use Rattle.marking.specs.File.{known, FileRead, content, refused, fileRead}
 use Rattle.marking.specs.Answer.{ruled, afterColumns, answerFrom, verdictAnswer}
 use Rattle.marking.proofs.ContentLaws.{content-readable}
-use Rattle.marking.proofs.FileLaws.{content-bytes, bytes-content}
+use Rattle.marking.proofs.ReadBack.{bytes-content}
+use Rattle.marking.proofs.WriteBack.{content-bytes}
 
 -- ---- the file
 

@@ -9,9 +9,7 @@ use Rattle.events.specs.declared.columns.Checked.the-variants.{Readable, Refuse
 use Rattle.events.specs.Columns.{Columns, history}
 use Rattle.events.specs.Questions.{columnsAnswer}
 use Rattle.opacity.specs.declared.verdict.Verdict.the-variants.{Accepted, Broken}
-use Rattle.opacity.specs.declared.verdict.Rule.{Rule}
-use Rattle.opacity.specs.declared.verdict.Rule.the-variants.{A, B, C, D, E}
-use Rattle.opacity.specs.Marking.{verdict}
+use Rattle.opacity.specs.Marking.{verdict, ruleNumber}
 use Rattle.rules.specs.Judge.{zeros}
 use Rattle.marking.specs.declared.check.Judged.{Judged}
 use Rattle.marking.specs.declared.check.Judged.the-variants.{Ruled, HistoryRefused, MarkingRefused}
@@ -43,13 +41,6 @@ pub record Said : Type 0 where
   pub rule : ℕ
   pub event : ℕ
   pub transaction : ℕ
-
-abbrev pub ruleNumber : Rule → ℕ
-ruleNumber A = 1
-ruleNumber B = 2
-ruleNumber C = 3
-ruleNumber D = 4
-ruleNumber E = 5
 
 abbrev pub said : Judged → Said
 said (Ruled Accepted) = record { accepted = true; question = 0; byte = 0; rule = 0; event = 0; transaction = 0 }

@@ -7,9 +7,9 @@ ghost use Rattle.marking.specs.Answer.{ruled, verdictAnswer};
 use crate::read::read_marking;
 use events::columns::Checked;
 use events::columns::check_columns;
-use links::tables::count_begins;
 use links::writes::links;
 use links::writes::store_reads;
+use opacity::counts::transactions_begun;
 use opacity::verdict::Verdict;
 use rules::judge::judge;
 
@@ -33,7 +33,7 @@ fn check_file(
     requires { ⌜ Ground (columns (now kinds) (now transactions) (now registers) (now values)) count ⌝ }
     ensures { λ r. ⌜ r ≡ ruled zeros (history (columns (now (kinds .entry)) (now (transactions .entry)) (now (registers .entry)) (now (values .entry))) count) (fileRead (known (history (columns (now (kinds .entry)) (now (transactions .entry)) (now (registers .entry)) (now (values .entry))) count)) (now (file .entry))) ⌝ }
 {
-    let begun = count_begins(kinds, count);
+    let begun = transactions_begun(kinds, transactions, registers, values, count);
     let link = links(kinds, transactions, count);
     let reads = store_reads(kinds, registers, values, &link, count);
     let reading = read_marking(&reads, count, begun, file);

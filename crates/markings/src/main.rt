@@ -56,28 +56,25 @@ fn show(label: &[u8], answer: Judged) {
     put(b"\n");
 }
 
-// H0, of which the first `count` events are given.
-fn h0(label: &[u8], count: usize, file: &[u8]) {
+// H0 with this value at event 9, of which the first `count` events are given.
+fn h0_with(label: &[u8], value: u32, count: usize, file: &[u8]) {
     let kinds = [16u16, 19, 20, 16, 17, 18, 21, 22, 17, 18];
     let transactions = [0u16, 0, 0, 1, 1, 1, 0, 0, 1, 1];
     let registers = [0u16, 3, 0, 1, 3, 3, 0, 0, 3, 3];
-    let values = [0u32, 7, 0, 0, 0, 0, 0, 0, 0, 0];
+    let values = [0u32, 7, 0, 0, 0, 0, 0, 0, 0, value];
     show(
         label,
         check_marking(&kinds, &transactions, &registers, &values, count, file),
     );
 }
 
+fn h0(label: &[u8], count: usize, file: &[u8]) {
+    h0_with(label, 0, count, file);
+}
+
 // H0 with 7 at event 9.
 fn h7(label: &[u8], file: &[u8]) {
-    let kinds = [16u16, 19, 20, 16, 17, 18, 21, 22, 17, 18];
-    let transactions = [0u16, 0, 0, 1, 1, 1, 0, 0, 1, 1];
-    let registers = [0u16, 3, 0, 1, 3, 3, 0, 0, 3, 3];
-    let values = [0u32, 7, 0, 0, 0, 0, 0, 0, 0, 7];
-    show(
-        label,
-        check_marking(&kinds, &transactions, &registers, &values, 10, file),
-    );
+    h0_with(label, 7, 10, file);
 }
 
 // T0 commits r0 := 1, then T1 begins and reads 0.
@@ -144,7 +141,8 @@ fn examples() {
     );
 }
 
-fn refusals() {
+// Questions of the first record and of every record: 2, 21, 22 and 23.
+fn record_refusals() {
     h0(
         b"2, a record cut short",
         10,
@@ -162,6 +160,10 @@ fn refusals() {
         10,
         b"\x04\x00\x02\x00\x01\x00\x04\x00\x20\x00\x01\x00",
     );
+}
+
+// Questions of a place: 24 and 25.
+fn place_refusals() {
     h0(
         b"24, T1 placed twice",
         10,
@@ -177,6 +179,10 @@ fn refusals() {
         10,
         b"\x04\x00\x02\x00\x01\x00\x06\x00\x20\x00\x01\x00\x02\x00",
     );
+}
+
+// Questions of a read point and of the end: 28, 26, 27 and 29.
+fn point_refusals() {
     h0(
         b"28, a read point before T0 is placed",
         10,
@@ -209,6 +215,8 @@ fn main() {
     examples();
     let long = [0u8; 32769];
     h0(b"1, a byte too many", 10, &long);
-    refusals();
+    record_refusals();
+    place_refusals();
+    point_refusals();
     h0(b"17, a count past the columns", 11, b"");
 }

@@ -17,16 +17,11 @@ use Rattle.events.specs.Events.{noEvent, eventAt, isBegin, isRead, isWrite, ask
 use Rattle.opacity.specs.Transactions.{precedes, status, committed, aborted, pending, live, allows}
 use Rattle.opacity.specs.Justification.{Place, isOf, placed, stop, before, outcome, isOrder, outcomeKept, preceded, realTimeKept, Justified}
 use Rattle.opacity.specs.Lowest.{place}
-use Rattle.events.proofs.ListLaws.{imp-e, and-l, and-r, and-i, and-false-l, and-false-r, imp-i, nor-i, nor-l, nor-r, or-l, or-r, clash, every-e, every-i, any-append, all-append, below-cases}
+use Rattle.events.proofs.ListLaws.{imp-e, and-l, and-r, and-i, and-false-l, and-false-r, imp-i, nor-i, nor-l, nor-r, or-l, or-r, clash, every-e, every-i, any-append, all-append, all-weaken, below-cases}
 use Rattle.opacity.proofs.Orders.{Fresh, before-here, no-outcome, distinct-snoc}
 use Rattle.opacity.proofs.Snoc.{or-none, has-quiet, status-snoc, contents-snoc, own-snoc, legal-snoc, precedes-snoc}
 use Rattle.events.proofs.ColumnLaws.{begins-snoc}
 use Rattle.events.proofs.QuestionLaws.{any-index}
-
-all-weaken : (p q : Place → Bool) (J : List Place) → ((x : Place) → p x ≡ true → q x ≡ true) → all p J ≡ true → all q J ≡ true
-unfolding all
-all-weaken p q [] f t = refl
-all-weaken p q (x ∷ J) f t = and-i _ _ (f x (and-l _ _ t)) (all-weaken p q J f (and-r _ _ t))
 
 fresh-above : (n : ℕ) (J : List Place) → all (λ p. ltb (p .transaction) n) J ≡ true → Fresh n J
 unfolding all placed any

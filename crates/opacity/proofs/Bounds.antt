@@ -41,8 +41,11 @@ module _ (h : List Event) (r : readable h ≡ true) where
   pub at-most-64 : begins h ≤ 64
   at-most-64 = rw (take-all (length h) h (le-refl (length h))) at (few (length h) (le-refl (length h)))
 
+  pub transaction-known : (i : ℕ) → i < length h → eventAt h i .transaction < begins h
+  transaction-known i l = omega (arith, begun h r i l, begins-take (suc i) h)
+
   pub transaction-low : (i : ℕ) → i < length h → eventAt h i .transaction < 64
-  transaction-low i l = omega (arith, begun h r i l, begins-take (suc i) h, at-most-64)
+  transaction-low i l = omega (arith, transaction-known i l, at-most-64)
 
 -- ---- registers
 

@@ -12,6 +12,7 @@ pub mod Rules
 pub mod Opacity
 pub mod Finder
 pub mod Contents
+pub mod MarkingBytes
 pub mod Serial
 pub mod LowestSerial
 pub mod EventKinds

@@ -14,8 +14,9 @@ use lib.ListN.{length, take, length-append, List·getD-append}
 use lib.Seq.{take-append-le, getD-append-seam}
 use Rattle.events.specs.Lists.{_and_, _or_, orElse, any, latest}
 use Rattle.events.specs.declared.event.Event.{Event}
-use Rattle.events.specs.Events.{noEvent, eventAt, isBegin, isRead, isWrite, asksCommit, isCommit, isAbort, by, has}
-use Rattle.events.proofs.ListLaws.{and-l, and-false-r, imp-i, nor-i, nor-l, nor-r, or-l, clash, any-append, latest-snoc, below-cases}
+use Rattle.events.specs.Events.{noEvent, eventAt, isBegin, isRead, isWrite, asksCommit, isCommit, isAbort, isEnd, by, has}
+use Rattle.events.proofs.ListLaws.{and-l, and-false-r, imp-i, nor-l, nor-r, or-l, clash, latest-snoc, below-cases}
+use Rattle.events.proofs.StateLaws.{has-snoc}
 use Rattle.opacity.specs.Transactions.{committed, aborted, pending, live, status, allows, precedes, lastWrite, ownWrite, isOwnRead, isStoreRead, ownRight}
 use Rattle.opacity.specs.Justification.{Place, before, written, contents, legalOver, legal}
 
@@ -26,17 +27,15 @@ or-none false b e = e
 
 module _ (h : List Event) (e : Event) where
   -- u has such an event with e if and only if without it, where e is none
-  pub has-snoc : (p : Event → Bool) (u : ℕ) → by p u e ≡ false → has p u (h ++ (e ∷ [])) ≡ has p u h
-  unfolding has any
-  has-snoc p u n = any-append (by p u) h (e ∷ []) ∙ or-none _ _ (nor-i _ _ n refl)
+  has-same : (p : Event → Bool) (u : ℕ) → by p u e ≡ false → has p u (h ++ (e ∷ [])) ≡ has p u h
+  has-same p u n = has-snoc p h e u ∙ or-none _ _ n
 
   pub has-quiet : (p : Event → Bool) (u : ℕ) → p e ≡ false → has p u (h ++ (e ∷ [])) ≡ has p u h
   unfolding by
-  has-quiet p u n = has-snoc p u (and-false-r _ _ n)
+  has-quiet p u n = has-same p u (and-false-r _ _ n)
 
   has-more : (p : Event → Bool) (u : ℕ) → has p u h ≡ true → has p u (h ++ (e ∷ [])) ≡ true
-  unfolding has
-  has-more p u t = any-append (by p u) h (e ∷ []) ∙ or-l _ _ t
+  has-more p u t = has-snoc p h e u ∙ or-l _ _ t
 
   -- an event that ends no transaction keeps the outcomes that are allowed
   pub status-snoc : (u : ℕ) (c : Bool) → isCommit e ≡ false → isAbort e ≡ false → allows (status h u) c ≡ true → allows (status (h ++ (e ∷ [])) u) c ≡ true
@@ -116,11 +115,29 @@ module _ (h : List Event) (e : Event) where
         (λ m. rw (store-read-old i m, event-old i m, alike i m) (store i m))
         (old-or-new i l)
 
+joined : (x k b p q : Bool) → ((x and (k or b)) or (p or (q and b))) ≡ (((x and k) or p) or ((x or q) and b))
+unfolding _and_ _or_
+joined false k b p q = refl
+joined true true b p q = refl
+joined true false true true q = refl
+joined true false true false q = refl
+joined true false false true q = refl
+joined true false false false true = refl
+joined true false false false false = refl
+
+-- t precedes u where it did, and where it has ended and u begins now
+pub precedes-more : (h : List Event) (e : Event) (t u : ℕ) → precedes (h ++ (e ∷ [])) t u ≡ (precedes h t u or (has isEnd t h and by isBegin u e))
+unfolding precedes has any _or_ _and_
+precedes-more [] e t u = none (by isEnd t e)
+  where
+    none : (x : Bool) → ((x and false) or false) ≡ false
+    none true = refl
+    none false = refl
+precedes-more (d ∷ h) e t u =
+    ap (λ (b : Bool). (by isEnd t d and b) or precedes (h ++ (e ∷ [])) t u) (has-snoc isBegin h e u)
+    ∙ (ap (λ (b : Bool). (by isEnd t d and (has isBegin u h or by isBegin u e)) or b) (precedes-more h e t u)
+    ∙ joined (by isEnd t d) (has isBegin u h) (by isBegin u e) (precedes h t u) (has isEnd t h))
+
 -- no begin of u is added: the same transactions precede u
 pub precedes-snoc : (h : List Event) (e : Event) (t u : ℕ) → by isBegin u e ≡ false → precedes (h ++ (e ∷ [])) t u ≡ precedes h t u
-unfolding precedes has any
-precedes-snoc [] e t u n = nor-i _ _ (and-false-r _ _ (nothing u)) refl
-  where
-    nothing : (v : ℕ) → has isBegin v [] ≡ false
-    nothing v = refl
-precedes-snoc (x ∷ h) e t u n = rw (has-snoc h e isBegin u n, precedes-snoc h e t u n)
+precedes-snoc h e t u n = precedes-more h e t u ∙ or-none _ _ (and-false-r _ _ n)

@@ -2,7 +2,7 @@
 -- Assumes nothing.
 use Prim.Native.Nat.{ℕ, _-_, _≤_, _<_, min, max}
 use native.Mathlib.Omega.{arith}
-use mathlib.Core.Path.{_≡_, refl, sym, ap, _∙_}
+use mathlib.Core.Path.{_≡_, refl, sym, ap, _∙_, subst}
 use mathlib.Core.Bool.{Bool, true, false, not, cond}
 use mathlib.Core.List.{List}
 use mathlib.Core.Option.{Option, none, some, Option·getD}
@@ -23,14 +23,14 @@ use Rattle.opacity.specs.Transactions.{Status, committed, aborted, pending, liv
 use Rattle.opacity.specs.Justification.{Place, placed, before, contents, written, outcomeKept, preceded, realTimeKept}
 use Rattle.opacity.specs.Marking.{gapOf, placeOf, others, between, noWriterBetween, valueAtGap, broke, verdict, lastEvent, beginOf}
 use Rattle.opacity.proofs.Finder.{gap-marked, before-le}
-use Rattle.links.specs.declared.tables.Fact.the-variants.{LastWrite, LastBegin, FirstEnd, Standing}
+use Rattle.links.specs.declared.tables.Fact.the-variants.{LastEvent, LastWrite, LastBegin, FirstBegin, FirstEnd, Standing}
 use Rattle.links.specs.Tables.{Slots, Tabled, slot, earlier}
 use Rattle.links.specs.Writes.{Linked, ownRightBy}
-use Rattle.links.proofs.TableLaws.{precedes-table, status-table, standingOf}
+use Rattle.links.proofs.TableLaws.{precedes-table, status-table, standingOf, last-event, first-begin}
 use Rattle.links.proofs.WriteLaws.{links-back, head-le, store-read-table, own-right-table}
 use Rattle.rules.specs.Orders.{placesOf, Inverse, Apart, writerAt, Writers, broken, allowsBy, outcomeBy, pairBy, realTimeBy}
 use Rattle.rules.specs.Walks.{lastIn, Walkable, noWriterBy, valueBy}
-use Rattle.rules.specs.Judge.{content, Ground, Given, readsVerdict}
+use Rattle.rules.specs.Judge.{content, Ground, Given, valuesVerdict, pointsVerdict, readsVerdict}
 use Rattle.rules.proofs.Numbers.{none-of, some-of, every-ext, first-ext}
 use Rattle.rules.proofs.OrderLaws.{places-length, before-lower, outcome-of, inverse-place, order-low, order-apart}
 use Rattle.rules.proofs.WalkLaws.{found-between, found-before}
@@ -65,8 +65,8 @@ named c n p r v = go (first p n) refl
         let f : First p n k = first-some p n e in
         ap (Broken r k) (sym (ap (λ (x : Event). x .transaction) (history-at c n k (f .inside))))
 
-pub ground-tabled : (c : Columns) (n : ℕ) → Ground c n → Tabled (c .kinds) (c .transactions) n
-ground-tabled c n y =
+pub ground-tabled : {c : Columns} {n : ℕ} → Ground c n → Tabled (c .kinds) (c .transactions) n
+ground-tabled y =
     record {
       kinds-long = y .kinds-long;
       transactions-long = y .transactions-long;
@@ -74,11 +74,11 @@ ground-tabled c n y =
       low = λ i l. (let a = y .begun i l in let b = y .few-begun in omega arith);
     }
 
-module _ (c : Columns) (n : ℕ) (link : List ℕ) (reads : List Bool) (order outcomes gaps : List ℕ) (y : Given c n link reads order outcomes gaps) where
-  pub linked : Linked (c .registers) (c .values) link n
+module _ {c : Columns} {n : ℕ} {link : List ℕ} {reads : List Bool} {order outcomes gaps : List ℕ} (y : Given c n link reads order outcomes gaps) where
+  linked : Linked (c .registers) (c .values) link n
   linked = record { registers-long = y .ground .registers-long; values-long = y .ground .values-long; few = y .ground .few; back = links-back c n link (y .links) }
 
-  pub apart : Apart order (begunIn c n)
+  apart : Apart order (begunIn c n)
   apart =
       record {
         few = y .ground .few-begun;
@@ -123,7 +123,7 @@ module _ (c : Columns) (n : ℕ) (link : List ℕ) (reads : List Bool) (order ou
 
   -- rules D and E
   module _ (place last writers : List ℕ) (v : Inverse order (begunIn c n) place) (lasts : Slots LastWrite (c .kinds) (c .transactions) n last) (table : Writers order outcomes last (begunIn c n) writers) where
-    pub walkable : Walkable (c .transactions) (c .registers) (c .values) n link writers place reads gaps
+    walkable : Walkable (c .transactions) (c .registers) (c .values) n link writers place reads gaps
     walkable =
         record {
           linked = linked;
@@ -179,12 +179,12 @@ module _ (c : Columns) (n : ℕ) (link : List ℕ) (reads : List Bool) (order ou
               (found-before c n link last order outcomes writers (begunIn c n) (y .links) lasts (apart .low) table (y .ordered) (getD (c .transactions) i 0) (getD (c .registers) i 0) (y .ground .begun i l) (getD gaps i 0) (y .gaps-fit i l e)))
 
     -- rules C to E are those of the definition
-    pub reads-same : (start : ℕ → ℕ) → readsVerdict start c n link writers place reads gaps
+    reads-same : (start : ℕ → ℕ) → readsVerdict start c n link writers place reads gaps
         ≡ broke (first (λ i. not (ownRight (history c n) i)) n) (λ i. Broken C i (eventAt (history c n) i .transaction))
         (broke (first (λ i. not (noWriterBetween (history c n) (orderIn c n order outcomes) (gapOf (content (history c n) order outcomes gaps .points) i) i)) n) (λ i. Broken D i (eventAt (history c n) i .transaction))
         (broke (first (λ i. not (valueAtGap start (history c n) (orderIn c n order outcomes) (gapOf (content (history c n) order outcomes gaps .points) i) i)) n) (λ i. Broken E i (eventAt (history c n) i .transaction))
         Accepted))
-    unfolding readsVerdict
+    unfolding readsVerdict pointsVerdict valuesVerdict
     reads-same start =
         let own = first-ext (ownRightBy (c .kinds) (c .registers) (c .values) link) (ownRight (history c n)) n (own-right-table c n link (y .links)) in
         let free =
@@ -198,71 +198,71 @@ module _ (c : Columns) (n : ℕ) (link : List ℕ) (reads : List Bool) (order ou
         (rw (named c n (λ i. not (noWriterBetween (history c n) (orderIn c n order outcomes) (gapOf (content (history c n) order outcomes gaps .points) i) i)) D _)
         (named c n (λ i. not (ownRight (history c n) i)) C _)))
 
-  -- the verdict with what each rule said
-  module _ (start : ℕ → ℕ) (place standing : List ℕ) (v : Inverse order (begunIn c n) place) (s : Slots Standing (c .kinds) (c .transactions) n standing)
-      (t : ℕ) (et : t ≡ broken (outcomeBy standing place outcomes) (begunIn c n)) where
-    agrees-a : first (λ k. not (outcomeBy standing place outcomes k)) (begunIn c n) ≡ first (λ k. not (outcomeKept (history c n) (orderIn c n order outcomes) k)) (begunIn c n)
-    agrees-a = first-ext (outcomeBy standing place outcomes) (outcomeKept (history c n) (orderIn c n order outcomes)) (begunIn c n) (outcome-same standing place s v)
+  -- what the rules ask of the tables, and the verdict with what each rule said; k transactions have begun
+  module _ {k : ℕ} (ek : k ≡ begunIn c n) where
+    pub all-apart : Apart order k
+    all-apart = subst (Apart order) (sym ek) apart
 
-    pub verdict-a : t < begunIn c n → verdict start (history c n) (content (history c n) order outcomes gaps) ≡ Broken A (lastEvent (history c n) t) t
-    unfolding verdict content broke
-    verdict-a l = rw (sym agrees-a ∙ some-of (outcomeBy standing place outcomes) (begunIn c n) t et l)
+    writers-all : {last writers : List ℕ} → Writers order outcomes last k writers → Writers order outcomes last (begunIn c n) writers
+    writers-all {last} {writers} w = subst (λ (x : ℕ). Writers order outcomes last x writers) ek w
 
-    module _ (lt : begunIn c n ≤ t) (ended began : List ℕ) (a : Slots FirstEnd (c .kinds) (c .transactions) n ended) (b : Slots LastBegin (c .kinds) (c .transactions) n began)
-        (u : ℕ) (eu : u ≡ broken (realTimeBy ended began place (begunIn c n)) (begunIn c n)) where
-      agrees-b : first (λ k. not (realTimeBy ended began place (begunIn c n) k)) (begunIn c n) ≡ first (λ k. not (realTimeKept (history c n) (orderIn c n order outcomes) k)) (begunIn c n)
-      agrees-b = first-ext (realTimeBy ended began place (begunIn c n)) (realTimeKept (history c n) (orderIn c n order outcomes)) (begunIn c n) (real-time-same ended began place a b v)
+    module _ {place : List ℕ} (inverse : Inverse order k place) where
+      v : Inverse order (begunIn c n) place
+      v = subst (λ (x : ℕ). Inverse order x place) ek inverse
 
-      pub verdict-b : u < begunIn c n → verdict start (history c n) (content (history c n) order outcomes gaps) ≡ Broken B (beginOf (history c n) u) u
-      unfolding verdict content broke
-      verdict-b l =
-          rw (
-            sym agrees-a ∙ none-of (outcomeBy standing place outcomes) (begunIn c n) t et lt,
-            sym agrees-b ∙ some-of (realTimeBy ended began place (begunIn c n)) (begunIn c n) u eu l,
-          )
+      pub all-walkable : {last writers : List ℕ} → Slots LastWrite (c .kinds) (c .transactions) n last → Writers order outcomes last k writers
+          → Walkable (c .transactions) (c .registers) (c .values) n link writers place reads gaps
+      all-walkable {last} {writers} lasts table = walkable place last writers v lasts (writers-all table)
 
-      pub verdict-reads : begunIn c n ≤ u → (last writers : List ℕ) → Slots LastWrite (c .kinds) (c .transactions) n last → Writers order outcomes last (begunIn c n) writers
-          → verdict start (history c n) (content (history c n) order outcomes gaps) ≡ readsVerdict start c n link writers place reads gaps
-      unfolding verdict content broke
-      verdict-reads l last writers lasts table =
-          rw (
-            sym agrees-a ∙ none-of (outcomeBy standing place outcomes) (begunIn c n) t et lt,
-            sym agrees-b ∙ none-of (realTimeBy ended began place (begunIn c n)) (begunIn c n) u eu l,
-            history-length c n,
-          )
-          (sym (reads-same place last writers v lasts table start))
+      module _ (start : ℕ → ℕ) {standing : List ℕ} (s : Slots Standing (c .kinds) (c .transactions) n standing)
+          {t : ℕ} (et : t ≡ broken (outcomeBy standing place outcomes) k) where
+        abbrev judged : Verdict
+        judged = verdict start (history c n) (content (history c n) order outcomes gaps)
 
--- rules C to E, each with what those before it said
-module _ (start : ℕ → ℕ) (c : Columns) (n : ℕ) (link writers place : List ℕ) (reads : List Bool) (gaps : List ℕ)
-    (x : ℕ) (ex : x ≡ broken (ownRightBy (c .kinds) (c .registers) (c .values) link) n) where
-  pub reads-c : x < n → readsVerdict start c n link writers place reads gaps ≡ Broken C x (getD (c .transactions) x 0)
-  unfolding readsVerdict broke
-  reads-c l = rw (some-of (ownRightBy (c .kinds) (c .registers) (c .values) link) n x ex l)
+        eta : t ≡ broken (outcomeBy standing place outcomes) (begunIn c n)
+        eta = et ∙ ap (broken (outcomeBy standing place outcomes)) ek
 
-  module _ (lx : n ≤ x) (d : ℕ) (ed : d ≡ broken (noWriterBy (c .transactions) (c .registers) (c .values) link writers place reads gaps) n) where
-    pub reads-d : d < n → readsVerdict start c n link writers place reads gaps ≡ Broken D d (getD (c .transactions) d 0)
-    unfolding readsVerdict broke
-    reads-d l =
-        rw (
-          none-of (ownRightBy (c .kinds) (c .registers) (c .values) link) n x ex lx,
-          some-of (noWriterBy (c .transactions) (c .registers) (c .values) link writers place reads gaps) n d ed l,
-        )
+        agrees-a : first (λ k. not (outcomeBy standing place outcomes k)) (begunIn c n) ≡ first (λ k. not (outcomeKept (history c n) (orderIn c n order outcomes) k)) (begunIn c n)
+        agrees-a = first-ext (outcomeBy standing place outcomes) (outcomeKept (history c n) (orderIn c n order outcomes)) (begunIn c n) (outcome-same standing place s v)
 
-    module _ (ld : n ≤ d) (e : ℕ) (ee : e ≡ broken (valueBy start (c .transactions) (c .registers) (c .values) link writers place reads gaps) n) where
-      pub reads-e : e < n → readsVerdict start c n link writers place reads gaps ≡ Broken E e (getD (c .transactions) e 0)
-      unfolding readsVerdict broke
-      reads-e l =
-          rw (
-            none-of (ownRightBy (c .kinds) (c .registers) (c .values) link) n x ex lx,
-            none-of (noWriterBy (c .transactions) (c .registers) (c .values) link writers place reads gaps) n d ed ld,
-            some-of (valueBy start (c .transactions) (c .registers) (c .values) link writers place reads gaps) n e ee l,
-          )
+        pub verdict-a : t < k → {lasts : List ℕ} → Slots LastEvent (c .kinds) (c .transactions) n lasts → {e : ℕ} → e ≡ getD lasts t 0 - 1 → Broken A e t ≡ judged
+        unfolding verdict content broke
+        verdict-a l {lasts} f {e} ee =
+            let few = y .ground .few-begun in
+            let named : e ≡ lastEvent (history c n) t = ee ∙ (ap (λ (x : ℕ). x - 1) (f .holds t (omega arith)) ∙ last-event c n t) in
+            rw (sym agrees-a ∙ some-of (outcomeBy standing place outcomes) (begunIn c n) t eta (omega arith)) (ap (λ (x : ℕ). Broken A x t) named)
 
-      pub reads-none : n ≤ e → readsVerdict start c n link writers place reads gaps ≡ Accepted
-      unfolding readsVerdict broke
-      reads-none l =
-          rw (
-            none-of (ownRightBy (c .kinds) (c .registers) (c .values) link) n x ex lx,
-            none-of (noWriterBy (c .transactions) (c .registers) (c .values) link writers place reads gaps) n d ed ld,
-            none-of (valueBy start (c .transactions) (c .registers) (c .values) link writers place reads gaps) n e ee l,
-          )
+        module _ (lt : k ≤ t) {ended began : List ℕ} (a : Slots FirstEnd (c .kinds) (c .transactions) n ended) (b : Slots LastBegin (c .kinds) (c .transactions) n began)
+            {u : ℕ} (eu : u ≡ broken (realTimeBy ended began place k) k) where
+          none-a : first (λ k. not (outcomeKept (history c n) (orderIn c n order outcomes) k)) (begunIn c n) ≡ none
+          none-a = sym agrees-a ∙ none-of (outcomeBy standing place outcomes) (begunIn c n) t eta (omega arith)
+
+          etb : u ≡ broken (realTimeBy ended began place (begunIn c n)) (begunIn c n)
+          etb = eu ∙ ap (λ (x : ℕ). broken (realTimeBy ended began place x) x) ek
+
+          agrees-b : first (λ k. not (realTimeBy ended began place (begunIn c n) k)) (begunIn c n) ≡ first (λ k. not (realTimeKept (history c n) (orderIn c n order outcomes) k)) (begunIn c n)
+          agrees-b = first-ext (realTimeBy ended began place (begunIn c n)) (realTimeKept (history c n) (orderIn c n order outcomes)) (begunIn c n) (real-time-same ended began place a b v)
+
+          pub verdict-b : u < k → {firsts : List ℕ} → Slots FirstBegin (c .kinds) (c .transactions) n firsts → {e : ℕ} → e ≡ getD firsts u 0 - 1 → Broken B e u ≡ judged
+          unfolding verdict content broke
+          verdict-b l {firsts} f {e} ee =
+              let few = y .ground .few-begun in
+              let named : e ≡ beginOf (history c n) u = ee ∙ (ap (λ (x : ℕ). x - 1) (f .holds u (omega arith)) ∙ first-begin c n u) in
+              rw (none-a, sym agrees-b ∙ some-of (realTimeBy ended began place (begunIn c n)) (begunIn c n) u etb (omega arith)) (ap (λ (x : ℕ). Broken B x u) named)
+
+          pub verdict-reads : k ≤ u → {last writers : List ℕ} → Slots LastWrite (c .kinds) (c .transactions) n last → Writers order outcomes last k writers
+              → readsVerdict start c n link writers place reads gaps ≡ judged
+          unfolding verdict content broke
+          verdict-reads l {last} {writers} lasts table =
+              rw (none-a, sym agrees-b ∙ none-of (realTimeBy ended began place (begunIn c n)) (begunIn c n) u etb (omega arith), history-length c n)
+              (reads-same place last writers v lasts (writers-all table) start)
+
+-- a rule with what the search for its first breach said
+module _ (p : ℕ → Bool) (n x : ℕ) (e : x ≡ broken p n) (named : ℕ → Verdict) (rest : Verdict) where
+  pub broke-here : x < n → broke (first (λ i. not (p i)) n) named rest ≡ named x
+  unfolding broke
+  broke-here l = rw (some-of p n x e l)
+
+  pub broke-nowhere : n ≤ x → broke (first (λ i. not (p i)) n) named rest ≡ rest
+  unfolding broke
+  broke-nowhere l = rw (none-of p n x e l)

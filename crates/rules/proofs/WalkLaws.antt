@@ -1,13 +1,13 @@
 -- Laws of the walk back over places: how it goes on, and what it finds.
 -- Assumes nothing.
-use Prim.Native.Nat.{ℕ, zero, suc, _≤_, _<_, min, max}
+use Prim.Native.Nat.{ℕ, zero, suc, _-_, _≤_, _<_, min, max}
 use native.Mathlib.Nat.{lt-of-not-le}
 use native.Mathlib.Decide.{decLe}
 use native.Mathlib.Omega.{arith}
 use mathlib.Core.Path.{_≡_, refl, sym, ap, _∙_, subst}
 use mathlib.Core.Bool.{Bool, true, false, not, cond}
 use mathlib.Core.List.{List, [], _∷_}
-use mathlib.Core.Option.{Option, none}
+use mathlib.Core.Option.{Option, none, some}
 use lib.Dec.{eqb}
 use lib.ListN.{take, drop, getD}
 use lib.Seq.{drop-append-le, drop-length}
@@ -21,7 +21,7 @@ use Rattle.opacity.specs.Justification.{Place, isOf, written, isOrder}
 use Rattle.opacity.specs.Marking.{others, between, placeOf}
 use Rattle.links.specs.declared.tables.Fact.the-variants.{LastWrite}
 use Rattle.links.specs.Tables.{Slots}
-use Rattle.links.specs.Writes.{writeFrom, Links}
+use Rattle.links.specs.Writes.{writeFrom, plusOne, Links}
 use Rattle.links.proofs.WriteLaws.{write-from, following-none}
 use Rattle.rules.specs.Orders.{placesOf, placeAt, Writers}
 use Rattle.rules.specs.Walks.{startAt, lastIn}
@@ -37,10 +37,33 @@ module _ (registers values link writers : List ℕ) (own r lo : ℕ) where
       go zero e = refl
       go (suc k) e = rw (lt-leb lo k (omega arith))
 
-  pub last-in-more : (k : ℕ) → lo ≤ k
+  last-in-more : (k : ℕ) → lo ≤ k
       → lastIn registers values link writers own r lo (suc k) ≡ orElse (writeFrom registers values link r (startAt writers own k)) (lastIn registers values link writers own r lo k)
   unfolding lastIn
   last-in-more k l = rw (le-leb lo k l)
+
+  -- one place further back, where w is what it wrote to r: that, or what stands before it
+  module _ {k from w : ℕ} (l : lo < k) (ef : from ≡ startAt writers own (k - 1)) (ew : w ≡ plusOne (writeFrom registers values link r from)) where
+    its-own : w ≡ plusOne (writeFrom registers values link r (startAt writers own (k - 1)))
+    its-own = ew ∙ ap (λ (j : ℕ). plusOne (writeFrom registers values link r j)) ef
+
+    more : lastIn registers values link writers own r lo k
+        ≡ orElse (writeFrom registers values link r (startAt writers own (k - 1))) (lastIn registers values link writers own r lo (k - 1))
+    more = let s : k ≡ suc (k - 1) = omega arith in ap (lastIn registers values link writers own r lo) s ∙ last-in-more (k - 1) (omega arith)
+
+    pub last-here : (w ≡ 0 → ⊥) → w ≡ plusOne (lastIn registers values link writers own r lo k)
+    last-here z = its-own ∙ (go (writeFrom registers values link r (startAt writers own (k - 1))) its-own ∙ ap plusOne (sym more))
+      where
+        go : (o : Option ℕ) → w ≡ plusOne o → plusOne o ≡ plusOne (orElse o (lastIn registers values link writers own r lo (k - 1)))
+        go none e = absurd (z e)
+        go (some v) e = refl
+
+    pub last-further : w ≡ 0 → lastIn registers values link writers own r lo (k - 1) ≡ lastIn registers values link writers own r lo k
+    last-further z = go (writeFrom registers values link r (startAt writers own (k - 1))) its-own ∙ sym more
+      where
+        go : (o : Option ℕ) → w ≡ plusOne o → lastIn registers values link writers own r lo (k - 1) ≡ orElse o (lastIn registers values link writers own r lo (k - 1))
+        go none e = refl
+        go (some v) e = absurd (omega arith)
 
 -- what a place wrote to r, where it is not that of t
 unfoldable writtenBut : List Event → ℕ → ℕ → Place → Option ℕ

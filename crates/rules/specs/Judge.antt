@@ -49,10 +49,18 @@ pub record Given (c : Columns) (n : ℕ) (link : List ℕ) (reads : List Bool) (
   pub ordered : isOrder (begins (history c n)) (placesOf order outcomes (begins (history c n))) ≡ true
   pub gaps-fit : (i : ℕ) → i < n → isStoreRead (history c n) i ≡ true → getD gaps i 0 ≤ begins (history c n)
 
--- rules C to E by the tables
+-- rule E by the tables, rule D and then E, and rule C before both
+unfoldable pub valuesVerdict : (ℕ → ℕ) → List ℕ → List ℕ → List ℕ → ℕ → List ℕ → List ℕ → List ℕ → List Bool → List ℕ → Verdict
+valuesVerdict start transactions registers values n link writers place reads gaps =
+    broke (first (λ i. not (valueBy start transactions registers values link writers place reads gaps i)) n) (λ i. Broken E i (getD transactions i 0))
+    Accepted
+
+unfoldable pub pointsVerdict : (ℕ → ℕ) → List ℕ → List ℕ → List ℕ → ℕ → List ℕ → List ℕ → List ℕ → List Bool → List ℕ → Verdict
+pointsVerdict start transactions registers values n link writers place reads gaps =
+    broke (first (λ i. not (noWriterBy transactions registers values link writers place reads gaps i)) n) (λ i. Broken D i (getD transactions i 0))
+    (valuesVerdict start transactions registers values n link writers place reads gaps)
+
 unfoldable pub readsVerdict : (ℕ → ℕ) → Columns → ℕ → List ℕ → List ℕ → List ℕ → List Bool → List ℕ → Verdict
 readsVerdict start c n link writers place reads gaps =
     broke (first (λ i. not (ownRightBy (c .kinds) (c .registers) (c .values) link i)) n) (λ i. Broken C i (getD (c .transactions) i 0))
-    (broke (first (λ i. not (noWriterBy (c .transactions) (c .registers) (c .values) link writers place reads gaps i)) n) (λ i. Broken D i (getD (c .transactions) i 0))
-    (broke (first (λ i. not (valueBy start (c .transactions) (c .registers) (c .values) link writers place reads gaps i)) n) (λ i. Broken E i (getD (c .transactions) i 0))
-    Accepted))
+    (pointsVerdict start (c .transactions) (c .registers) (c .values) n link writers place reads gaps)

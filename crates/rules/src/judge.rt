@@ -1,11 +1,12 @@
 // The verdict: the first rule that is broken, from A to E, with its event and transaction.
 ghost use mathlib.Core.Path.{_≡_};
-ghost use Prim.Native.Nat.{ℕ, _-_, _≤_};
-ghost use lib.ListN.{length};
+ghost use Prim.Native.Nat.{ℕ, _-_, _≤_, _<_};
+ghost use lib.ListN.{length, getD};
 ghost use Rattle.events.specs.Columns.{columns, history};
+ghost use Rattle.opacity.specs.declared.verdict.Verdict.the-variants.{Broken};
 ghost use Rattle.opacity.specs.Marking.{verdict};
 ghost use Rattle.rules.specs.Walks.{Walkable};
-ghost use Rattle.rules.specs.Judge.{zeros, content, Given, readsVerdict};
+ghost use Rattle.rules.specs.Judge.{zeros, content, Given, valuesVerdict, pointsVerdict, readsVerdict};
 use crate::order::rule_a;
 use crate::order::rule_b;
 use crate::places::places_of;
@@ -14,11 +15,97 @@ use crate::reads::rule_c;
 use crate::reads::rule_d;
 use crate::reads::rule_e;
 use links::tables::Fact;
-use links::tables::count_begins;
 use links::tables::table;
 use links::tables::wide;
+use opacity::counts::transactions_begun;
 use opacity::verdict::Rule;
 use opacity::verdict::Verdict;
+
+// The verdict that an event breaks a rule.
+fn broken(rule: Rule, event: usize, transactions: &[u16]) -> Verdict
+    requires { ⌜ event < length (now transactions) ⌝ }
+    ensures { λ v. ⌜ v ≡ Broken rule event (getD (now (transactions .entry)) event 0) ⌝ }
+{
+    Verdict::Broken {
+        rule,
+        event,
+        transaction: wide(transactions[event]),
+    }
+}
+
+// Rule E.
+fn judge_values(
+    transactions: &[u16],
+    registers: &[u16],
+    values: &[u32],
+    count: usize,
+    link: &[u16; 2048],
+    writers: &[u16; 64],
+    place: &[u16; 64],
+    reads: &[bool; 2048],
+    gaps: &[u16; 2048],
+) -> Verdict
+    requires { ⌜ Walkable (now transactions) (now registers) (now values) count (now link) (now writers) (now place) (now reads) (now gaps) ⌝ }
+    ensures { λ v. ⌜ v ≡ valuesVerdict zeros (now (transactions .entry)) (now (registers .entry)) (now (values .entry)) count (now (link .entry)) (now (writers .entry)) (now (place .entry)) (now (reads .entry)) (now (gaps .entry)) ⌝ }
+{
+    let e = rule_e(
+        transactions,
+        registers,
+        values,
+        count,
+        link,
+        writers,
+        place,
+        reads,
+        gaps,
+    );
+    if e < count {
+        return broken(Rule::E, e, transactions);
+    }
+    Verdict::Accepted
+}
+
+// Rules D and E.
+fn judge_points(
+    transactions: &[u16],
+    registers: &[u16],
+    values: &[u32],
+    count: usize,
+    link: &[u16; 2048],
+    writers: &[u16; 64],
+    place: &[u16; 64],
+    reads: &[bool; 2048],
+    gaps: &[u16; 2048],
+) -> Verdict
+    requires { ⌜ Walkable (now transactions) (now registers) (now values) count (now link) (now writers) (now place) (now reads) (now gaps) ⌝ }
+    ensures { λ v. ⌜ v ≡ pointsVerdict zeros (now (transactions .entry)) (now (registers .entry)) (now (values .entry)) count (now (link .entry)) (now (writers .entry)) (now (place .entry)) (now (reads .entry)) (now (gaps .entry)) ⌝ }
+{
+    let d = rule_d(
+        transactions,
+        registers,
+        values,
+        count,
+        link,
+        writers,
+        place,
+        reads,
+        gaps,
+    );
+    if d < count {
+        return broken(Rule::D, d, transactions);
+    }
+    judge_values(
+        transactions,
+        registers,
+        values,
+        count,
+        link,
+        writers,
+        place,
+        reads,
+        gaps,
+    )
+}
 
 // Rules C to E.
 fn judge_reads(
@@ -39,13 +126,9 @@ fn judge_reads(
 {
     let c = rule_c(kinds, registers, values, count, link);
     if c < count {
-        return Verdict::Broken {
-            rule: Rule::C,
-            event: c,
-            transaction: wide(transactions[c]),
-        };
+        return broken(Rule::C, c, transactions);
     }
-    let d = rule_d(
+    judge_points(
         transactions,
         registers,
         values,
@@ -55,33 +138,7 @@ fn judge_reads(
         place,
         reads,
         gaps,
-    );
-    if d < count {
-        return Verdict::Broken {
-            rule: Rule::D,
-            event: d,
-            transaction: wide(transactions[d]),
-        };
-    }
-    let e = rule_e(
-        transactions,
-        registers,
-        values,
-        count,
-        link,
-        writers,
-        place,
-        reads,
-        gaps,
-    );
-    if e < count {
-        return Verdict::Broken {
-            rule: Rule::E,
-            event: e,
-            transaction: wide(transactions[e]),
-        };
-    }
-    Verdict::Accepted
+    )
 }
 
 // One less, or 0.
@@ -111,7 +168,7 @@ pub fn judge(
     requires { ⌜ Given (columns (now kinds) (now transactions) (now registers) (now values)) count (now link) (now reads) (now order) (now outcomes) (now gaps) ⌝ }
     ensures { λ v. ⌜ v ≡ verdict zeros (history (columns (now (kinds .entry)) (now (transactions .entry)) (now (registers .entry)) (now (values .entry))) count) (content (history (columns (now (kinds .entry)) (now (transactions .entry)) (now (registers .entry)) (now (values .entry))) count) (now (order .entry)) (now (outcomes .entry)) (now (gaps .entry))) ⌝ }
 {
-    let begun = count_begins(kinds, count);
+    let begun = transactions_begun(kinds, transactions, registers, values, count);
     let place = places_of(order, begun);
     let standing = table(kinds, transactions, count, Fact::Standing);
     let t = rule_a(&standing, &place, outcomes, begun);

@@ -10,6 +10,7 @@ ghost use Rattle.rules.specs.Judge.{zeros};
 use links::tables::wide;
 use links::writes::own_right;
 use links::writes::stored;
+use links::writes::write_from;
 
 // What a register holds before any writer.
 const START: u32 = 0;
@@ -27,7 +28,7 @@ fn start_at(writers: &[u16; 64], own: usize, k: usize) -> usize
 
 // The value of the last writer of r but the one at place own, among the places from lo up to hi,
 // plus 1, with 0 for none. Looks back over the places and, at each, over the writes of its
-// transaction; the search is left at the first write to r.
+// transaction.
 fn last_writer(
     registers: &[u16],
     values: &[u32],
@@ -45,21 +46,15 @@ fn last_writer(
     ensures { λ w. ⌜ w ≡ plusOne (lastIn (now (registers .entry)) (now (values .entry)) (now (link .entry)) (now (writers .entry)) own r lo hi) ⌝ }
 {
     let mut k = hi;
-    let w = 'walk: loop {
-        if k == lo {
-            break 'walk 0u64;
-        }
+    while k != lo {
         k -= 1;
-        let mut j = start_at(writers, own, k);
-        while j != 0 {
-            let e = j - 1;
-            if registers[e] == r {
-                break 'walk stored(values[e]);
-            }
-            j = wide(link[e]);
+        let from = start_at(writers, own, k);
+        let w = write_from(registers, values, link, count, r, from);
+        if w != 0 {
+            return w;
         }
-    };
-    w
+    }
+    0
 }
 
 fn least(a: usize, b: usize) -> usize
@@ -72,6 +67,15 @@ fn most(a: usize, b: usize) -> usize
     ensures { λ r. ⌜ r ≡ max a b ⌝ }
 {
     if a <= b { b } else { a }
+}
+
+// The place of the transaction of event i.
+fn place_at(transactions: &[u16], place: &[u16; 64], i: usize) -> usize
+    requires { ⌜ (i < length (now transactions)) × (getD (now transactions) i 0 < 64) ⌝ }
+    ensures { λ k. ⌜ k ≡ getD (now (place .entry)) (getD (now (transactions .entry)) i 0) 0 ⌝ }
+{
+    let t = wide(transactions[i]);
+    wide(place[t])
 }
 
 // Rule D at event i: no writer of the register but the reader is placed between the point and the
@@ -95,8 +99,7 @@ fn no_writer_between(
     if !reads[i] {
         return true;
     }
-    let t = wide(transactions[i]);
-    let reader = wide(place[t]);
+    let reader = place_at(transactions, place, i);
     let g = wide(gaps[i]);
     let lo = least(g, reader);
     let hi = most(g, reader);
@@ -135,8 +138,7 @@ fn value_at_gap(
     if !reads[i] {
         return true;
     }
-    let t = wide(transactions[i]);
-    let own = wide(place[t]);
+    let own = place_at(transactions, place, i);
     let g = wide(gaps[i]);
     let w = last_writer(
         registers,

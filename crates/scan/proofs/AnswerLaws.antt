@@ -11,9 +11,11 @@ use Rattle.events.specs.declared.columns.Checked.{Checked}
 use Rattle.events.specs.Events.{begins}
 use Rattle.events.specs.Columns.{Columns, history, hold}
 use Rattle.events.specs.Questions.{readable, columnsAnswer}
+use Rattle.events.proofs.ColumnLaws.{hold-e, hold-i}
+use Rattle.events.proofs.ReadableLaws.{columns-readable, readable-columns}
 use Rattle.opacity.specs.declared.verdict.Scanned.{Scanned}
 use Rattle.opacity.specs.Scan.{scan}
-use Rattle.tables.proofs.CallLaws.{columns-e, columns-i, asked-none, asked-yes, asked-no, asked-e, then-readable, then-refused, then-e}
+use Rattle.tables.proofs.CallLaws.{asked-none, asked-yes, asked-no, asked-e, then-readable, then-refused, then-e}
 use Rattle.scan.specs.declared.Judgement.{Judgement}
 use Rattle.scan.specs.Answer.{sizeRefusal, scanRefusal, decided, scanAnswer}
 
@@ -65,12 +67,12 @@ pub passed : (c : Columns) (count : ℕ) → scanRefusal c count ≡ Checked.Rea
 unfolding scanRefusal
 passed c count x =
     let a = then-e _ _ x in
-    let b = columns-e c count (a .0) in
-    record { held = b .0; readable = b .1; few = passes-31-e (history c count) count (a .1) }
+    let b = columns-readable c count (a .0) in
+    record { held = hold-i c count (b .0); readable = b .1; few = passes-31-e (history c count) count (a .1) }
 
 pub passes : (c : Columns) (count : ℕ) → Passed c count → scanRefusal c count ≡ Checked.Readable
 unfolding scanRefusal
-passes c count p = then-readable _ (columns-i c count (p .held) (p .readable)) ∙ passes-31 (history c count) count (p .few)
+passes c count p = then-readable _ (readable-columns c count (hold-e c count (p .held)) (p .readable)) ∙ passes-31 (history c count) count (p .few)
 
 -- ---- the questions one after the other, as `scan_history` puts them
 

@@ -3,13 +3,12 @@
 use Prim.Native.Nat.{ℕ}
 use native.Mathlib.Omega.{arith}
 use mathlib.Core.Path.{_≡_, refl, sym, ap, _∙_}
-use mathlib.Core.Bool.{Bool, true, false, cond}
+use mathlib.Core.Bool.{Bool, true, false}
 use mathlib.Core.List.{List, [], _∷_}
 use mathlib.Core.Option.{Option, Option·getD}
 use Rattle.events.specs.declared.columns.Checked.{Checked}
-use Rattle.events.specs.Columns.{Columns, history, hold}
-use Rattle.events.specs.Questions.{Question, ask, refusal, refusedWith, readable, eventsAnswer, columnsAnswer}
-use Rattle.events.proofs.QuestionLaws.{ask-yes, ask-no, answer-readable, readable-answer}
+use Rattle.events.specs.Questions.{Question, ask, refusal, refusedWith}
+use Rattle.events.proofs.QuestionLaws.{ask-yes, ask-no}
 use Rattle.tables.specs.Calls.{askedOf, thenChecked}
 
 -- a refusal is not an answer that lets pass
@@ -52,18 +51,3 @@ pub then-e : (a b : Checked) → thenChecked a b ≡ Checked.Readable → (a ≡
 unfolding thenChecked
 then-e Checked.Readable b x = (refl, x)
 then-e (Checked.Refused q e) b x = absurd (refused-readable q e x)
-
--- ---- the columns
-
--- the columns' questions let pass exactly where they hold a readable history
-pub columns-e : (c : Columns) (n : ℕ) → columnsAnswer c n ≡ Checked.Readable → (hold c n ≡ true) × (readable (history c n) ≡ true)
-unfolding columnsAnswer
-columns-e c n x = go (hold c n) refl x
-  where
-    go : (b : Bool) → hold c n ≡ b → cond b (eventsAnswer (history c n)) (Checked.Refused 17 n) ≡ Checked.Readable → (hold c n ≡ true) × (readable (history c n) ≡ true)
-    go true e y = (e, answer-readable (history c n) y)
-    go false e y = absurd (refused-readable 17 n y)
-
-pub columns-i : (c : Columns) (n : ℕ) → hold c n ≡ true → readable (history c n) ≡ true → columnsAnswer c n ≡ Checked.Readable
-unfolding columnsAnswer
-columns-i c n t r = rw t (readable-answer (history c n) r)

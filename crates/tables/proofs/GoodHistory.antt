@@ -1,21 +1,17 @@
 -- A readable history of at most ten transactions has what the tables need.
 -- Assumes nothing.
 use mathlib.Core.Path.{_≡_, subst}
-use Prim.Native.Nat.{ℕ, suc, _≤_, _<_}
-use native.Mathlib.Nat.{le-of-lt}
+use Prim.Native.Nat.{ℕ, _≤_, _<_}
 use native.Mathlib.Omega.{arith}
 use mathlib.Core.Bool.{true}
 use mathlib.Core.List.{List}
-use lib.ListN.{length, take}
-use lib.Seq.{length-take-le}
-use Rattle.events.specs.Lists.{_and_, _or_}
+use lib.ListN.{take}
 use Rattle.events.specs.declared.event.Event.{Event}
 use Rattle.events.specs.Events.{eventAt, begins}
 use Rattle.events.specs.Questions.{readable}
 use Rattle.events.proofs.ListLaws.{and-r, not-true}
-use Rattle.opacity.proofs.Bounds.{register-low}
-use Rattle.events.proofs.QuestionLaws.{asked-at, begun}
-use Rattle.events.proofs.ColumnLaws.{begins-take}
+use Rattle.opacity.proofs.Bounds.{transaction-known, register-low}
+use Rattle.events.proofs.QuestionLaws.{asked-at}
 use Rattle.events.specs.Columns.{Columns, history}
 use Rattle.events.proofs.ColumnLaws.{history-length, history-at}
 use Rattle.tables.specs.Tables.{InTables}
@@ -23,14 +19,8 @@ use Rattle.tables.specs.Order.{Judged}
 use Rattle.tables.proofs.Meaning.{Fine, Good}
 
 module _ (h : List Event) (r : readable h ≡ true) (few : begins h ≤ 10) where
-  pub known : (i : ℕ) → i < length h → eventAt h i .transaction < begins h
-  known i l = omega (arith, begun h r i l, begins-take (suc i) h)
-
   pub good : Good h
-  good i l = record { transaction = omega (arith, known i l); register = register-low h r i l; going = λ b. not-true _ (and-r _ _ (asked-at h r i l .lives b)) }
-
-  pub low-number : (i : ℕ) → i < length h → i < 2048
-  low-number i l = omega (arith, asked-at h r i l .room, length-take-le i h (le-of-lt l))
+  good i l = record { transaction = omega (arith, transaction-known h r i l); register = register-low h r i l; going = λ b. not-true _ (and-r _ _ (asked-at h r i l .lives b)) }
 
 -- so have the columns of one
 pub in-tables : (c : Columns) (n : ℕ) → Judged c n → InTables c n

@@ -2,23 +2,15 @@
 -- Assumes nothing.
 use Prim.Native.Nat.{ℕ, zero, suc, _≤_}
 use native.Mathlib.Omega.{arith}
-use mathlib.Core.Path.{_≡_, refl, ap, fun-ext, subst}
-use mathlib.Core.Bool.{true}
-use mathlib.Core.List.{List}
+use mathlib.Core.Path.{_≡_, refl, ap, fun-ext}
 use lib.ListN.{take, getD, replicate}
-use Rattle.events.specs.declared.event.Event.{Event}
 use Rattle.events.specs.Events.{begins}
-use Rattle.events.specs.Columns.{Columns, history, hold}
+use Rattle.events.specs.Columns.{Columns, history}
 use Rattle.events.specs.Questions.{readable}
-use Rattle.events.proofs.ColumnLaws.{history-length, history-take, begins-take, hold-e}
-use Rattle.events.proofs.QuestionLaws.{readable-take}
+use Rattle.events.proofs.ColumnLaws.{history-take, begins-take}
+use Rattle.events.proofs.ReadableLaws.{readable-fewer}
 use Rattle.opacity.specs.Counts.{HoldsReadable}
 use Rattle.tables.specs.Order.{Judged, startOf}
-
-pub readable-columns : (c : Columns) (n : ℕ) → hold c n ≡ true → readable (history c n) ≡ true → HoldsReadable c n
-readable-columns c n t r =
-    let k = hold-e c n t in
-    record { kinds-long = k .kinds; transactions-long = k .transactions; registers-long = k .registers; values-long = k .values; readable = r }
 
 pub readable-prefix : (c : Columns) (n k : ℕ) → k ≤ n → HoldsReadable c n → HoldsReadable c k
 readable-prefix c n k l r =
@@ -27,7 +19,7 @@ readable-prefix c n k l r =
       transactions-long = omega (arith, r .transactions-long);
       registers-long = omega (arith, r .registers-long);
       values-long = omega (arith, r .values-long);
-      readable = subst (λ (h : List Event). readable h ≡ true) (history-take c n k l) (readable-take (history c n) k (rw (history-length c n) l) (r .readable));
+      readable = readable-fewer c n k l (r .readable);
     }
 
 pub few-judged : (c : Columns) (n : ℕ) → HoldsReadable c n → begins (history c n) ≤ 10 → Judged c n

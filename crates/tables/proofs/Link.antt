@@ -9,7 +9,7 @@ use mathlib.Core.Option.{none}
 use lib.ListN.{length}
 use lib.Seq.{take-all}
 use borrow.Author.Tests.{eqb-true}
-use Rattle.events.specs.Lists.{_and_, every}
+use Rattle.events.specs.Lists.{every}
 use Rattle.events.specs.declared.event.Event.{Event}
 use Rattle.events.specs.Events.{eventAt, begins}
 use Rattle.opacity.specs.Transactions.{ownRight}
@@ -24,7 +24,8 @@ use Rattle.tables.specs.Tables.{tablesOf}
 use Rattle.tables.specs.Order.{decode, decoded, constraintsOf, foundOrder, startOf, Judged}
 use Rattle.tables.proofs.Meaning.{Good}
 use Rattle.tables.proofs.ReadMeaning.{Reads, Bad, wrong, apart, reads-hold}
-use Rattle.tables.proofs.GoodHistory.{known, good}
+use Rattle.opacity.proofs.Bounds.{transaction-known}
+use Rattle.tables.proofs.GoodHistory.{good}
 use Rattle.tables.proofs.TreeLink.{state-start, trees}
 use Rattle.tables.proofs.FitsLink.{agree}
 
@@ -71,7 +72,7 @@ found-by o c n a s m j e f g =
     let h = history c n in
     ap decoded g ∙ through (s .contradictory) (firstCompletion (constraintsOf o s) m)
     ∙ ap₂ (λ (x : Tables) (k : ℕ). cond (x .contradictory) none (decoded (firstCompletion (constraintsOf o x) k))) e f
-    ∙ found-lowest o h (good h (j .readable) (j .few)) (known h (j .readable) (j .few)) (j .few)
+    ∙ found-lowest o h (good h (j .readable) (j .few)) (transaction-known h (j .readable)) (j .few)
   where
     through : (b : Bool) (x : Completion) → decoded (cond b none x) ≡ cond b none (decoded x)
     through true x = refl

@@ -16,7 +16,9 @@ use Rattle.events.specs.Lists.{_and_, _or_, orElse, any, latest}
 use Rattle.events.specs.declared.event.Event.{Event}
 use Rattle.events.specs.Events.{noEvent, eventAt, isBegin, isRead, isWrite, asksCommit, isCommit, isAbort, isEnd, by, has, ended}
 use Rattle.opacity.specs.Transactions.{precedes, Status, status, lastWrite}
-use Rattle.events.proofs.ListLaws.{and-l, and-r, and-i, or-l, or-r, or-false, any-append, any-weaken, latest-snoc}
+use Rattle.events.proofs.ListLaws.{and-l, and-r, and-i, or-l, or-r, or-false, any-weaken, latest-snoc}
+use Rattle.events.proofs.StateLaws.{has-snoc}
+use Rattle.opacity.proofs.Snoc.{precedes-more}
 use Rattle.search.specs.Bits.{bitAt}
 use Rattle.tables.specs.declared.Tables.{Tables}
 use Rattle.tables.specs.Tables.{slotOf, next, empty, goThrough, tablesOf}
@@ -68,31 +70,9 @@ bit-with (suc x) (suc t) n = let e : 2 ^ suc t / 2 ≡ 2 ^ t = rw pow-suc (omega
 
 -- ---- one event more in a history
 
-pub has-snoc : (p : Event → Bool) (t : ℕ) (h : List Event) (e : Event) → has p t (h ++ (e ∷ [])) ≡ (has p t h or by p t e)
-unfolding has any
-has-snoc p t h e = any-append (by p t) h (e ∷ []) ∙ ap (λ (b : Bool). any (by p t) h or b) (or-false (by p t e))
-
-shuffle : (a b c p q : Bool) → ((a and (b or c)) or (p or (q and c))) ≡ (((a and b) or p) or ((a or q) and c))
-unfolding _and_ _or_
-shuffle false b c p q = refl
-shuffle true true c p q = refl
-shuffle true false true true q = refl
-shuffle true false true false q = refl
-shuffle true false false true q = refl
-shuffle true false false false true = refl
-shuffle true false false false false = refl
-
-nothing : (a b : Bool) → ((a and false) or false) ≡ (false or (false and b))
-unfolding _and_ _or_
-nothing true b = refl
-nothing false b = refl
-
 pub precedes-snoc : (h : List Event) (e : Event) (x t : ℕ) → precedes (h ++ (e ∷ [])) x t ≡ (precedes h x t or (ended x h and by isBegin t e))
-unfolding precedes ended has any
-precedes-snoc [] e x t = nothing (by isEnd x e) (by isBegin t e)
-precedes-snoc (y ∷ h) e x t =
-    rw (has-snoc isBegin t h e, precedes-snoc h e x t)
-    (shuffle (by isEnd x y) (has isBegin t h) (by isBegin t e) (precedes h x t) (ended x h))
+unfolding ended
+precedes-snoc h e x t = precedes-more h e x t
 
 -- what precedes a transaction has ended
 pub precedes-ended : (h : List Event) (x t : ℕ) → precedes h x t ≡ true → ended x h ≡ true
@@ -204,7 +184,7 @@ module _ (h : List Event) (good : Good h) where
 
   ended-step : (s : Tables) (past : List Event) (e : Event) (x : ℕ) → bitAt x (s .ended) ≡ digit (ended x past) → bitAt x (next s e .ended) ≡ digit (ended x (past ++ (e ∷ [])))
   unfolding ended
-  ended-step s past e x q = rw (ended-next s e, has-snoc isEnd x past e) (go (isEnd e) refl (eqb (e .transaction) x) refl)
+  ended-step s past e x q = rw (ended-next s e, has-snoc isEnd past e x) (go (isEnd e) refl (eqb (e .transaction) x) refl)
     where
       go : (b : Bool) → isEnd e ≡ b → (d : Bool) → eqb (e .transaction) x ≡ d → bitAt x (cond b (bitOr (s .ended) (2 ^ e .transaction)) (s .ended)) ≡ digit (has isEnd x past or by isEnd x e)
       go true f true g = rw (bit-with x (e .transaction) (s .ended), g, by-same isEnd x e g, f, or-true)
@@ -298,7 +278,7 @@ module _ (h : List Event) (good : Good h) where
       → getD (s .allowed) t 0 ≡ rule (status past t) → getD (next s e .allowed) t 0 ≡ rule (status (past ++ (e ∷ [])) t)
   unfolding status
   allowed-step s past e k going t l q =
-      rw (allowed-next s e, has-snoc isCommit t past e, has-snoc isAbort t past e, has-snoc asksCommit t past e) (go (eqb (e .transaction) t) refl (sort e))
+      rw (allowed-next s e, has-snoc isCommit past e t, has-snoc isAbort past e t, has-snoc asksCommit past e t) (go (eqb (e .transaction) t) refl (sort e))
     where
       now : ℕ → Bool → Bool → Bool → Type 0
       now v c x a = v ≡ rule (cond (has isCommit t past or c) Status.committed (cond (has isAbort t past or x) Status.aborted (cond (has asksCommit t past or a) Status.pending Status.live)))

@@ -73,86 +73,60 @@ sort e = g₁ (eqb (e .kind) 16) refl
     g₁ true q = begin (tests e 16 (eqb-true k 16 q))
     g₁ false q = g₂ (eqb k 18) refl q
 
+-- what holds of the tests' answers for each kind of event holds of them for every event
+pub by-sort : (P : Bool → Bool → Bool → Bool → Bool → Bool → Type 0) (e : Event)
+    → P true false false false false false → P false true false false false false → P false false true false false false → P false false false true false false
+    → P false false false false true false → P false false false false false true → P false false false false false false
+    → P (isBegin e) (isRead e) (isWrite e) (asksCommit e) (isCommit e) (isAbort e)
+by-sort P e p₁ p₂ p₃ p₄ p₅ p₆ p₇ = go (sort e)
+  where
+    told : {b r w a c x : Bool} → Tests e b r w a c x → P b r w a c x → P (isBegin e) (isRead e) (isWrite e) (asksCommit e) (isCommit e) (isAbort e)
+    told t p = rw (t .begins, t .reads, t .writes, t .asks, t .commits, t .aborts) p
+
+    go : Sort e → P (isBegin e) (isRead e) (isWrite e) (asksCommit e) (isCommit e) (isAbort e)
+    go (begin t) = told t p₁
+    go (read t) = told t p₂
+    go (write t) = told t p₃
+    go (ask t) = told t p₄
+    go (commit t) = told t p₅
+    go (abort t) = told t p₆
+    go (other t) = told t p₇
+
 -- the tables of one event more, each by itself
 module _ (s : Tables) (e : Event) where
+  -- the next tables, by the tests' answers
+  abbrev nextBy : Bool → Bool → Bool → Bool → Bool → Bool → Tables
+  nextBy b r w a c x =
+      cond b (begun s (e .transaction))
+      (cond r (readAt s (slotOf e) (e .value + 1))
+      (cond w (writtenAt s (slotOf e) (e .value + 1))
+      (cond a (settled s (e .transaction) 2 (s .ended))
+      (cond c (settled s (e .transaction) 1 (bitOr (s .ended) (2 ^ e .transaction)))
+      (cond x (settled s (e .transaction) 0 (bitOr (s .ended) (2 ^ e .transaction)))
+      s)))))
+
   pub ended-next : next s e .ended ≡ cond (isEnd e) (bitOr (s .ended) (2 ^ e .transaction)) (s .ended)
   unfolding next isEnd _or_ begun settled writtenAt readAt
-  ended-next = go (sort e)
-    where
-      go : Sort e → next s e .ended ≡ cond (isEnd e) (bitOr (s .ended) (2 ^ e .transaction)) (s .ended)
-      go (begin t) = simp (t .begins, t .commits, t .aborts)
-      go (read t) = simp (t .begins, t .reads, t .commits, t .aborts)
-      go (write t) = simp (t .begins, t .reads, t .writes, t .commits, t .aborts)
-      go (ask t) = simp (t .begins, t .reads, t .writes, t .asks, t .commits, t .aborts)
-      go (commit t) = simp (t .begins, t .reads, t .writes, t .asks, t .commits, t .aborts)
-      go (abort t) = simp (t .begins, t .reads, t .writes, t .asks, t .commits, t .aborts)
-      go (other t) = simp (t .begins, t .reads, t .writes, t .asks, t .commits, t .aborts)
+  ended-next = by-sort (λ b r w a c x. nextBy b r w a c x .ended ≡ cond (c or x) (bitOr (s .ended) (2 ^ e .transaction)) (s .ended)) e refl refl refl refl refl refl refl
 
   pub predecessors-next : next s e .predecessors ≡ cond (isBegin e) (set (s .predecessors) (e .transaction) (s .ended)) (s .predecessors)
   unfolding next begun settled writtenAt readAt
-  predecessors-next = go (sort e)
-    where
-      go : Sort e → next s e .predecessors ≡ cond (isBegin e) (set (s .predecessors) (e .transaction) (s .ended)) (s .predecessors)
-      go (begin t) = simp (t .begins)
-      go (read t) = simp (t .begins, t .reads)
-      go (write t) = simp (t .begins, t .reads, t .writes)
-      go (ask t) = simp (t .begins, t .reads, t .writes, t .asks)
-      go (commit t) = simp (t .begins, t .reads, t .writes, t .asks, t .commits)
-      go (abort t) = simp (t .begins, t .reads, t .writes, t .asks, t .commits, t .aborts)
-      go (other t) = simp (t .begins, t .reads, t .writes, t .asks, t .commits, t .aborts)
+  predecessors-next = by-sort (λ b r w a c x. nextBy b r w a c x .predecessors ≡ cond b (set (s .predecessors) (e .transaction) (s .ended)) (s .predecessors)) e refl refl refl refl refl refl refl
 
   pub written-next : next s e .written ≡ cond (isWrite e) (set (s .written) (slotOf e) (e .value + 1)) (s .written)
   unfolding next begun settled writtenAt readAt
-  written-next = go (sort e)
-    where
-      go : Sort e → next s e .written ≡ cond (isWrite e) (set (s .written) (slotOf e) (e .value + 1)) (s .written)
-      go (begin t) = simp (t .begins, t .writes)
-      go (read t) = simp (t .begins, t .reads, t .writes)
-      go (write t) = simp (t .begins, t .reads, t .writes)
-      go (ask t) = simp (t .begins, t .reads, t .writes, t .asks)
-      go (commit t) = simp (t .begins, t .reads, t .writes, t .asks, t .commits)
-      go (abort t) = simp (t .begins, t .reads, t .writes, t .asks, t .commits, t .aborts)
-      go (other t) = simp (t .begins, t .reads, t .writes, t .asks, t .commits, t .aborts)
+  written-next = by-sort (λ b r w a c x. nextBy b r w a c x .written ≡ cond w (set (s .written) (slotOf e) (e .value + 1)) (s .written)) e refl refl refl refl refl refl refl
 
   pub allowed-next : next s e .allowed
       ≡ cond (asksCommit e) (set (s .allowed) (e .transaction) 2) (cond (isCommit e) (set (s .allowed) (e .transaction) 1) (cond (isAbort e) (set (s .allowed) (e .transaction) 0) (s .allowed)))
   unfolding next begun settled writtenAt readAt
-  allowed-next = go (sort e)
-    where
-      go : Sort e → next s e .allowed
-          ≡ cond (asksCommit e) (set (s .allowed) (e .transaction) 2) (cond (isCommit e) (set (s .allowed) (e .transaction) 1) (cond (isAbort e) (set (s .allowed) (e .transaction) 0) (s .allowed)))
-      go (begin t) = simp (t .begins, t .asks, t .commits, t .aborts)
-      go (read t) = simp (t .begins, t .reads, t .asks, t .commits, t .aborts)
-      go (write t) = simp (t .begins, t .reads, t .writes, t .asks, t .commits, t .aborts)
-      go (ask t) = simp (t .begins, t .reads, t .writes, t .asks)
-      go (commit t) = simp (t .begins, t .reads, t .writes, t .asks, t .commits)
-      go (abort t) = simp (t .begins, t .reads, t .writes, t .asks, t .commits, t .aborts)
-      go (other t) = simp (t .begins, t .reads, t .writes, t .asks, t .commits, t .aborts)
+  allowed-next = by-sort (λ b r w a c x. nextBy b r w a c x .allowed ≡ cond a (set (s .allowed) (e .transaction) 2) (cond c (set (s .allowed) (e .transaction) 1) (cond x (set (s .allowed) (e .transaction) 0) (s .allowed)))) e refl refl refl refl refl refl refl
 
   pub required-next : next s e .required ≡ cond (isRead e) (cond (eqb (getD (s .written) (slotOf e) 0) 0) (set (s .required) (slotOf e) (e .value + 1)) (s .required)) (s .required)
   unfolding next begun settled writtenAt readAt
-  required-next = go (sort e)
-    where
-      go : Sort e → next s e .required ≡ cond (isRead e) (cond (eqb (getD (s .written) (slotOf e) 0) 0) (set (s .required) (slotOf e) (e .value + 1)) (s .required)) (s .required)
-      go (begin t) = simp (t .begins, t .reads)
-      go (read t) = simp (t .begins, t .reads)
-      go (write t) = simp (t .begins, t .reads, t .writes)
-      go (ask t) = simp (t .begins, t .reads, t .writes, t .asks)
-      go (commit t) = simp (t .begins, t .reads, t .writes, t .asks, t .commits)
-      go (abort t) = simp (t .begins, t .reads, t .writes, t .asks, t .commits, t .aborts)
-      go (other t) = simp (t .begins, t .reads, t .writes, t .asks, t .commits, t .aborts)
+  required-next = by-sort (λ b r w a c x. nextBy b r w a c x .required ≡ cond r (cond (eqb (getD (s .written) (slotOf e) 0) 0) (set (s .required) (slotOf e) (e .value + 1)) (s .required)) (s .required)) e refl refl refl refl refl refl refl
 
   pub contradictory-next : next s e .contradictory
       ≡ cond (isRead e) (s .contradictory or clashes (cond (eqb (getD (s .written) (slotOf e) 0) 0) (getD (s .required) (slotOf e) 0) (getD (s .written) (slotOf e) 0)) (e .value + 1)) (s .contradictory)
   unfolding next begun settled writtenAt readAt
-  contradictory-next = go (sort e)
-    where
-      go : Sort e → next s e .contradictory
-          ≡ cond (isRead e) (s .contradictory or clashes (cond (eqb (getD (s .written) (slotOf e) 0) 0) (getD (s .required) (slotOf e) 0) (getD (s .written) (slotOf e) 0)) (e .value + 1)) (s .contradictory)
-      go (begin t) = simp (t .begins, t .reads)
-      go (read t) = simp (t .begins, t .reads)
-      go (write t) = simp (t .begins, t .reads, t .writes)
-      go (ask t) = simp (t .begins, t .reads, t .writes, t .asks)
-      go (commit t) = simp (t .begins, t .reads, t .writes, t .asks, t .commits)
-      go (abort t) = simp (t .begins, t .reads, t .writes, t .asks, t .commits, t .aborts)
-      go (other t) = simp (t .begins, t .reads, t .writes, t .asks, t .commits, t .aborts)
+  contradictory-next = by-sort (λ b r w a c x. nextBy b r w a c x .contradictory ≡ cond r (s .contradictory or clashes (cond (eqb (getD (s .written) (slotOf e) 0) 0) (getD (s .required) (slotOf e) 0) (getD (s .written) (slotOf e) 0)) (e .value + 1)) (s .contradictory)) e refl refl refl refl refl refl refl

@@ -8,8 +8,7 @@ use denote.Ref.{now}
 use borrow.Author.Needs.{needs}
 use borrow.Author.Tests.{not-true, not-false}
 use Rattle.events.specs.Columns.{columns, hold}
-use Rattle.tables.proofs.CallLaws.{columns-e}
-use Rattle.tables.proofs.JudgedLaws.{readable-columns}
+use Rattle.opacity.proofs.CountLaws.{checked-readable}
 use Rattle.finder.proofs.AnswerLaws.{not-held, too-long, event-refused, prefix-decides}
 use Rattle.finder.proofs.find_marking.Statement.{statement}
 use Rattle.finder.proofs.find_marking.Tie as tie
@@ -55,10 +54,8 @@ find-readable-requires c κs =
     let start = c .before .before .before .before .before .before .before .before .before .before .before .before .before in
     let cs = columns (now (start .args .kinds)) (now (start .args .transactions)) (now (start .args .registers)) (now (start .args .values)) in
     let o = now (start .args .output) in
-    let held : hold cs (start .args .count) ≡ true = sym (c .before .before .before .before .before .before .before .columns-hold .ensures) ∙ not-false _ (c .before .before .before .before .before .before .if1 .left) in
     let l : start .args .prefix ≤ start .args .count = omega (arith, c .before .before .before .before .before .if2 .left) in
-    let r = columns-e cs (start .args .count) (sym (c .before .before .before .before .check-columns .ensures) ∙ c .before .before .enum-told .given .1) in
-    (readable-columns cs (start .args .count) held (r .1), omega arith)
+    (checked-readable cs (start .args .count) (sym (c .before .before .before .before .check-columns .ensures) ∙ c .before .before .enum-told .given .1), omega arith)
 
 same-length : tie.Need-same-length
 same-length c = search needs

@@ -4,8 +4,7 @@ use mathlib.Core.Path.{sym, _∙_}
 use denote.Ref.{now}
 use borrow.Author.Needs.{needs}
 use Rattle.events.specs.Columns.{columns}
-use Rattle.tables.proofs.CallLaws.{columns-e}
-use Rattle.tables.proofs.JudgedLaws.{readable-columns}
+use Rattle.opacity.proofs.CountLaws.{checked-readable}
 use Rattle.scan.proofs.AnswerLaws.{event-refused, events-decide}
 use Rattle.scan.proofs.scan_history.Statement.{statement}
 use Rattle.scan.proofs.scan_history.Tie as tie
@@ -29,8 +28,7 @@ scan-readable-requires : tie.Need-scan-readable-requires
 scan-readable-requires c κs =
     let start = c .before .before .before .before .before .before .before in
     let cs = columns (now (start .args .kinds)) (now (start .args .transactions)) (now (start .args .registers)) (now (start .args .values)) in
-    let r = columns-e cs (start .args .count) (sym (c .before .before .check-columns .ensures) ∙ c .enum-told .given .1) in
-    readable-columns cs (start .args .count) (r .0) (r .1)
+    checked-readable cs (start .args .count) (sym (c .before .before .check-columns .ensures) ∙ c .enum-told .given .1)
 
 returns-2 : tie.Need-returns-2
 returns-2 c =

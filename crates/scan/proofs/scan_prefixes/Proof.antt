@@ -6,8 +6,9 @@ use Prim.Native.Nat.{_-_}
 use native.Mathlib.Omega.{arith}
 use denote.Ref.{now}
 use Rattle.events.specs.Columns.{columns, history}
-use Rattle.tables.proofs.GoodHistory.{in-tables, low-number}
+use Rattle.tables.proofs.GoodHistory.{in-tables}
 use Rattle.events.proofs.ColumnLaws.{history-length}
+use Rattle.events.proofs.ReadableLaws.{readable-most}
 use Rattle.scan.proofs.ScanLaws.{Scanning, scanning-none, few-before, few-begun, scanning-more, scanning-fault, scanning-end}
 use Rattle.scan.proofs.scan_prefixes.Statement.{statement}
 use Rattle.scan.proofs.scan_prefixes.Tie as tie
@@ -100,8 +101,7 @@ add-i c =
     let at = c .before .before .before .before .before .before .before .before .before .before .loop in
     let l = c .before .before .before .before .before .before .before .before .before .loop-test .taken in
     let cs = columns (now (start .args .kinds)) (now (start .args .transactions)) (now (start .args .registers)) (now (start .args .values)) in
-    let q = low-number (history cs (start .args .n)) (start .pre .readable) (start .pre .few) (at .i) (omega (arith, history-length cs (start .args .n))) in
-    omega arith
+    omega (arith, readable-most (history cs (start .args .n)) (start .pre .readable), history-length cs (start .args .n))
 
 loop-less : tie.Need-loop-less Inv-loop μ-loop
 loop-less c = search needs

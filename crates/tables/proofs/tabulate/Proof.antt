@@ -61,14 +61,18 @@ loop-less c = search needs
 
 loop-again : tie.Need-loop-again Inv-loop μ-loop
 loop-again c =
+    let start = c .before .before .before .before .before .before .before .before .before .before .before .before in
+    let cs = columns (start .args .kinds .now) (start .args .transactions .now) (start .args .registers .now) (start .args .values .now) in
     let at = c .before .before .before .before .before .before .loop in
-    (omega arith, tables-more (columns (c .before .before .before .before .before .before .before .before .before .before .before .before .args .kinds .now) (c .before .before .before .before .before .before .before .before .before .before .before .before .args .transactions .now) (c .before .before .before .before .before .before .before .before .before .before .before .before .args .registers .now) (c .before .before .before .before .before .before .before .before .before .before .before .before .args .values .now)) (at .i) (at .s) (c .step .result) (at .inv .1) (c .step .ensures))
+    (omega arith, tables-more cs (at .i) (at .s) (c .step .result) (at .inv .1) (c .step .ensures))
 
 returns : tie.Need-returns Inv-loop μ-loop
 returns c =
+    let start = c .before .before .before .before .before .before .before in
+    let cs = columns (start .args .kinds .now) (start .args .transactions .now) (start .args .registers .now) (start .args .values .now) in
     let at = c .before .loop in
-    let e : at .i ≡ c .before .before .before .before .before .before .before .args .n = omega arith in
-    at .inv .1 ∙ ap (λ (k : ℕ). tablesOf (history (columns (c .before .before .before .before .before .before .before .args .kinds .now) (c .before .before .before .before .before .before .before .args .transactions .now) (c .before .before .before .before .before .before .before .args .registers .now) (c .before .before .before .before .before .before .before .args .values .now)) k)) e
+    let e : at .i ≡ start .args .n = omega arith in
+    at .inv .1 ∙ ap (λ (k : ℕ). tablesOf (history cs k)) e
 
 pub tabulate-spec : {M : Type 1} → statement M
 tabulate-spec =

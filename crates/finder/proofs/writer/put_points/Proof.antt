@@ -9,9 +9,10 @@ use denote.Ref.{now}
 use Rattle.tables.specs.Order.{decode}
 use Rattle.events.specs.Bytes as bytes
 use Rattle.events.specs.Columns.{columns, history}
-use Rattle.tables.proofs.GoodHistory.{in-tables, low-number}
+use Rattle.tables.proofs.GoodHistory.{in-tables}
 use Rattle.finder.proofs.PointLaws.{Pointing, pointing-none, pointing-room, pointing-more}
 use Rattle.events.proofs.ColumnLaws.{history-length}
+use Rattle.events.proofs.ReadableLaws.{readable-most}
 use Rattle.finder.proofs.writer.put_points.Statement.{statement}
 use Rattle.finder.proofs.writer.put_points.Tie as tie
 
@@ -67,8 +68,7 @@ cast-put-read c =
     let at = c .before .before .before .before .before .before .before .loop in
     let cs = columns (now (start .args .kinds)) (now (start .args .transactions)) (now (start .args .registers)) (now (start .args .values)) in
     let J = decode (take (start .args .count) (start .args .places)) in
-    let q = low-number (history cs (start .args .n)) (start .pre .0 .readable) (start .pre .0 .few) (at .i) (omega (arith, history-length cs (start .args .n))) in
-    omega arith
+    omega (arith, readable-most (history cs (start .args .n)) (start .pre .0 .readable), history-length cs (start .args .n))
 
 cast-put-read-2 : tie.Need-cast-put-read-2 Inv-loop μ-loop
 cast-put-read-2 c = omega (arith, c .before .place-of .ensures .1, c .before .before .before .before .before .before .before .before .before .before .before .before .before .before .pre .1 .0)
@@ -102,8 +102,7 @@ add-i c =
     let at = c .before .before .before .before .before .before .before .before .before .before .before .before .loop in
     let cs = columns (now (start .args .kinds)) (now (start .args .transactions)) (now (start .args .registers)) (now (start .args .values)) in
     let l = c .before .before .before .before .before .before .before .before .before .before .before .loop-test .taken in
-    let q = low-number (history cs (start .args .n)) (start .pre .0 .readable) (start .pre .0 .few) (at .i) (omega (arith, history-length cs (start .args .n))) in
-    omega arith
+    omega (arith, readable-most (history cs (start .args .n)) (start .pre .0 .readable), history-length cs (start .args .n))
 
 loop-less : tie.Need-loop-less Inv-loop μ-loop
 loop-less c = search needs

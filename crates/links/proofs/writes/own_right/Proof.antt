@@ -2,7 +2,7 @@
 -- Assumes nothing.
 use lib.ListN.{getD}
 use Rattle.links.specs.Writes.{ownBy, ownRightBy}
-use Prim.Native.Nat.{_-_, _<_}
+use Prim.Native.Nat.{_<_}
 use mathlib.Core.Path.{sym, _∙_}
 use native.Mathlib.Omega.{arith}
 use borrow.Author.Tests.{eq-eqb, ne-eqb}
@@ -29,8 +29,9 @@ own-write-requires c κs = (c .before .before .before .before .before .pre .0, c
 returns-2 : tie.Need-returns-2
 unfolding ownRightBy isRead _implies_
 returns-2 c =
-    let o = ownBy (c .before .before .before .before .before .before .before .args .registers .now) (c .before .before .before .before .before .before .before .args .values .now) (c .before .before .before .before .before .before .before .args .link .now) (c .before .before .before .before .before .before .before .args .i) in
-    rw (eq-eqb _ _ (c .before .before .if1 .left)) (sym (agrees-none o (getD (c .before .before .before .before .before .before .before .args .values .now) (c .before .before .before .before .before .before .before .args .i) 0) (sym (c .if2 .taken) ∙ c .before .own-write .ensures)))
+    let start = c .before .before .before .before .before .before .before in
+    let o = ownBy (start .args .registers .now) (start .args .values .now) (start .args .link .now) (start .args .i) in
+    rw (eq-eqb _ _ (c .before .before .if1 .left)) (sym (agrees-none o (getD (start .args .values .now) (start .args .i) 0) (sym (c .if2 .taken) ∙ c .before .own-write .ensures)))
 
 mul-stored : tie.Need-mul-stored
 mul-stored c = let l : c .before .before .before .before .before .before .before .args .i < 2048 = omega (arith, c .before .before .before .before .before .before .before .pre .0 .few) in search needs
@@ -44,8 +45,9 @@ stored-requires c κs = search needs
 returns-3 : tie.Need-returns-3
 unfolding ownRightBy isRead _implies_
 returns-3 c =
-    let o = ownBy (c .before .before .before .before .before .before .before .before .before .args .registers .now) (c .before .before .before .before .before .before .before .before .before .args .values .now) (c .before .before .before .before .before .before .before .before .before .args .link .now) (c .before .before .before .before .before .before .before .before .before .args .i) in
-    rw (eq-eqb _ _ (c .before .before .before .before .if1 .left)) (sym (agrees-some o (c .before .before .before .own-write .result) (c .stored .result) (getD (c .before .before .before .before .before .before .before .before .before .args .values .now) (c .before .before .before .before .before .before .before .before .before .args .i) 0) (c .before .before .before .own-write .ensures) (c .before .before .if2 .left) (c .stored .ensures)))
+    let start = c .before .before .before .before .before .before .before .before .before in
+    let o = ownBy (start .args .registers .now) (start .args .values .now) (start .args .link .now) (start .args .i) in
+    rw (eq-eqb _ _ (c .before .before .before .before .if1 .left)) (sym (agrees-some o (c .before .before .before .own-write .result) (c .stored .result) (getD (start .args .values .now) (start .args .i) 0) (c .before .before .before .own-write .ensures) (c .before .before .if2 .left) (c .stored .ensures)))
 
 pub own-right-spec : {M : Type 1} → statement M
 own-right-spec =

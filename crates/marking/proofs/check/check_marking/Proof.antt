@@ -1,6 +1,5 @@
 -- `marking::check::check_marking` meets its contract.
 -- Assumes nothing.
-use Prim.Native.Nat.{_-_}
 use mathlib.Core.Path.{sym, _∙_}
 use Rattle.events.specs.Columns.{columns}
 use Rattle.marking.specs.Answer.{answerFrom, verdictAnswer}
@@ -21,8 +20,10 @@ enum-told c = search needs
 
 check-file-requires : tie.Need-check-file-requires
 check-file-requires c κs =
-    let w = columns-readable (columns (c .before .before .before .before .before .before .before .before .args .kinds .now) (c .before .before .before .before .before .before .before .before .args .transactions .now) (c .before .before .before .before .before .before .before .before .args .registers .now) (c .before .before .before .before .before .before .before .before .args .values .now)) (c .before .before .before .before .before .before .before .before .args .count) (sym (c .before .before .check-columns .ensures) ∙ c .enum-told .given .1) in
-    ground (columns (c .before .before .before .before .before .before .before .before .args .kinds .now) (c .before .before .before .before .before .before .before .before .args .transactions .now) (c .before .before .before .before .before .before .before .before .args .registers .now) (c .before .before .before .before .before .before .before .before .args .values .now)) (c .before .before .before .before .before .before .before .before .args .count) (w .1) (w .0)
+    let start = c .before .before .before .before .before .before .before .before in
+    let cs = columns (start .args .kinds .now) (start .args .transactions .now) (start .args .registers .now) (start .args .values .now) in
+    let w = columns-readable cs (start .args .count) (sym (c .before .before .check-columns .ensures) ∙ c .enum-told .given .1) in
+    ground cs (start .args .count) (w .1) (w .0)
 
 returns : tie.Need-returns
 unfolding verdictAnswer answerFrom

@@ -1,6 +1,5 @@
 -- `marking::step::place_step` meets its contract.
 -- Assumes nothing.
-use Prim.Native.Nat.{_-_}
 use mathlib.Core.Path.{sym, _∙_}
 use mathlib.Core.Bool.{false}
 use borrow.Author.Tests.{eq-eqb, ne-eqb}
@@ -28,11 +27,15 @@ place-asked-requires c κs = search needs
 
 returns-2 : tie.Need-returns-2
 unfolding placeStep
-returns-2 c = rw (eq-eqb _ _ (c .before .before .before .before .if1 .left), ← c .before .before .before .u16-at .ensures, ← c .before .before .u16-at2 .ensures) (unless-none (refusal (placeQuestions (c .before .before .before .before .before .before .args .begun) (c .before .before .before .before .before .before .args .next) (getD (c .before .before .before .before .before .before .args .used .now) (c .before .before .before .u16-at .result) false) (c .before .before .before .u16-at .result) (c .before .before .u16-at2 .result))) Refused _ (place-none (c .before .before .before .before .before .before .args .begun) (c .before .before .before .before .before .before .args .next) _ _ _ (sym (c .if2 .taken) ∙ c .before .place-asked .ensures)))
+returns-2 c =
+    let start = c .before .before .before .before .before .before in
+    rw (eq-eqb _ _ (c .before .before .before .before .if1 .left), ← c .before .before .before .u16-at .ensures, ← c .before .before .u16-at2 .ensures) (unless-none (refusal (placeQuestions (start .args .begun) (start .args .next) (getD (start .args .used .now) (c .before .before .before .u16-at .result) false) (c .before .before .before .u16-at .result) (c .before .before .u16-at2 .result))) Refused _ (place-none (start .args .begun) (start .args .next) _ _ _ (sym (c .if2 .taken) ∙ c .before .place-asked .ensures)))
 
 returns-3 : tie.Need-returns-3
 unfolding placeStep
-returns-3 c = rw (eq-eqb _ _ (c .before .before .before .before .if1 .left), ← c .before .before .before .u16-at .ensures, ← c .before .before .u16-at2 .ensures) (unless-some (refusal (placeQuestions (c .before .before .before .before .before .before .args .begun) (c .before .before .before .before .before .before .args .next) (getD (c .before .before .before .before .before .before .args .used .now) (c .before .before .before .u16-at .result) false) (c .before .before .before .u16-at .result) (c .before .before .u16-at2 .result))) Refused (Placed (c .before .before .before .u16-at .result) (c .before .before .u16-at2 .result) (c .before .before .before .before .before .before .args .end)) _ (c .if2 .left) (c .before .place-asked .ensures))
+returns-3 c =
+    let start = c .before .before .before .before .before .before in
+    rw (eq-eqb _ _ (c .before .before .before .before .if1 .left), ← c .before .before .before .u16-at .ensures, ← c .before .before .u16-at2 .ensures) (unless-some (refusal (placeQuestions (start .args .begun) (start .args .next) (getD (start .args .used .now) (c .before .before .before .u16-at .result) false) (c .before .before .before .u16-at .result) (c .before .before .u16-at2 .result))) Refused (Placed (c .before .before .before .u16-at .result) (c .before .before .u16-at2 .result) (start .args .end)) _ (c .if2 .left) (c .before .place-asked .ensures))
 
 pub place-step-spec : {M : Type 1} → statement M
 place-step-spec =

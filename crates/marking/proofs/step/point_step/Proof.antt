@@ -1,6 +1,5 @@
 -- `marking::step::point_step` meets its contract.
 -- Assumes nothing.
-use Prim.Native.Nat.{_-_}
 use mathlib.Core.Path.{sym, _∙_}
 use mathlib.Core.Bool.{false}
 use borrow.Author.Tests.{eq-eqb, ne-eqb}
@@ -32,11 +31,15 @@ point-asked-requires c κs = c .before .before .before .before .pre
 
 returns-2 : tie.Need-returns-2
 unfolding pointStep
-returns-2 c = rw (eq-eqb _ _ (c .before .before .before .before .if1 .left), ← c .before .before .before .u32-at .ensures, ← c .before .before .u16-at .ensures) (unless-none (refusal (pointQuestions (c .before .before .before .before .before .before .args .begun) (c .before .before .before .before .before .before .args .next) (eqb (c .before .before .before .before .before .before .args .filled) (c .before .before .before .before .before .before .args .begun)) (getD (c .before .before .before .before .before .before .args .reads .now) (c .before .before .before .u32-at .result) false) (c .before .before .before .u32-at .result) (c .before .before .u16-at .result))) Refused _ (point-none (c .before .before .before .before .before .before .args .begun) (c .before .before .before .before .before .before .args .next) (eqb (c .before .before .before .before .before .before .args .filled) (c .before .before .before .before .before .before .args .begun)) _ _ _ (sym (c .if2 .taken) ∙ c .before .point-asked .ensures)))
+returns-2 c =
+    let start = c .before .before .before .before .before .before in
+    rw (eq-eqb _ _ (c .before .before .before .before .if1 .left), ← c .before .before .before .u32-at .ensures, ← c .before .before .u16-at .ensures) (unless-none (refusal (pointQuestions (start .args .begun) (start .args .next) (eqb (start .args .filled) (start .args .begun)) (getD (start .args .reads .now) (c .before .before .before .u32-at .result) false) (c .before .before .before .u32-at .result) (c .before .before .u16-at .result))) Refused _ (point-none (start .args .begun) (start .args .next) (eqb (start .args .filled) (start .args .begun)) _ _ _ (sym (c .if2 .taken) ∙ c .before .point-asked .ensures)))
 
 returns-3 : tie.Need-returns-3
 unfolding pointStep
-returns-3 c = rw (eq-eqb _ _ (c .before .before .before .before .if1 .left), ← c .before .before .before .u32-at .ensures, ← c .before .before .u16-at .ensures) (unless-some (refusal (pointQuestions (c .before .before .before .before .before .before .args .begun) (c .before .before .before .before .before .before .args .next) (eqb (c .before .before .before .before .before .before .args .filled) (c .before .before .before .before .before .before .args .begun)) (getD (c .before .before .before .before .before .before .args .reads .now) (c .before .before .before .u32-at .result) false) (c .before .before .before .u32-at .result) (c .before .before .u16-at .result))) Refused (Pointed (c .before .before .before .u32-at .result) (c .before .before .u16-at .result) (c .before .before .before .before .before .before .args .end)) _ (c .if2 .left) (c .before .point-asked .ensures))
+returns-3 c =
+    let start = c .before .before .before .before .before .before in
+    rw (eq-eqb _ _ (c .before .before .before .before .if1 .left), ← c .before .before .before .u32-at .ensures, ← c .before .before .u16-at .ensures) (unless-some (refusal (pointQuestions (start .args .begun) (start .args .next) (eqb (start .args .filled) (start .args .begun)) (getD (start .args .reads .now) (c .before .before .before .u32-at .result) false) (c .before .before .before .u32-at .result) (c .before .before .u16-at .result))) Refused (Pointed (c .before .before .before .u32-at .result) (c .before .before .u16-at .result) (start .args .end)) _ (c .if2 .left) (c .before .point-asked .ensures))
 
 pub point-step-spec : {M : Type 1} → statement M
 point-step-spec =

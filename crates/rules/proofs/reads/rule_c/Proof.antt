@@ -25,7 +25,9 @@ own-right-requires : tie.Need-own-right-requires Inv-loop μ-loop
 own-right-requires c κs = (c .before .before .before .before .before .pre .0, (omega arith, c .before .before .before .before .before .pre .1))
 
 returns : tie.Need-returns Inv-loop μ-loop
-returns c = sym (broken-at (ownRightBy (c .before .before .before .before .before .before .before .args .kinds .now) (c .before .before .before .before .before .before .before .args .registers .now) (c .before .before .before .before .before .before .before .args .values .now) (c .before .before .before .before .before .before .before .args .link .now)) (c .before .before .before .before .before .before .before .args .count) (c .before .before .before .loop .i) (omega arith) (c .before .before .before .loop .inv .1) (sym (c .before .own-right .ensures) ∙ not-true _ (c .if1 .taken)))
+returns c =
+    let start = c .before .before .before .before .before .before .before in
+    sym (broken-at (ownRightBy (start .args .kinds .now) (start .args .registers .now) (start .args .values .now) (start .args .link .now)) (start .args .count) (c .before .before .before .loop .i) (omega arith) (c .before .before .before .loop .inv .1) (sym (c .before .own-right .ensures) ∙ not-true _ (c .if1 .taken)))
 
 add-i : tie.Need-add-i Inv-loop μ-loop
 add-i c = search needs
@@ -34,12 +36,15 @@ loop-less : tie.Need-loop-less Inv-loop μ-loop
 loop-less c = search needs
 
 loop-again : tie.Need-loop-again Inv-loop μ-loop
-loop-again c = (omega arith, so-far (ownRightBy (c .before .before .before .before .before .before .before .args .kinds .now) (c .before .before .before .before .before .before .before .args .registers .now) (c .before .before .before .before .before .before .before .args .values .now) (c .before .before .before .before .before .before .before .args .link .now)) (c .before .before .before .before .before .before .before .args .count) (c .before .before .before .loop .i) (c .before .before .before .loop .inv .1) (sym (c .before .own-right .ensures) ∙ not-false _ (c .if1 .left)))
+loop-again c =
+    let start = c .before .before .before .before .before .before .before in
+    (omega arith, so-far (ownRightBy (start .args .kinds .now) (start .args .registers .now) (start .args .values .now) (start .args .link .now)) (start .args .count) (c .before .before .before .loop .i) (c .before .before .before .loop .inv .1) (sym (c .before .own-right .ensures) ∙ not-false _ (c .if1 .left)))
 
 returns-2 : tie.Need-returns-2 Inv-loop μ-loop
 returns-2 c =
-    let e : c .before .loop .i ≡ c .before .before .before .before .before .args .count = omega arith in
-    sym (broken-none (ownRightBy (c .before .before .before .before .before .args .kinds .now) (c .before .before .before .before .before .args .registers .now) (c .before .before .before .before .before .args .values .now) (c .before .before .before .before .before .args .link .now)) (c .before .before .before .before .before .args .count) (subst (λ (x : ℕ). (k : ℕ) → k < x → ownRightBy (c .before .before .before .before .before .args .kinds .now) (c .before .before .before .before .before .args .registers .now) (c .before .before .before .before .before .args .values .now) (c .before .before .before .before .before .args .link .now) k ≡ true) e (c .before .loop .inv .1)))
+    let start = c .before .before .before .before .before in
+    let e : c .before .loop .i ≡ start .args .count = omega arith in
+    sym (broken-none (ownRightBy (start .args .kinds .now) (start .args .registers .now) (start .args .values .now) (start .args .link .now)) (start .args .count) (subst (λ (x : ℕ). (k : ℕ) → k < x → ownRightBy (start .args .kinds .now) (start .args .registers .now) (start .args .values .now) (start .args .link .now) k ≡ true) e (c .before .loop .inv .1)))
 
 pub rule-c-spec : {M : Type 1} → statement M
 rule-c-spec =

@@ -25,7 +25,9 @@ no-writer-between-requires : tie.Need-no-writer-between-requires Inv-loop μ-loo
 no-writer-between-requires c κs = (c .before .before .before .before .before .pre, omega arith)
 
 returns : tie.Need-returns Inv-loop μ-loop
-returns c = sym (broken-at (noWriterBy (c .before .before .before .before .before .before .before .args .transactions .now) (c .before .before .before .before .before .before .before .args .registers .now) (c .before .before .before .before .before .before .before .args .values .now) (c .before .before .before .before .before .before .before .args .link .now) (c .before .before .before .before .before .before .before .args .writers .now) (c .before .before .before .before .before .before .before .args .place .now) (c .before .before .before .before .before .before .before .args .reads .now) (c .before .before .before .before .before .before .before .args .gaps .now)) (c .before .before .before .before .before .before .before .args .count) (c .before .before .before .loop .i) (omega arith) (c .before .before .before .loop .inv .1) (sym (c .before .no-writer-between .ensures) ∙ not-true _ (c .if1 .taken)))
+returns c =
+    let start = c .before .before .before .before .before .before .before in
+    sym (broken-at (noWriterBy (start .args .transactions .now) (start .args .registers .now) (start .args .values .now) (start .args .link .now) (start .args .writers .now) (start .args .place .now) (start .args .reads .now) (start .args .gaps .now)) (start .args .count) (c .before .before .before .loop .i) (omega arith) (c .before .before .before .loop .inv .1) (sym (c .before .no-writer-between .ensures) ∙ not-true _ (c .if1 .taken)))
 
 add-i : tie.Need-add-i Inv-loop μ-loop
 add-i c = search needs
@@ -34,12 +36,15 @@ loop-less : tie.Need-loop-less Inv-loop μ-loop
 loop-less c = search needs
 
 loop-again : tie.Need-loop-again Inv-loop μ-loop
-loop-again c = (omega arith, so-far (noWriterBy (c .before .before .before .before .before .before .before .args .transactions .now) (c .before .before .before .before .before .before .before .args .registers .now) (c .before .before .before .before .before .before .before .args .values .now) (c .before .before .before .before .before .before .before .args .link .now) (c .before .before .before .before .before .before .before .args .writers .now) (c .before .before .before .before .before .before .before .args .place .now) (c .before .before .before .before .before .before .before .args .reads .now) (c .before .before .before .before .before .before .before .args .gaps .now)) (c .before .before .before .before .before .before .before .args .count) (c .before .before .before .loop .i) (c .before .before .before .loop .inv .1) (sym (c .before .no-writer-between .ensures) ∙ not-false _ (c .if1 .left)))
+loop-again c =
+    let start = c .before .before .before .before .before .before .before in
+    (omega arith, so-far (noWriterBy (start .args .transactions .now) (start .args .registers .now) (start .args .values .now) (start .args .link .now) (start .args .writers .now) (start .args .place .now) (start .args .reads .now) (start .args .gaps .now)) (start .args .count) (c .before .before .before .loop .i) (c .before .before .before .loop .inv .1) (sym (c .before .no-writer-between .ensures) ∙ not-false _ (c .if1 .left)))
 
 returns-2 : tie.Need-returns-2 Inv-loop μ-loop
 returns-2 c =
-    let e : c .before .loop .i ≡ c .before .before .before .before .before .args .count = omega arith in
-    sym (broken-none (noWriterBy (c .before .before .before .before .before .args .transactions .now) (c .before .before .before .before .before .args .registers .now) (c .before .before .before .before .before .args .values .now) (c .before .before .before .before .before .args .link .now) (c .before .before .before .before .before .args .writers .now) (c .before .before .before .before .before .args .place .now) (c .before .before .before .before .before .args .reads .now) (c .before .before .before .before .before .args .gaps .now)) (c .before .before .before .before .before .args .count) (subst (λ (x : ℕ). (k : ℕ) → k < x → noWriterBy (c .before .before .before .before .before .args .transactions .now) (c .before .before .before .before .before .args .registers .now) (c .before .before .before .before .before .args .values .now) (c .before .before .before .before .before .args .link .now) (c .before .before .before .before .before .args .writers .now) (c .before .before .before .before .before .args .place .now) (c .before .before .before .before .before .args .reads .now) (c .before .before .before .before .before .args .gaps .now) k ≡ true) e (c .before .loop .inv .1)))
+    let start = c .before .before .before .before .before in
+    let e : c .before .loop .i ≡ start .args .count = omega arith in
+    sym (broken-none (noWriterBy (start .args .transactions .now) (start .args .registers .now) (start .args .values .now) (start .args .link .now) (start .args .writers .now) (start .args .place .now) (start .args .reads .now) (start .args .gaps .now)) (start .args .count) (subst (λ (x : ℕ). (k : ℕ) → k < x → noWriterBy (start .args .transactions .now) (start .args .registers .now) (start .args .values .now) (start .args .link .now) (start .args .writers .now) (start .args .place .now) (start .args .reads .now) (start .args .gaps .now) k ≡ true) e (c .before .loop .inv .1)))
 
 pub rule-d-spec : {M : Type 1} → statement M
 rule-d-spec =

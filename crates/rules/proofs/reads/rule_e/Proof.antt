@@ -26,7 +26,9 @@ value-at-gap-requires : tie.Need-value-at-gap-requires Inv-loop μ-loop
 value-at-gap-requires c κs = (c .before .before .before .before .before .pre, omega arith)
 
 returns : tie.Need-returns Inv-loop μ-loop
-returns c = sym (broken-at (valueBy zeros (c .before .before .before .before .before .before .before .args .transactions .now) (c .before .before .before .before .before .before .before .args .registers .now) (c .before .before .before .before .before .before .before .args .values .now) (c .before .before .before .before .before .before .before .args .link .now) (c .before .before .before .before .before .before .before .args .writers .now) (c .before .before .before .before .before .before .before .args .place .now) (c .before .before .before .before .before .before .before .args .reads .now) (c .before .before .before .before .before .before .before .args .gaps .now)) (c .before .before .before .before .before .before .before .args .count) (c .before .before .before .loop .i) (omega arith) (c .before .before .before .loop .inv .1) (sym (c .before .value-at-gap .ensures) ∙ not-true _ (c .if1 .taken)))
+returns c =
+    let start = c .before .before .before .before .before .before .before in
+    sym (broken-at (valueBy zeros (start .args .transactions .now) (start .args .registers .now) (start .args .values .now) (start .args .link .now) (start .args .writers .now) (start .args .place .now) (start .args .reads .now) (start .args .gaps .now)) (start .args .count) (c .before .before .before .loop .i) (omega arith) (c .before .before .before .loop .inv .1) (sym (c .before .value-at-gap .ensures) ∙ not-true _ (c .if1 .taken)))
 
 add-i : tie.Need-add-i Inv-loop μ-loop
 add-i c = search needs
@@ -35,12 +37,15 @@ loop-less : tie.Need-loop-less Inv-loop μ-loop
 loop-less c = search needs
 
 loop-again : tie.Need-loop-again Inv-loop μ-loop
-loop-again c = (omega arith, so-far (valueBy zeros (c .before .before .before .before .before .before .before .args .transactions .now) (c .before .before .before .before .before .before .before .args .registers .now) (c .before .before .before .before .before .before .before .args .values .now) (c .before .before .before .before .before .before .before .args .link .now) (c .before .before .before .before .before .before .before .args .writers .now) (c .before .before .before .before .before .before .before .args .place .now) (c .before .before .before .before .before .before .before .args .reads .now) (c .before .before .before .before .before .before .before .args .gaps .now)) (c .before .before .before .before .before .before .before .args .count) (c .before .before .before .loop .i) (c .before .before .before .loop .inv .1) (sym (c .before .value-at-gap .ensures) ∙ not-false _ (c .if1 .left)))
+loop-again c =
+    let start = c .before .before .before .before .before .before .before in
+    (omega arith, so-far (valueBy zeros (start .args .transactions .now) (start .args .registers .now) (start .args .values .now) (start .args .link .now) (start .args .writers .now) (start .args .place .now) (start .args .reads .now) (start .args .gaps .now)) (start .args .count) (c .before .before .before .loop .i) (c .before .before .before .loop .inv .1) (sym (c .before .value-at-gap .ensures) ∙ not-false _ (c .if1 .left)))
 
 returns-2 : tie.Need-returns-2 Inv-loop μ-loop
 returns-2 c =
-    let e : c .before .loop .i ≡ c .before .before .before .before .before .args .count = omega arith in
-    sym (broken-none (valueBy zeros (c .before .before .before .before .before .args .transactions .now) (c .before .before .before .before .before .args .registers .now) (c .before .before .before .before .before .args .values .now) (c .before .before .before .before .before .args .link .now) (c .before .before .before .before .before .args .writers .now) (c .before .before .before .before .before .args .place .now) (c .before .before .before .before .before .args .reads .now) (c .before .before .before .before .before .args .gaps .now)) (c .before .before .before .before .before .args .count) (subst (λ (x : ℕ). (k : ℕ) → k < x → valueBy zeros (c .before .before .before .before .before .args .transactions .now) (c .before .before .before .before .before .args .registers .now) (c .before .before .before .before .before .args .values .now) (c .before .before .before .before .before .args .link .now) (c .before .before .before .before .before .args .writers .now) (c .before .before .before .before .before .args .place .now) (c .before .before .before .before .before .args .reads .now) (c .before .before .before .before .before .args .gaps .now) k ≡ true) e (c .before .loop .inv .1)))
+    let start = c .before .before .before .before .before in
+    let e : c .before .loop .i ≡ start .args .count = omega arith in
+    sym (broken-none (valueBy zeros (start .args .transactions .now) (start .args .registers .now) (start .args .values .now) (start .args .link .now) (start .args .writers .now) (start .args .place .now) (start .args .reads .now) (start .args .gaps .now)) (start .args .count) (subst (λ (x : ℕ). (k : ℕ) → k < x → valueBy zeros (start .args .transactions .now) (start .args .registers .now) (start .args .values .now) (start .args .link .now) (start .args .writers .now) (start .args .place .now) (start .args .reads .now) (start .args .gaps .now) k ≡ true) e (c .before .loop .inv .1)))
 
 pub rule-e-spec : {M : Type 1} → statement M
 rule-e-spec =

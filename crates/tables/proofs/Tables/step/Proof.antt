@@ -10,7 +10,9 @@ begin-requires : tie.Need-begin-requires
 begin-requires c κs = search needs
 
 returns : tie.Need-returns
-returns c = c .begin .ensures ∙ sym (next-begin (c .before .before .args .self) (c .before .before .args .kind) (c .before .before .args .t) (c .before .before .args .r) (c .before .before .args .value) (c .before .if1 .taken))
+returns c =
+    let start = c .before .before in
+    c .begin .ensures ∙ sym (next-begin (start .args .self) (start .args .kind) (start .args .t) (start .args .r) (start .args .value) (c .before .if1 .taken))
 
 slot-requires : tie.Need-slot-requires
 slot-requires c κs = search needs
@@ -22,7 +24,9 @@ read-requires : tie.Need-read-requires
 read-requires c κs = search needs
 
 returns-2 : tie.Need-returns-2
-returns-2 c = rw (next-read (c .before .before .before .before .before .args .self) (c .before .before .before .before .before .args .kind) (c .before .before .before .before .before .args .t) (c .before .before .before .before .before .args .r) (c .before .before .before .before .before .args .value) (c .before .before .before .if2 .taken), ← c .before .before .slot .ensures .0, ← c .before .stored .ensures) (c .read .ensures)
+returns-2 c =
+    let start = c .before .before .before .before .before in
+    rw (next-read (start .args .self) (start .args .kind) (start .args .t) (start .args .r) (start .args .value) (c .before .before .before .if2 .taken), ← c .before .before .slot .ensures .0, ← c .before .stored .ensures) (c .read .ensures)
 
 slot-requires-2 : tie.Need-slot-requires-2
 slot-requires-2 c κs = search needs
@@ -34,13 +38,17 @@ write-requires : tie.Need-write-requires
 write-requires c κs = search needs
 
 returns-3 : tie.Need-returns-3
-returns-3 c = rw (next-write (c .before .before .before .before .before .before .args .self) (c .before .before .before .before .before .before .args .kind) (c .before .before .before .before .before .before .args .t) (c .before .before .before .before .before .before .args .r) (c .before .before .before .before .before .before .args .value) (c .before .before .before .if3 .taken), ← c .before .before .slot2 .ensures .0, ← c .before .stored2 .ensures) (c .write .ensures)
+returns-3 c =
+    let start = c .before .before .before .before .before .before in
+    rw (next-write (start .args .self) (start .args .kind) (start .args .t) (start .args .r) (start .args .value) (c .before .before .before .if3 .taken), ← c .before .before .slot2 .ensures .0, ← c .before .stored2 .ensures) (c .write .ensures)
 
 settle-requires : tie.Need-settle-requires
 settle-requires c κs = search needs
 
 returns-4 : tie.Need-returns-4
-returns-4 c = c .settle .ensures ∙ sym (next-asks (c .before .before .before .before .before .args .self) (c .before .before .before .before .before .args .kind) (c .before .before .before .before .before .args .t) (c .before .before .before .before .before .args .r) (c .before .before .before .before .before .args .value) (c .before .if4 .taken))
+returns-4 c =
+    let start = c .before .before .before .before .before in
+    c .settle .ensures ∙ sym (next-asks (start .args .self) (start .args .kind) (start .args .t) (start .args .r) (start .args .value) (c .before .if4 .taken))
 
 with-requires : tie.Need-with-requires
 with-requires c κs = search needs
@@ -49,7 +57,9 @@ settle-requires-2 : tie.Need-settle-requires-2
 settle-requires-2 c κs = search needs
 
 returns-5 : tie.Need-returns-5
-returns-5 c = rw (next-commit (c .before .before .before .before .before .before .before .args .self) (c .before .before .before .before .before .before .before .args .kind) (c .before .before .before .before .before .before .before .args .t) (c .before .before .before .before .before .before .before .args .r) (c .before .before .before .before .before .before .before .args .value) (c .before .before .if5 .taken), ← c .before .with .ensures) (c .settle2 .ensures)
+returns-5 c =
+    let start = c .before .before .before .before .before .before .before in
+    rw (next-commit (start .args .self) (start .args .kind) (start .args .t) (start .args .r) (start .args .value) (c .before .before .if5 .taken), ← c .before .with .ensures) (c .settle2 .ensures)
 
 with-requires-2 : tie.Need-with-requires-2
 with-requires-2 c κs = search needs
@@ -58,10 +68,14 @@ settle-requires-3 : tie.Need-settle-requires-3
 settle-requires-3 c κs = search needs
 
 returns-6 : tie.Need-returns-6
-returns-6 c = rw (next-abort (c .before .before .before .before .before .before .before .before .args .self) (c .before .before .before .before .before .before .before .before .args .kind) (c .before .before .before .before .before .before .before .before .args .t) (c .before .before .before .before .before .before .before .before .args .r) (c .before .before .before .before .before .before .before .before .args .value) (c .before .before .if6 .taken), ← c .before .with2 .ensures) (c .settle3 .ensures)
+returns-6 c =
+    let start = c .before .before .before .before .before .before .before .before in
+    rw (next-abort (start .args .self) (start .args .kind) (start .args .t) (start .args .r) (start .args .value) (c .before .before .if6 .taken), ← c .before .with2 .ensures) (c .settle3 .ensures)
 
 returns-7 : tie.Need-returns-7
-returns-7 c = next-other (c .before .before .before .before .before .before .args .self) (c .before .before .before .before .before .before .args .kind) (c .before .before .before .before .before .before .args .t) (c .before .before .before .before .before .before .args .r) (c .before .before .before .before .before .before .args .value) (c .before .before .before .before .before .if1 .left) (c .before .before .before .before .if2 .left) (c .before .before .before .if3 .left) (c .before .before .if4 .left) (c .before .if5 .left) (c .if6 .left)
+returns-7 c =
+    let start = c .before .before .before .before .before .before in
+    next-other (start .args .self) (start .args .kind) (start .args .t) (start .args .r) (start .args .value) (c .before .before .before .before .before .if1 .left) (c .before .before .before .before .if2 .left) (c .before .before .before .if3 .left) (c .before .before .if4 .left) (c .before .if5 .left) (c .if6 .left)
 
 pub step-spec : {M : Type 1} → statement M
 step-spec =
