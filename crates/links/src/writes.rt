@@ -37,7 +37,7 @@ pub fn stored(x: u32) -> u64
 
 // What was written last to r among the writes that are linked from one past an event on, plus 1,
 // with 0 for none.
-pub fn write_from(
+fn write_from(
     registers: &[u16],
     values: &[u32],
     link: &[u16; 2048],

@@ -1,13 +1,13 @@
 -- Laws of the walk back over places: how it goes on, and what it finds.
 -- Assumes nothing.
-use Prim.Native.Nat.{ℕ, zero, suc, _-_, _≤_, _<_, min, max}
+use Prim.Native.Nat.{ℕ, zero, suc, _+_, _-_, _≤_, _<_, min, max}
 use native.Mathlib.Nat.{lt-of-not-le}
 use native.Mathlib.Decide.{decLe}
 use native.Mathlib.Omega.{arith}
 use mathlib.Core.Path.{_≡_, refl, sym, ap, _∙_, subst}
 use mathlib.Core.Bool.{Bool, true, false, not, cond}
 use mathlib.Core.List.{List, [], _∷_}
-use mathlib.Core.Option.{Option, none, some}
+use mathlib.Core.Option.{Option, none}
 use lib.Dec.{eqb}
 use lib.ListN.{take, drop, getD}
 use lib.Seq.{drop-append-le, drop-length}
@@ -21,8 +21,8 @@ use Rattle.opacity.specs.Justification.{Place, isOf, written, isOrder}
 use Rattle.opacity.specs.Marking.{others, between, placeOf}
 use Rattle.links.specs.declared.tables.Fact.the-variants.{LastWrite}
 use Rattle.links.specs.Tables.{Slots}
-use Rattle.links.specs.Writes.{writeFrom, plusOne, Links}
-use Rattle.links.proofs.WriteLaws.{write-from, following-none}
+use Rattle.links.specs.Writes.{writeFrom, plusOne, Links, Linked}
+use Rattle.links.proofs.WriteLaws.{Followed, follow-start, follow-none, follow-found, follow-next, write-from, following-none}
 use Rattle.rules.specs.Orders.{placesOf, placeAt, Writers}
 use Rattle.rules.specs.Walks.{startAt, lastIn}
 use Rattle.rules.proofs.OrderLaws.{places-length, places-take, own-place}
@@ -42,28 +42,59 @@ module _ (registers values link writers : List ℕ) (own r lo : ℕ) where
   unfolding lastIn
   last-in-more k l = rw (le-leb lo k l)
 
-  -- one place further back, where w is what it wrote to r: that, or what stands before it
-  module _ {k from w : ℕ} (l : lo < k) (ef : from ≡ startAt writers own (k - 1)) (ew : w ≡ plusOne (writeFrom registers values link r from)) where
-    its-own : w ≡ plusOne (writeFrom registers values link r (startAt writers own (k - 1)))
-    its-own = ew ∙ ap (λ (j : ℕ). plusOne (writeFrom registers values link r j)) ef
+start-low : (writers : List ℕ) (own k n : ℕ) → ((j : ℕ) → getD writers j 0 ≤ n) → startAt writers own k ≤ n
+start-low writers own k n l = go (eqb k own)
+  where
+    go : (b : Bool) → cond b 0 (getD writers k 0) ≤ n
+    go true = omega arith
+    go false = l k
 
-    more : lastIn registers values link writers own r lo k
-        ≡ orElse (writeFrom registers values link r (startAt writers own (k - 1))) (lastIn registers values link writers own r lo (k - 1))
-    more = let s : k ≡ suc (k - 1) = omega arith in ap (lastIn registers values link writers own r lo) s ∙ last-in-more (k - 1) (omega arith)
+-- The nested walk, as its two loops leave it: back to place k, with nothing found from there on,
+pub record Walking (registers values link writers : List ℕ) (own r lo hi k : ℕ) : Type 0 where
+  pub least : lo ≤ k
+  pub most : k ≤ hi
+  pub same : lastIn registers values link writers own r lo k ≡ lastIn registers values link writers own r lo hi
 
-    pub last-here : (w ≡ 0 → ⊥) → w ≡ plusOne (lastIn registers values link writers own r lo k)
-    last-here z = its-own ∙ (go (writeFrom registers values link r (startAt writers own (k - 1))) its-own ∙ ap plusOne (sym more))
-      where
-        go : (o : Option ℕ) → w ≡ plusOne o → plusOne o ≡ plusOne (orElse o (lastIn registers values link writers own r lo (k - 1)))
-        go none e = absurd (z e)
-        go (some v) e = refl
+-- and inside place k, back to the write before j.
+pub record Inside (registers values link writers : List ℕ) (count own r lo hi k j : ℕ) : Type 0 where
+  pub least : lo ≤ k
+  pub most : k < hi
+  pub writes : Followed registers values link count r (writeFrom registers values link r (startAt writers own k)) j
+  pub same : lastIn registers values link writers own r lo (suc k) ≡ lastIn registers values link writers own r lo hi
 
-    pub last-further : w ≡ 0 → lastIn registers values link writers own r lo (k - 1) ≡ lastIn registers values link writers own r lo k
-    last-further z = go (writeFrom registers values link r (startAt writers own (k - 1))) its-own ∙ sym more
-      where
-        go : (o : Option ℕ) → w ≡ plusOne o → lastIn registers values link writers own r lo (k - 1) ≡ orElse o (lastIn registers values link writers own r lo (k - 1))
-        go none e = refl
-        go (some v) e = absurd (omega arith)
+module _ {registers values link writers : List ℕ} {own r lo hi k : ℕ} where
+  pub walk-ends : Walking registers values link writers own r lo hi k → k ≡ lo → 0 ≡ plusOne (lastIn registers values link writers own r lo hi)
+  walk-ends w e = ap plusOne (sym (last-in-start registers values link writers own r lo) ∙ (ap (lastIn registers values link writers own r lo) (sym e) ∙ w .same))
+
+  module _ {count : ℕ} (y : Linked registers values link count) where
+    pub walk-enters : {j : ℕ} → ((i : ℕ) → getD writers i 0 ≤ count) → Walking registers values link writers own r lo hi k → (k ≡ lo → ⊥) → j ≡ startAt writers own (k - 1)
+        → Inside registers values link writers count own r lo hi (k - 1) j
+    walk-enters low w n e =
+        let l = w .least in
+        let m = w .most in
+        let s : suc (k - 1) ≡ k = omega arith in
+        record {
+          least = omega arith;
+          most = omega arith;
+          writes = subst (Followed registers values link count r (writeFrom registers values link r (startAt writers own (k - 1)))) (sym e) (follow-start y (startAt writers own (k - 1)) (start-low writers own (k - 1) count low) refl);
+          same = ap (lastIn registers values link writers own r lo) s ∙ w .same;
+        }
+
+    module _ {j : ℕ} (w : Inside registers values link writers count own r lo hi k j) where
+      -- what the place holds, if it has a write to r; else what stands before it
+      found-here : {o : Option ℕ} → writeFrom registers values link r (startAt writers own k) ≡ o → orElse o (lastIn registers values link writers own r lo k) ≡ lastIn registers values link writers own r lo hi
+      found-here e =
+          ap (λ (x : Option ℕ). orElse x (lastIn registers values link writers own r lo k)) (sym e)
+          ∙ (sym (last-in-more registers values link writers own r lo k (w .least)) ∙ w .same)
+
+      pub walk-leaves : j ≡ 0 → Walking registers values link writers own r lo hi k
+      walk-leaves z = let m = w .most in record { least = w .least; most = omega arith; same = found-here (follow-none y (w .writes) z) }
+
+      pub walk-finds : {x : ℕ} → (j ≡ 0 → ⊥) → getD registers (j - 1) 0 ≡ r → x ≡ getD values (j - 1) 0 + 1 → x ≡ plusOne (lastIn registers values link writers own r lo hi)
+      walk-finds n q e = e ∙ ap plusOne (found-here (follow-found y (w .writes) n q))
+
+      pub walk-follows : {next : ℕ} → (j ≡ 0 → ⊥) → next ≡ getD link (j - 1) 0 → (getD registers (j - 1) 0 ≡ r → ⊥) → Inside registers values link writers count own r lo hi k next
+      walk-follows n e q = record { least = w .least; most = w .most; writes = follow-next y (w .writes) n e q; same = w .same }
 
 -- what a place wrote to r, where it is not that of t
 unfoldable writtenBut : List Event → ℕ → ℕ → Place → Option ℕ
@@ -132,10 +163,3 @@ module _ (c : Columns) (n : ℕ) (link last : List ℕ) (order outcomes writers 
   found-before g l =
       found-in 0 g (omega arith) l
       ∙ sym (but-latest (history c n) r t _ ∙ ap (latest (writtenBut (history c n) r t)) (places-take order outcomes b g l))
-
-pub start-low : (writers : List ℕ) (own k n : ℕ) → ((j : ℕ) → getD writers j 0 ≤ n) → startAt writers own k ≤ n
-start-low writers own k n l = go (eqb k own)
-  where
-    go : (b : Bool) → cond b 0 (getD writers k 0) ≤ n
-    go true = omega arith
-    go false = l k

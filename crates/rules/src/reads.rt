@@ -10,7 +10,6 @@ ghost use Rattle.rules.specs.Judge.{zeros};
 use links::tables::wide;
 use links::writes::own_right;
 use links::writes::stored;
-use links::writes::write_from;
 
 // What a register holds before any writer.
 const START: u32 = 0;
@@ -28,7 +27,7 @@ fn start_at(writers: &[u16; 64], own: usize, k: usize) -> usize
 
 // The value of the last writer of r but the one at place own, among the places from lo up to hi,
 // plus 1, with 0 for none. Looks back over the places and, at each, over the writes of its
-// transaction.
+// transaction; the search is left at the first write to r.
 fn last_writer(
     registers: &[u16],
     values: &[u32],
@@ -46,15 +45,21 @@ fn last_writer(
     ensures { λ w. ⌜ w ≡ plusOne (lastIn (now (registers .entry)) (now (values .entry)) (now (link .entry)) (now (writers .entry)) own r lo hi) ⌝ }
 {
     let mut k = hi;
-    while k != lo {
-        k -= 1;
-        let from = start_at(writers, own, k);
-        let w = write_from(registers, values, link, count, r, from);
-        if w != 0 {
-            return w;
+    let w = 'walk: loop {
+        if k == lo {
+            break 'walk 0u64;
         }
-    }
-    0
+        k -= 1;
+        let mut j = start_at(writers, own, k);
+        while j != 0 {
+            let e = j - 1;
+            if registers[e] == r {
+                break 'walk stored(values[e]);
+            }
+            j = wide(link[e]);
+        }
+    };
+    w
 }
 
 fn least(a: usize, b: usize) -> usize
