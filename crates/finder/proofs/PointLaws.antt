@@ -27,8 +27,7 @@ use Rattle.opacity.specs.Marking.{Point, placeOf, marked}
 use Rattle.events.proofs.ListLaws.{keep-append}
 use Rattle.events.proofs.ColumnLaws.{history-length, history-at, history-take}
 use Rattle.opacity.proofs.Prefixes.{store-read-at}
-use Rattle.tables.specs.declared.Tables.{Tables}
-use Rattle.tables.specs.Tables.{next, empty, goThrough, tablesOf}
+use Rattle.tables.specs.Tables.{Tables, next, empty, goThrough, tablesOf}
 use Rattle.tables.specs.Order.{decode, Judged}
 use Rattle.events.specs.Bytes as bytes
 use Rattle.events.specs.Bytes.{over}
