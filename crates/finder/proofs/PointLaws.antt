@@ -26,8 +26,7 @@ use Rattle.events.proofs.ListLaws.{keep-append, keep-length, range-length}
 use Rattle.events.proofs.ColumnLaws.{history-length, history-at, history-take}
 use Rattle.opacity.proofs.MarkingBytes.{flat-append}
 use Rattle.opacity.proofs.Prefixes.{store-read-at}
-use Rattle.tables.specs.declared.Tables.{Tables}
-use Rattle.tables.specs.Tables.{next, empty, goThrough, tablesOf}
+use Rattle.tables.specs.Tables.{Tables, next, empty, goThrough, tablesOf}
 use Rattle.tables.specs.Order.{decode, Judged}
 use Rattle.events.specs.Bytes as bytes
 use Rattle.events.specs.Bytes.{over}

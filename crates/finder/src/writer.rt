@@ -50,17 +50,16 @@ fn place_of(places: [u8; 10], count: usize, t: u16) -> usize
     i
 }
 
-// Is it a read of the store, after the events of the tables?
-fn reads_store(s: tables::Tables, kind: u16, t: u16, r: u16) -> bool
+// Is it a read of the store, after events with these last writes?
+fn reads_store(written: &[u64; 320], kind: u16, t: u16, r: u16) -> bool
     requires { ⌜ t < 10 ⌝ }
     requires { ⌜ r < 32 ⌝ }
-    ensures { λ b. ⌜ b ≡ (isRead (ofKind kind) and eqb (getD (s .written) (t * 32 + r) 0) 0) ⌝ }
+    ensures { λ b. ⌜ b ≡ (isRead (ofKind kind) and eqb (getD (now (written .entry)) (t * 32 + r) 0) 0) ⌝ }
 {
     if kind != Record::READ_RETURNED {
         return false;
     }
     let at = tables::slot(t, r);
-    let written = s.written;
     written[at] == 0
 }
 
@@ -95,17 +94,19 @@ fn put_points(
     ensures { λ _. ⌜ now (out .exit) ≡ placed (now (out .entry)) from (pointsOf (history (columns (now (kinds .entry)) (now (transactions .entry)) (now (registers .entry)) (now (values .entry))) n) (decode (take count places)) n) ⌝ }
     ensures { λ r. ⌜ r ≡ from + length (pointsOf (history (columns (now (kinds .entry)) (now (transactions .entry)) (now (registers .entry)) (now (values .entry))) n) (decode (take count places)) n) ⌝ }
 {
-    let mut s = tables::no_tables();
+    let mut required = [0u64; 320];
+    let mut written = [0u64; 320];
+    let mut s = tables::no_events();
     let mut at = from;
     let mut i: usize = 0;
     while i < n {
         let kind = kinds[i];
         let t = transactions[i];
         let r = registers[i];
-        let store = reads_store(s, kind, t, r);
+        let store = reads_store(&written, kind, t, r);
         let gap = place_of(places, count, t);
         at = put_read(out, at, store, i as u32, gap as u16);
-        s = s.step(kind, t, r, values[i]);
+        s = s.step(&mut required, &mut written, kind, t, r, values[i]);
         i += 1;
     }
     at

@@ -21,9 +21,8 @@ use Rattle.events.proofs.ListLaws.{below-cases, clash, first-none, first-some, 
 use Rattle.events.proofs.ColumnLaws.{history-length, history-at, history-take, begins-more, begins-stay}
 use Rattle.search.specs.declared.Answer.{Answer}
 use Rattle.search.specs.Tree.{firstCompletion, readAnswer}
-use Rattle.tables.specs.declared.Tables.{Tables}
 use Rattle.opacity.specs.Counts.{ofKind}
-use Rattle.tables.specs.Tables.{empty, goThrough, next, tablesOf}
+use Rattle.tables.specs.Tables.{Tables, empty, goThrough, next, tablesOf}
 use Rattle.tables.specs.Order.{startOf, constraintsOf, decoded, Judged}
 use Rattle.tables.proofs.TableLaws.{tables-more}
 use Rattle.tables.proofs.Link.{found-by}

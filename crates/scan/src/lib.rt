@@ -60,14 +60,23 @@ fn scan_prefixes(
     requires { ⌜ Judged (columns (now kinds) (now transactions) (now registers) (now values)) n ⌝ }
     ensures { λ r. ⌜ r ≡ scan (startOf (now (initial .entry))) (history (columns (now (kinds .entry)) (now (transactions .entry)) (now (registers .entry)) (now (values .entry))) n) ⌝ }
 {
-    let mut s = tables::no_tables();
+    let mut required = [0u64; 320];
+    let mut written = [0u64; 320];
+    let mut s = tables::no_events();
     let mut begun: usize = 0;
     let mut i: usize = 0;
     while i < n {
         let kind = kinds[i];
-        s = s.step(kind, transactions[i], registers[i], values[i]);
+        s = s.step(
+            &mut required,
+            &mut written,
+            kind,
+            transactions[i],
+            registers[i],
+            values[i],
+        );
         begun = counted(begun, kind);
-        let a = tables::complete(initial, s, begun);
+        let a = tables::complete(initial, s, &required, &written, begun);
         if !a.found {
             return Scanned::Faulted {
                 event: i,

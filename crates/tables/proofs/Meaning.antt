@@ -20,8 +20,7 @@ use Rattle.events.proofs.ListLaws.{and-l, and-r, and-i, or-l, or-r, or-false, a
 use Rattle.events.proofs.StateLaws.{has-snoc}
 use Rattle.opacity.proofs.Snoc.{precedes-more}
 use Rattle.search.specs.Bits.{bitAt}
-use Rattle.tables.specs.declared.Tables.{Tables}
-use Rattle.tables.specs.Tables.{slotOf, next, empty, goThrough, tablesOf}
+use Rattle.tables.specs.Tables.{Tables, slotOf, next, empty, goThrough, tablesOf}
 use Rattle.tables.proofs.TableLaws.{tables-snoc}
 use Rattle.tables.proofs.NextLaws.{Sort, begin, read, write, ask, commit, abort, other, sort, ended-next, predecessors-next, written-next, allowed-next, required-next}
 

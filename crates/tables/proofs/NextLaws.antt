@@ -10,8 +10,7 @@ use borrow.Author.Tests.{eqb-true}
 use Rattle.events.specs.Lists.{_or_}
 use Rattle.events.specs.declared.event.Event.{Event}
 use Rattle.events.specs.Events.{isBegin, isRead, isWrite, asksCommit, isCommit, isAbort, isEnd}
-use Rattle.tables.specs.declared.Tables.{Tables}
-use Rattle.tables.specs.Tables.{slotOf, clashes, begun, settled, writtenAt, readAt, next}
+use Rattle.tables.specs.Tables.{Tables, slotOf, clashes, begun, settled, writtenAt, readAt, next}
 
 pub record Tests (e : Event) (b r w a c x : Bool) : Type 0 where
   pub begins : isBegin e ≡ b

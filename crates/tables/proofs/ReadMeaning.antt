@@ -17,8 +17,7 @@ use Rattle.events.specs.declared.event.Event.{Event}
 use Rattle.events.specs.Events.{eventAt, isRead}
 use Rattle.opacity.specs.Transactions.{ownWrite, isOwnRead, isStoreRead, ownRight}
 use Rattle.events.proofs.ListLaws.{nor-l, nor-r, clash, below-cases}
-use Rattle.tables.specs.declared.Tables.{Tables}
-use Rattle.tables.specs.Tables.{slotOf, clashes, empty, goThrough, tablesOf}
+use Rattle.tables.specs.Tables.{Tables, slotOf, clashes, empty, goThrough, tablesOf}
 use Rattle.tables.proofs.NextLaws.{required-next, contradictory-next}
 use Rattle.tables.proofs.Meaning.{Fine, Good, plus, tab, tab-suc, lengths, written-holds, required-zero}
 

@@ -15,8 +15,7 @@ use Rattle.events.specs.Events.{begins}
 use Rattle.opacity.specs.Justification.{Place}
 use Rattle.opacity.specs.Lowest.{place}
 use Rattle.search.specs.Tree.{Constraints, constraints, Completion, firstCompletion, readAnswer}
-use Rattle.tables.specs.declared.Tables.{Tables}
-use Rattle.tables.specs.Tables.{tablesOf}
+use Rattle.tables.specs.Tables.{Tables, tablesOf}
 
 -- a place, from a transaction times 2 plus its outcome
 abbrev pub coded : ℕ → Place

@@ -11,7 +11,33 @@ use Rattle.events.specs.Lists.{_and_, _or_}
 use Rattle.events.specs.declared.event.Event.{Event}
 use Rattle.events.specs.Events.{isBegin, isRead, isWrite, asksCommit, isCommit, isAbort, isEnd}
 use Rattle.events.specs.Columns.{Columns}
-use Rattle.tables.specs.declared.Tables.{Tables}
+use Rattle.tables.specs.declared.Standing.{Standing}
+
+-- at t: the transactions that ended before t began, and its outcome; at 32 * t + r: what its store reads of r return, and its last
+-- write to r, each as the value plus 1, with 0 for none
+pub record Tables : Type 0 where
+  pub ended : ℕ
+  pub predecessors : List ℕ
+  pub allowed : List ℕ
+  pub required : List ℕ
+  pub written : List ℕ
+  pub contradictory : Bool
+
+-- the tables, from the parts that the code has
+abbrev pub tablesBy : Standing → List ℕ → List ℕ → Tables
+tablesBy s q w =
+    record {
+      ended = s .ended;
+      predecessors = s .predecessors;
+      allowed = s .allowed;
+      required = q;
+      written = w;
+      contradictory = s .contradictory;
+    }
+
+-- one standing becomes another by a change of the tables that leaves those of the registers alone
+abbrev pub Becomes : Standing → Standing → (Tables → Tables) → Type 0
+Becomes s r change = (q w : List ℕ) → tablesBy r q w ≡ change (tablesBy s q w)
 
 abbrev pub event : ℕ → ℕ → ℕ → ℕ → Event
 event k t r v = record { kind = k; transaction = t; register = r; value = v }

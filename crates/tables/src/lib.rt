@@ -5,27 +5,28 @@ ghost use Rattle.events.specs.Lists.{_or_};
 ghost use Rattle.events.specs.Columns.{columns, history};
 ghost use mathlib.Core.Bool.{cond};
 ghost use mathlib.Core.Option.{none};
+ghost use lib.ListN.{replicate};
 ghost use Rattle.opacity.specs.Lowest.{lowestOf};
 ghost use Rattle.search.specs.Tree.{readAnswer, firstCompletion};
 ghost use Rattle.tables.specs.Order.{constraintsOf, startOf, Judged, orderOf};
-ghost use Rattle.tables.specs.Tables.{event, clashes, begun, settled, writtenAt, readAt, next, empty, tablesOf, InTables};
+ghost use Rattle.tables.specs.Tables.{tablesBy, Becomes, event, clashes, begun, settled, readAt, next, empty};
 use events::record::Record;
 
 const REGISTERS: usize = 32;
 
+// What a prefix says of its transactions, without its two tables of registers: by value those would be copied with every event,
+// so the loops hold them and lend them to each step.
 // At t: `predecessors`, the transactions that ended before t began, one bit each; `allowed`, its outcome, 0 aborted, 1 committed, 2 either.
-// At 32 * t + r: `required`, what its store reads of r return, and `written`, its last write to r, each as the value plus 1, with 0 for none.
 // `ended` has the transactions that have ended; `contradictory` says that a read is wrong wherever its transaction is placed.
-pub struct Tables {
+pub struct Standing {
     pub ended: u64,
     pub predecessors: [u64; 10],
     pub allowed: [u8; 10],
-    pub required: [u64; 320],
-    pub written: [u64; 320],
     pub contradictory: bool,
 }
 
-// Where a table holds what t has at r.
+// Where a table of registers holds what t has at r: `required`, what its store reads of r return, and `written`, its last write
+// to r, each as the value plus 1, with 0 for none.
 pub fn slot(t: u16, r: u16) -> usize
     requires { ⌜ t < 10 ⌝ }
     requires { ⌜ r < 32 ⌝ }
@@ -60,11 +61,11 @@ fn differs(old: u64, v: u64) -> bool
     old != v
 }
 
-impl Tables {
+impl Standing {
     // A transaction begins: those that have ended come before it.
-    fn begin(self, t: u16) -> Tables
+    fn begin(self, t: u16) -> Standing
         requires { ⌜ t < 10 ⌝ }
-        ensures { λ r. ⌜ r ≡ begun self t ⌝ }
+        ensures { λ s. ⌜ Becomes self s (λ x. begun x t) ⌝ }
     {
         let at = t as usize;
         let mut s = self;
@@ -73,9 +74,9 @@ impl Tables {
     }
 
     // What is allowed for a transaction, and those that have ended.
-    fn settle(self, t: u16, rule: u8, ended: u64) -> Tables
+    fn settle(self, t: u16, rule: u8, ended: u64) -> Standing
         requires { ⌜ t < 10 ⌝ }
-        ensures { λ r. ⌜ r ≡ settled self t rule ended ⌝ }
+        ensures { λ s. ⌜ Becomes self s (λ x. settled x t rule ended) ⌝ }
     {
         let at = t as usize;
         let mut s = self;
@@ -84,46 +85,46 @@ impl Tables {
         s
     }
 
-    fn write(self, at: usize, v: u64) -> Tables
-        requires { ⌜ at < 320 ⌝ }
-        ensures { λ r. ⌜ r ≡ writtenAt self at v ⌝ }
-    {
-        let mut s = self;
-        s.written[at] = v;
-        s
-    }
-
     // A read returns: of an own write, or of the store.
-    fn read(self, at: usize, v: u64) -> Tables
+    fn read(self, required: &mut [u64; 320], written: &[u64; 320], at: usize, v: u64) -> Standing
         requires { ⌜ at < 320 ⌝ }
-        ensures { λ r. ⌜ r ≡ readAt self at v ⌝ }
+        ensures { λ s. ⌜ tablesBy s (now (required .exit)) (now (written .entry)) ≡ readAt (tablesBy self (now (required .entry)) (now (written .entry))) at v ⌝ }
     {
-        let own = self.written[at];
-        let old = self.required[at];
+        let own = written[at];
+        let old = required[at];
         let mut s = self;
         if own != 0 {
             s.contradictory = either(self.contradictory, differs(own, v));
             return s;
         }
         s.contradictory = either(self.contradictory, differs(old, v));
-        s.required[at] = v;
+        required[at] = v;
         s
     }
 
-    // The tables with one event more.
-    pub fn step(self, kind: u16, t: u16, r: u16, value: u32) -> Tables
+    // The standing and the tables with one event more.
+    pub fn step(
+        self,
+        required: &mut [u64; 320],
+        written: &mut [u64; 320],
+        kind: u16,
+        t: u16,
+        r: u16,
+        value: u32,
+    ) -> Standing
         requires { ⌜ t < 10 ⌝ }
         requires { ⌜ r < 32 ⌝ }
-        ensures { λ s. ⌜ s ≡ next self (event kind t r value) ⌝ }
+        ensures { λ s. ⌜ tablesBy s (now (required .exit)) (now (written .exit)) ≡ next (tablesBy self (now (required .entry)) (now (written .entry))) (event kind t r value) ⌝ }
     {
         if kind == Record::BEGIN {
             return self.begin(t);
         }
         if kind == Record::READ_RETURNED {
-            return self.read(slot(t, r), stored(value));
+            return self.read(required, written, slot(t, r), stored(value));
         }
         if kind == Record::WRITE {
-            return self.write(slot(t, r), stored(value));
+            written[slot(t, r)] = stored(value);
+            return self;
         }
         if kind == Record::COMMIT {
             return self.settle(t, 2, self.ended);
@@ -138,43 +139,28 @@ impl Tables {
     }
 }
 
-pub fn no_tables() -> Tables
-    ensures { λ r. ⌜ r ≡ empty ⌝ }
+// The standing before any event; the tables of registers then hold 0.
+pub fn no_events() -> Standing
+    ensures { λ r. ⌜ tablesBy r (replicate 320 0) (replicate 320 0) ≡ empty ⌝ }
 {
-    Tables {
+    Standing {
         ended: 0,
         predecessors: [0u64; 10],
         allowed: [0u8; 10],
-        required: [0u64; 320],
-        written: [0u64; 320],
         contradictory: false,
     }
 }
 
-// The tables of the first n events.
-pub fn tabulate(
-    kinds: &[u16],
-    transactions: &[u16],
-    registers: &[u16],
-    values: &[u32],
-    n: usize,
-) -> Tables
-    requires { ⌜ InTables (columns (now kinds) (now transactions) (now registers) (now values)) n ⌝ }
-    ensures { λ r. ⌜ r ≡ tablesOf (history (columns (now (kinds .entry)) (now (transactions .entry)) (now (registers .entry)) (now (values .entry))) n) ⌝ }
-{
-    let mut s = no_tables();
-    let mut i = 0;
-    while i < n {
-        s = s.step(kinds[i], transactions[i], registers[i], values[i]);
-        i += 1;
-    }
-    s
-}
-
 // The first completion that the tables of so many transactions allow.
-pub fn complete(initial: &[u32; 32], s: Tables, transactions: usize) -> search::Answer
+pub fn complete(
+    initial: &[u32; 32],
+    s: Standing,
+    required: &[u64; 320],
+    written: &[u64; 320],
+    transactions: usize,
+) -> search::Answer
     requires { ⌜ transactions ≤ 10 ⌝ }
-    ensures { λ r. ⌜ readAnswer r ≡ cond (s .contradictory) none (firstCompletion (constraintsOf (now (initial .entry)) s) transactions) ⌝ }
+    ensures { λ r. ⌜ readAnswer r ≡ cond (s .contradictory) none (firstCompletion (constraintsOf (now (initial .entry)) (tablesBy s (now (required .entry)) (now (written .entry)))) transactions) ⌝ }
 {
     if s.contradictory {
         return search::Answer {
@@ -188,14 +174,12 @@ pub fn complete(initial: &[u32; 32], s: Tables, transactions: usize) -> search::
     }
     let predecessors = s.predecessors;
     let allowed = s.allowed;
-    let required = s.required;
-    let written = s.written;
     search::find(
         initial,
         &predecessors,
         &allowed,
-        &required,
-        &written,
+        required,
+        written,
         transactions,
     )
 }
@@ -212,7 +196,21 @@ pub fn find_order(
     requires { ⌜ Judged (columns (now kinds) (now transactions) (now registers) (now values)) n ⌝ }
     ensures { λ r. ⌜ orderOf r ≡ lowestOf (startOf (now (initial .entry))) (history (columns (now (kinds .entry)) (now (transactions .entry)) (now (registers .entry)) (now (values .entry))) n) ⌝ }
 {
-    let s = tabulate(kinds, transactions, registers, values, n);
+    let mut required = [0u64; 320];
+    let mut written = [0u64; 320];
+    let mut s = no_events();
+    let mut i = 0;
+    while i < n {
+        s = s.step(
+            &mut required,
+            &mut written,
+            kinds[i],
+            transactions[i],
+            registers[i],
+            values[i],
+        );
+        i += 1;
+    }
     let begun = opacity::counts::transactions_begun(kinds, transactions, registers, values, n);
-    complete(initial, s, begun)
+    complete(initial, s, &required, &written, begun)
 }

@@ -6,6 +6,7 @@ use Prim.Native.Nat.{_-_}
 use native.Mathlib.Omega.{arith}
 use denote.Ref.{now}
 use Rattle.events.specs.Columns.{columns, history}
+use Rattle.tables.specs.Tables.{tablesBy}
 use Rattle.tables.proofs.GoodHistory.{in-tables}
 use Rattle.events.proofs.ColumnLaws.{history-length}
 use Rattle.events.proofs.ReadableLaws.{readable-most}
@@ -14,20 +15,22 @@ use Rattle.scan.proofs.scan_prefixes.Statement.{statement}
 use Rattle.scan.proofs.scan_prefixes.Tie as tie
 
 abbrev Inv-loop : tie.InvT-loop
-Inv-loop initial kinds transactions registers values n s₀ begun₀ i₀ s begun i = Scanning initial (columns kinds transactions registers values) n i s begun
+Inv-loop initial kinds transactions registers values n required₀ written₀ s₀ begun₀ i₀ required written s begun i =
+    Scanning initial (columns kinds transactions registers values) n i (tablesBy s required written) begun
 
 abbrev μ-loop : tie.MeasureT-loop
-μ-loop initial kinds transactions registers values n s₀ begun₀ i₀ s begun i = n - i
+μ-loop initial kinds transactions registers values n required₀ written₀ s₀ begun₀ i₀ required written s begun i =
+    n - i
 
-no-tables-requires : tie.Need-no-tables-requires Inv-loop μ-loop
-no-tables-requires c κs = search needs
+no-events-requires : tie.Need-no-events-requires Inv-loop μ-loop
+no-events-requires c κs = search needs
 
 loop-holds : tie.Need-loop-holds Inv-loop μ-loop
 loop-holds c =
     let start = c .before .before .before .before .before in
     let o = now (start .args .initial) in
     let cs = columns (now (start .args .kinds)) (now (start .args .transactions)) (now (start .args .registers)) (now (start .args .values)) in
-    scanning-none o cs (start .args .n) (c .no-tables .result) (c .no-tables .ensures)
+    scanning-none o cs (start .args .n) _ (c .no-events .ensures)
 
 mul-kind : tie.Need-mul-kind Inv-loop μ-loop
 mul-kind c = search needs
@@ -55,32 +58,32 @@ shared-slice-read-step-3 c = search needs
 
 step-requires : tie.Need-step-requires Inv-loop μ-loop
 step-requires c κs =
-    let start = c .before .before .before .before .before .before .before .before .before .before .before in
-    let at = c .before .before .before .before .before .loop in
-    let l = c .before .before .before .before .loop-test .taken in
-    let o = now (start .args .initial) in
+    let start = c .before .before .before .before .before .before .before .before .before .before .before .before .before in
+    let at = c .before .before .before .before .before .before .before .loop in
+    let l = c .before .before .before .before .before .before .loop-test .taken in
     let cs = columns (now (start .args .kinds)) (now (start .args .transactions)) (now (start .args .registers)) (now (start .args .values)) in
     let q = in-tables cs (start .args .n) (start .pre) in
     (q .transaction (at .i) l, q .register (at .i) l)
 
 counted-requires : tie.Need-counted-requires Inv-loop μ-loop
 counted-requires c κs =
-    let start = c .before .before .before .before .before .before .before .before .before .before .before .before in
-    let at = c .before .before .before .before .before .before .loop in
-    let l = c .before .before .before .before .before .loop-test .taken in
+    let start = c .before .before .before .before .before .before .before .before .before .before .before .before .before .before in
+    let at = c .before .before .before .before .before .before .before .before .loop in
     let o = now (start .args .initial) in
     let cs = columns (now (start .args .kinds)) (now (start .args .transactions)) (now (start .args .registers)) (now (start .args .values)) in
-    let q = few-before o cs (start .args .n) (at .i) (at .s) (at .begun) (start .pre) (at .inv) in
+    let s = tablesBy (at .s) (at .required) (at .written) in
+    let q = few-before o cs (start .args .n) (at .i) s (at .begun) (start .pre) (at .inv) in
     omega arith
 
 complete-requires : tie.Need-complete-requires Inv-loop μ-loop
 complete-requires c κs =
-    let start = c .before .before .before .before .before .before .before .before .before .before .before .before .before in
-    let at = c .before .before .before .before .before .before .before .loop in
-    let l = c .before .before .before .before .before .before .loop-test .taken in
+    let start = c .before .before .before .before .before .before .before .before .before .before .before .before .before .before .before .before .before in
+    let at = c .before .before .before .before .before .before .before .before .before .before .before .loop in
+    let l = c .before .before .before .before .before .before .before .before .before .before .loop-test .taken in
     let o = now (start .args .initial) in
     let cs = columns (now (start .args .kinds)) (now (start .args .transactions)) (now (start .args .registers)) (now (start .args .values)) in
-    let few = few-begun o cs (start .args .n) (start .pre) (at .i) l (at .s) (at .begun) (at .inv) (c .before .step .result) (c .counted .result) (c .before .step .ensures) (c .counted .ensures) in
+    let s = tablesBy (at .s) (at .required) (at .written) in
+    let few = few-begun o cs (start .args .n) (start .pre) (at .i) l s (at .begun) (at .inv) _ (c .before .before .counted .result) (c .before .before .before .step .ensures) (c .before .before .counted .ensures) in
     omega arith
 
 cause-of-requires : tie.Need-cause-of-requires Inv-loop μ-loop
@@ -88,18 +91,19 @@ cause-of-requires c κs = search needs
 
 returns : tie.Need-returns Inv-loop μ-loop
 returns c =
-    let start = c .before .before .before .before .before .before .before .before .before .before .before .before .before .before .before .before .before in
-    let at = c .before .before .before .before .before .before .before .before .before .before .before .loop in
-    let l = c .before .before .before .before .before .before .before .before .before .before .loop-test .taken in
+    let start = c .before .before .before .before .before .before .before .before .before .before .before .before .before .before .before .before .before .before .before .before .before in
+    let at = c .before .before .before .before .before .before .before .before .before .before .before .before .before .before .before .loop in
+    let l = c .before .before .before .before .before .before .before .before .before .before .before .before .before .before .loop-test .taken in
     let o = now (start .args .initial) in
     let cs = columns (now (start .args .kinds)) (now (start .args .transactions)) (now (start .args .registers)) (now (start .args .values)) in
-    scanning-fault o cs (start .args .n) (start .pre) (at .i) l (at .s) (at .begun) (at .inv) (c .before .before .before .before .before .step .result) (c .before .before .before .before .counted .result) (c .before .before .before .before .before .step .ensures) (c .before .before .before .before .counted .ensures) (c .before .before .before .complete .result) (c .before .before .before .complete .ensures) _ (c .cause-of .ensures) (not-true _ (c .before .if1 .taken))
+    let s = tablesBy (at .s) (at .required) (at .written) in
+    scanning-fault o cs (start .args .n) (start .pre) (at .i) l s (at .begun) (at .inv) _ (c .before .before .before .before .before .before .counted .result) (c .before .before .before .before .before .before .before .step .ensures) (c .before .before .before .before .before .before .counted .ensures) (c .before .before .before .complete .result) (c .before .before .before .complete .ensures) _ (c .cause-of .ensures) (not-true _ (c .before .if1 .taken))
 
 add-i : tie.Need-add-i Inv-loop μ-loop
 add-i c =
-    let start = c .before .before .before .before .before .before .before .before .before .before .before .before .before .before .before .before in
-    let at = c .before .before .before .before .before .before .before .before .before .before .loop in
-    let l = c .before .before .before .before .before .before .before .before .before .loop-test .taken in
+    let start = c .before .before .before .before .before .before .before .before .before .before .before .before .before .before .before .before .before .before .before .before in
+    let at = c .before .before .before .before .before .before .before .before .before .before .before .before .before .before .loop in
+    let l = c .before .before .before .before .before .before .before .before .before .before .before .before .before .loop-test .taken in
     let cs = columns (now (start .args .kinds)) (now (start .args .transactions)) (now (start .args .registers)) (now (start .args .values)) in
     omega (arith, readable-most (history cs (start .args .n)) (start .pre .readable), history-length cs (start .args .n))
 
@@ -108,12 +112,13 @@ loop-less c = search needs
 
 loop-again : tie.Need-loop-again Inv-loop μ-loop
 loop-again c =
-    let start = c .before .before .before .before .before .before .before .before .before .before .before .before .before .before .before .before in
-    let at = c .before .before .before .before .before .before .before .before .before .before .loop in
-    let l = c .before .before .before .before .before .before .before .before .before .loop-test .taken in
+    let start = c .before .before .before .before .before .before .before .before .before .before .before .before .before .before .before .before .before .before .before .before in
+    let at = c .before .before .before .before .before .before .before .before .before .before .before .before .before .before .loop in
+    let l = c .before .before .before .before .before .before .before .before .before .before .before .before .before .loop-test .taken in
     let o = now (start .args .initial) in
     let cs = columns (now (start .args .kinds)) (now (start .args .transactions)) (now (start .args .registers)) (now (start .args .values)) in
-    scanning-more o cs (start .args .n) (start .pre) (at .i) l (at .s) (at .begun) (at .inv) (c .before .before .before .before .step .result) (c .before .before .before .counted .result) (c .before .before .before .before .step .ensures) (c .before .before .before .counted .ensures) (c .before .before .complete .result) (c .before .before .complete .ensures) (not-false _ (c .if1 .left))
+    let s = tablesBy (at .s) (at .required) (at .written) in
+    scanning-more o cs (start .args .n) (start .pre) (at .i) l s (at .begun) (at .inv) _ (c .before .before .before .before .before .counted .result) (c .before .before .before .before .before .before .step .ensures) (c .before .before .before .before .before .counted .ensures) (c .before .before .complete .result) (c .before .before .complete .ensures) (not-false _ (c .if1 .left))
 
 returns-2 : tie.Need-returns-2 Inv-loop μ-loop
 returns-2 c =
@@ -121,8 +126,9 @@ returns-2 c =
     let at = c .before .loop in
     let o = now (start .args .initial) in
     let cs = columns (now (start .args .kinds)) (now (start .args .transactions)) (now (start .args .registers)) (now (start .args .values)) in
+    let s = tablesBy (at .s) (at .required) (at .written) in
     let q = at .inv .passed in
-    scanning-end o cs (start .args .n) (at .i) (at .s) (at .begun) (omega arith) (at .inv)
+    scanning-end o cs (start .args .n) (at .i) s (at .begun) (omega arith) (at .inv)
 
 pub scan-prefixes-spec : {M : Type 1} → statement M
 scan-prefixes-spec =
@@ -130,7 +136,7 @@ scan-prefixes-spec =
     (tie.spec
     Inv-loop
     μ-loop
-    no-tables-requires
+    no-events-requires
     loop-holds
     mul-kind
     shared-slice-read-kind

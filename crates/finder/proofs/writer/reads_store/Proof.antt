@@ -1,6 +1,5 @@
 -- `finder::writer::reads_store` meets its contract.
 -- Assumes nothing.
-use Prim.Native.Nat.{_-_}
 use borrow.Author.Tests.{eq-eqb, ne-eqb}
 use Rattle.events.specs.Lists.{_and_}
 use Rattle.events.specs.Events.{isRead}
@@ -18,8 +17,8 @@ slot-requires c κs = search needs
 mul-result : tie.Need-mul-result
 mul-result c = search needs
 
-array-read-result : tie.Need-array-read-result
-array-read-result c = search needs
+element-copy-out-result : tie.Need-element-copy-out-result
+element-copy-out-result c = search needs
 
 returns-2 : tie.Need-returns-2
 unfolding _and_ isRead
@@ -27,4 +26,4 @@ returns-2 c = simp (eq-eqb _ _ (c .before .before .if1 .left), c .before .slot .
 
 pub reads-store-spec : {M : Type 1} → statement M
 reads-store-spec =
-    tie.close (tie.spec returns slot-requires mul-result array-read-result returns-2)
+    tie.close (tie.spec returns slot-requires mul-result element-copy-out-result returns-2)

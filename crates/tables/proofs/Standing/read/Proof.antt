@@ -1,10 +1,10 @@
--- `tables::Tables::read` meets its contract.
+-- `tables::Standing::read` meets its contract.
 -- Assumes nothing.
 use borrow.Author.Tests.{eq-eqb, ne-eqb}
 use Rattle.tables.specs.Tables.{readAt}
 use borrow.Author.Needs.{needs}
-use Rattle.tables.proofs.Tables.read.Statement.{statement}
-use Rattle.tables.proofs.Tables.read.Tie as tie
+use Rattle.tables.proofs.Standing.read.Statement.{statement}
+use Rattle.tables.proofs.Standing.read.Tie as tie
 
 mul-own : tie.Need-mul-own
 mul-own c = search needs
@@ -34,11 +34,11 @@ differs-requires-2 c κs = search needs
 either-requires-2 : tie.Need-either-requires-2
 either-requires-2 c κs = search needs
 
-mul-s : tie.Need-mul-s
-mul-s c = search needs
+mul-required : tie.Need-mul-required
+mul-required c = search needs
 
-element-write-s : tie.Need-element-write-s
-element-write-s c = search needs
+element-write-required : tie.Need-element-write-required
+element-write-required c = search needs
 
 returns-2 : tie.Need-returns-2
 unfolding readAt
@@ -57,6 +57,6 @@ read-spec =
     returns
     differs-requires-2
     either-requires-2
-    mul-s
-    element-write-s
+    mul-required
+    element-write-required
     returns-2)
