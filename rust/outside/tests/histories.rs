@@ -21,16 +21,14 @@ fn the_library_says_what_the_brute_force_says() {
         files(random, &events, &columns, coverage);
         compare::counts(&columns, events.len(), coverage);
         let scanned = compare::scan(&columns, events.len(), coverage);
-        // Every prefix now and then; else the whole, a random one, and those on both sides of the fault.
-        let mut prefixes = vec![events.len(), random.below(events.len() + 1)];
-        if random.one_in(5) {
-            prefixes = (0..=events.len()).collect();
-        } else if scanned.code != 0 {
-            prefixes.extend([scanned.place as usize, scanned.place as usize + 1]);
-        }
-        for prefix in prefixes {
+        // The finder on every prefix; markings of the whole, of a random one, and of those on both sides of the fault.
+        let random_one = random.below(events.len() + 1);
+        for prefix in 0..=events.len() {
             let marking = found(random, &events, &columns, prefix, coverage);
-            markings(random, &events[..prefix], &columns, marking, coverage);
+            let fault = scanned.code != 0 && (prefix == scanned.place as usize || prefix == scanned.place as usize + 1);
+            if prefix == events.len() || prefix == random_one || fault {
+                markings(random, &events[..prefix], &columns, marking, coverage);
+            }
         }
     });
     println!("{met}");
