@@ -1,13 +1,13 @@
 -- From the tables to the verdict of the definition.
 -- Assumes nothing.
-use Prim.Native.Nat.{ℕ, _-_, _≤_, _<_, min, max}
+use Prim.Native.Nat.{ℕ, zero, suc, _-_, _≤_, _<_, min, max}
 use native.Mathlib.Omega.{arith}
 use mathlib.Core.Path.{_≡_, refl, sym, ap, _∙_, subst}
 use mathlib.Core.Bool.{Bool, true, false, not, cond}
-use mathlib.Core.List.{List}
+use mathlib.Core.List.{List, _∷_}
 use mathlib.Core.Option.{Option, none, some, Option·getD}
 use lib.Dec.{eqb, ltb}
-use lib.ListN.{getD, take}
+use lib.ListN.{getD, take, drop}
 use borrow.Author.Tests.{lt-ltb, ltb-true}
 use Rattle.events.specs.declared.event.Event.{Event}
 use Rattle.events.specs.Lists.{_and_, _implies_, isNone, first, latest}
@@ -30,7 +30,7 @@ use Rattle.links.proofs.TableLaws.{precedes-table, status-table, standingOf, la
 use Rattle.links.proofs.WriteLaws.{links-back, head-le, store-read-table, own-right-table}
 use Rattle.rules.specs.Orders.{placesOf, Inverse, Apart, writerAt, Writers, broken, allowsBy, outcomeBy, pairBy, realTimeBy}
 use Rattle.rules.specs.Walks.{lastIn, Walkable, noWriterBy, valueBy}
-use Rattle.rules.specs.Judge.{content, Ground, Given, valuesVerdict, pointsVerdict, readsVerdict}
+use Rattle.rules.specs.Judge.{content, Ground, Given, readRuleBy, readRule, readRules, firstOf, readsVerdict}
 use Rattle.rules.proofs.Numbers.{none-of, some-of, every-ext, first-ext}
 use Rattle.rules.proofs.OrderLaws.{places-length, before-lower, outcome-of, inverse-place, order-low, order-apart}
 use Rattle.rules.proofs.WalkLaws.{found-between, found-before}
@@ -184,7 +184,7 @@ module _ {c : Columns} {n : ℕ} {link : List ℕ} {reads : List Bool} {order ou
         (broke (first (λ i. not (noWriterBetween (history c n) (orderIn c n order outcomes) (gapOf (content (history c n) order outcomes gaps .points) i) i)) n) (λ i. Broken D i (eventAt (history c n) i .transaction))
         (broke (first (λ i. not (valueAtGap start (history c n) (orderIn c n order outcomes) (gapOf (content (history c n) order outcomes gaps .points) i) i)) n) (λ i. Broken E i (eventAt (history c n) i .transaction))
         Accepted))
-    unfolding readsVerdict pointsVerdict valuesVerdict
+    unfolding readsVerdict firstOf readRuleBy
     reads-same start =
         let own = first-ext (ownRightBy (c .kinds) (c .registers) (c .values) link) (ownRight (history c n)) n (own-right-table c n link (y .links)) in
         let free =
@@ -257,12 +257,27 @@ module _ {c : Columns} {n : ℕ} {link : List ℕ} {reads : List Bool} {order ou
               rw (none-a, sym agrees-b ∙ none-of (realTimeBy ended began place (begunIn c n)) (begunIn c n) u etb (omega arith), history-length c n)
               (reads-same place last writers v lasts (writers-all table) start)
 
--- a rule with what the search for its first breach said
-module _ (p : ℕ → Bool) (n x : ℕ) (e : x ≡ broken p n) (named : ℕ → Verdict) (rest : Verdict) where
-  pub broke-here : x < n → broke (first (λ i. not (p i)) n) named rest ≡ named x
-  unfolding broke
-  broke-here l = rw (some-of p n x e l)
+-- the rules of reads from the k-th on
+rules-left : (k : ℕ) → k < 3 → drop k readRules ≡ readRule k ∷ drop (suc k) readRules
+rules-left zero l = refl
+rules-left (suc zero) l = refl
+rules-left (suc (suc zero)) l = refl
+rules-left (suc (suc (suc k))) l = absurd (omega arith)
 
-  pub broke-nowhere : n ≤ x → broke (first (λ i. not (p i)) n) named rest ≡ rest
+pub rules-done : (holds : Rule → ℕ → Bool) (transactions : List ℕ) (n : ℕ) {k : ℕ} → k ≡ 3 → firstOf holds transactions n (drop k readRules) ≡ Accepted
+unfolding firstOf
+rules-done holds transactions n e = ap (λ (i : ℕ). firstOf holds transactions n (drop i readRules)) e
+
+-- the k-th rule, with what the search for its first breach said
+module _ (holds : Rule → ℕ → Bool) (transactions : List ℕ) (n k : ℕ) (l : k < 3) {r : Rule} (er : r ≡ readRule k) {x : ℕ} (ex : x ≡ broken (holds r) n) where
+  turn : firstOf holds transactions n (drop k readRules) ≡ broke (first (λ i. not (holds r i)) n) (λ i. Broken r i (getD transactions i 0)) (firstOf holds transactions n (drop (suc k) readRules))
+  unfolding firstOf
+  turn = ap (firstOf holds transactions n) (rules-left k l ∙ ap (λ (q : Rule). q ∷ drop (suc k) readRules) (sym er))
+
+  pub broken-here : x < n → firstOf holds transactions n (drop k readRules) ≡ Broken r x (getD transactions x 0)
   unfolding broke
-  broke-nowhere l = rw (none-of p n x e l)
+  broken-here m = turn ∙ rw (some-of (holds r) n x ex m)
+
+  pub broken-later : n ≤ x → firstOf holds transactions n (drop k readRules) ≡ firstOf holds transactions n (drop (suc k) readRules)
+  unfolding broke
+  broken-later m = turn ∙ rw (none-of (holds r) n x ex m)

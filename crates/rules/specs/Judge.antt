@@ -1,9 +1,9 @@
 -- The verdict on a readable marking that stands in arrays.
 -- Assumes nothing.
-use Prim.Native.Nat.{ℕ, _≤_, _<_}
+use Prim.Native.Nat.{ℕ, zero, suc, _≤_, _<_}
 use mathlib.Core.Path.{_≡_}
 use mathlib.Core.Bool.{Bool, true, not}
-use mathlib.Core.List.{List, map}
+use mathlib.Core.List.{List, [], _∷_, map}
 use lib.ListN.{length, getD}
 use Rattle.events.specs.declared.event.Event.{Event}
 use Rattle.events.specs.Lists.{first}
@@ -11,7 +11,8 @@ use Rattle.events.specs.Events.{begins}
 use Rattle.events.specs.Columns.{Columns, history}
 use Rattle.opacity.specs.declared.verdict.Verdict.{Verdict}
 use Rattle.opacity.specs.declared.verdict.Verdict.the-variants.{Accepted, Broken}
-use Rattle.opacity.specs.declared.verdict.Rule.the-variants.{C, D, E}
+use Rattle.opacity.specs.declared.verdict.Rule.{Rule}
+use Rattle.opacity.specs.declared.verdict.Rule.the-variants.{A, B, C, D, E}
 use Rattle.opacity.specs.Transactions.{isStoreRead, storeReads}
 use Rattle.opacity.specs.Justification.{isOrder}
 use Rattle.opacity.specs.Marking.{Marking, broke}
@@ -49,18 +50,27 @@ pub record Given (c : Columns) (n : ℕ) (link : List ℕ) (reads : List Bool) (
   pub ordered : isOrder (begins (history c n)) (placesOf order outcomes (begins (history c n))) ≡ true
   pub gaps-fit : (i : ℕ) → i < n → isStoreRead (history c n) i ≡ true → getD gaps i 0 ≤ begins (history c n)
 
--- rule E by the tables, rule D and then E, and rule C before both
-unfoldable pub valuesVerdict : (ℕ → ℕ) → List ℕ → List ℕ → List ℕ → ℕ → List ℕ → List ℕ → List ℕ → List Bool → List ℕ → Verdict
-valuesVerdict start transactions registers values n link writers place reads gaps =
-    broke (first (λ i. not (valueBy start transactions registers values link writers place reads gaps i)) n) (λ i. Broken E i (getD transactions i 0))
-    Accepted
+-- a rule of reads at event i, by the tables; A and B are of transactions
+unfoldable pub readRuleBy : (ℕ → ℕ) → Columns → List ℕ → List ℕ → List ℕ → List Bool → List ℕ → Rule → ℕ → Bool
+readRuleBy start c link writers place reads gaps A i = true
+readRuleBy start c link writers place reads gaps B i = true
+readRuleBy start c link writers place reads gaps C i = ownRightBy (c .kinds) (c .registers) (c .values) link i
+readRuleBy start c link writers place reads gaps D i = noWriterBy (c .transactions) (c .registers) (c .values) link writers place reads gaps i
+readRuleBy start c link writers place reads gaps E i = valueBy start (c .transactions) (c .registers) (c .values) link writers place reads gaps i
 
-unfoldable pub pointsVerdict : (ℕ → ℕ) → List ℕ → List ℕ → List ℕ → ℕ → List ℕ → List ℕ → List ℕ → List Bool → List ℕ → Verdict
-pointsVerdict start transactions registers values n link writers place reads gaps =
-    broke (first (λ i. not (noWriterBy transactions registers values link writers place reads gaps i)) n) (λ i. Broken D i (getD transactions i 0))
-    (valuesVerdict start transactions registers values n link writers place reads gaps)
+-- the rules of reads, in the order in which they are tried
+abbrev pub readRule : ℕ → Rule
+readRule zero = C
+readRule (suc zero) = D
+readRule (suc (suc k)) = E
+
+abbrev pub readRules : List Rule
+readRules = C ∷ D ∷ E ∷ []
+
+-- the first of some rules that is broken, each at its first event
+unfoldable pub firstOf : (Rule → ℕ → Bool) → List ℕ → ℕ → List Rule → Verdict
+firstOf holds transactions n [] = Accepted
+firstOf holds transactions n (r ∷ rs) = broke (first (λ i. not (holds r i)) n) (λ i. Broken r i (getD transactions i 0)) (firstOf holds transactions n rs)
 
 unfoldable pub readsVerdict : (ℕ → ℕ) → Columns → ℕ → List ℕ → List ℕ → List ℕ → List Bool → List ℕ → Verdict
-readsVerdict start c n link writers place reads gaps =
-    broke (first (λ i. not (ownRightBy (c .kinds) (c .registers) (c .values) link i)) n) (λ i. Broken C i (getD (c .transactions) i 0))
-    (pointsVerdict start (c .transactions) (c .registers) (c .values) n link writers place reads gaps)
+readsVerdict start c n link writers place reads gaps = firstOf (readRuleBy start c link writers place reads gaps) (c .transactions) n readRules

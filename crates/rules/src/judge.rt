@@ -6,14 +6,12 @@ ghost use Rattle.events.specs.Columns.{columns, history};
 ghost use Rattle.opacity.specs.declared.verdict.Verdict.the-variants.{Broken};
 ghost use Rattle.opacity.specs.Marking.{verdict};
 ghost use Rattle.rules.specs.Walks.{Walkable};
-ghost use Rattle.rules.specs.Judge.{zeros, content, Given, valuesVerdict, pointsVerdict, readsVerdict};
+ghost use Rattle.rules.specs.Judge.{zeros, content, Given, readRule, readsVerdict};
 use crate::order::rule_a;
 use crate::order::rule_b;
 use crate::places::places_of;
 use crate::places::writers_of;
-use crate::reads::rule_c;
-use crate::reads::rule_d;
-use crate::reads::rule_e;
+use crate::reads::first_broken;
 use links::tables::Fact;
 use links::tables::table;
 use links::tables::wide;
@@ -33,78 +31,17 @@ fn broken(rule: Rule, event: usize, transactions: &[u16]) -> Verdict
     }
 }
 
-// Rule E.
-fn judge_values(
-    transactions: &[u16],
-    registers: &[u16],
-    values: &[u32],
-    count: usize,
-    link: &[u16; 2048],
-    writers: &[u16; 64],
-    place: &[u16; 64],
-    reads: &[bool; 2048],
-    gaps: &[u16; 2048],
-) -> Verdict
-    requires { ⌜ Walkable (now transactions) (now registers) (now values) count (now link) (now writers) (now place) (now reads) (now gaps) ⌝ }
-    ensures { λ v. ⌜ v ≡ valuesVerdict zeros (now (transactions .entry)) (now (registers .entry)) (now (values .entry)) count (now (link .entry)) (now (writers .entry)) (now (place .entry)) (now (reads .entry)) (now (gaps .entry)) ⌝ }
+// The rules of reads, in the order in which they are tried.
+fn read_rule(k: usize) -> Rule
+    ensures { λ r. ⌜ r ≡ readRule k ⌝ }
 {
-    let e = rule_e(
-        transactions,
-        registers,
-        values,
-        count,
-        link,
-        writers,
-        place,
-        reads,
-        gaps,
-    );
-    if e < count {
-        return broken(Rule::E, e, transactions);
+    if k == 0 {
+        return Rule::C;
     }
-    Verdict::Accepted
-}
-
-// Rules D and E.
-fn judge_points(
-    transactions: &[u16],
-    registers: &[u16],
-    values: &[u32],
-    count: usize,
-    link: &[u16; 2048],
-    writers: &[u16; 64],
-    place: &[u16; 64],
-    reads: &[bool; 2048],
-    gaps: &[u16; 2048],
-) -> Verdict
-    requires { ⌜ Walkable (now transactions) (now registers) (now values) count (now link) (now writers) (now place) (now reads) (now gaps) ⌝ }
-    ensures { λ v. ⌜ v ≡ pointsVerdict zeros (now (transactions .entry)) (now (registers .entry)) (now (values .entry)) count (now (link .entry)) (now (writers .entry)) (now (place .entry)) (now (reads .entry)) (now (gaps .entry)) ⌝ }
-{
-    let d = rule_d(
-        transactions,
-        registers,
-        values,
-        count,
-        link,
-        writers,
-        place,
-        reads,
-        gaps,
-    );
-    if d < count {
-        return broken(Rule::D, d, transactions);
+    if k == 1 {
+        return Rule::D;
     }
-    judge_values(
-        transactions,
-        registers,
-        values,
-        count,
-        link,
-        writers,
-        place,
-        reads,
-        gaps,
-    )
+    Rule::E
 }
 
 // Rules C to E.
@@ -124,21 +61,28 @@ fn judge_reads(
     requires { ⌜ count ≤ length (now kinds) ⌝ }
     ensures { λ v. ⌜ v ≡ readsVerdict zeros (columns (now (kinds .entry)) (now (transactions .entry)) (now (registers .entry)) (now (values .entry))) count (now (link .entry)) (now (writers .entry)) (now (place .entry)) (now (reads .entry)) (now (gaps .entry)) ⌝ }
 {
-    let c = rule_c(kinds, registers, values, count, link);
-    if c < count {
-        return broken(Rule::C, c, transactions);
+    let mut k: usize = 0;
+    while k < 3 {
+        let rule = read_rule(k);
+        let i = first_broken(
+            rule,
+            kinds,
+            transactions,
+            registers,
+            values,
+            count,
+            link,
+            writers,
+            place,
+            reads,
+            gaps,
+        );
+        if i < count {
+            return broken(rule, i, transactions);
+        }
+        k += 1;
     }
-    judge_points(
-        transactions,
-        registers,
-        values,
-        count,
-        link,
-        writers,
-        place,
-        reads,
-        gaps,
-    )
+    Verdict::Accepted
 }
 
 // One less, or 0.

@@ -3,13 +3,15 @@ ghost use mathlib.Core.Path.{_≡_};
 ghost use mathlib.Core.Bool.{Bool, false};
 ghost use Prim.Native.Nat.{ℕ, _+_, _≤_, _<_, min, max};
 ghost use lib.ListN.{length, getD};
-ghost use Rattle.links.specs.Writes.{Linked, plusOne, ownRightBy};
+ghost use Rattle.links.specs.Writes.{Linked, plusOne};
 ghost use Rattle.rules.specs.Orders.{broken};
 ghost use Rattle.rules.specs.Walks.{startAt, lastIn, Walkable, noWriterBy, valueBy};
-ghost use Rattle.rules.specs.Judge.{zeros};
+ghost use Rattle.events.specs.Columns.{columns};
+ghost use Rattle.rules.specs.Judge.{zeros, readRuleBy};
 use links::tables::wide;
 use links::writes::own_right;
 use links::writes::stored;
+use opacity::verdict::Rule;
 
 // What a register holds before any writer.
 const START: u32 = 0;
@@ -162,30 +164,10 @@ fn value_at_gap(
     stored(values[i]) == w
 }
 
-// The first event that breaks rule C, or their number.
-pub fn rule_c(
+// Does a rule of reads hold at event i?
+fn holds_at(
+    rule: Rule,
     kinds: &[u16],
-    registers: &[u16],
-    values: &[u32],
-    count: usize,
-    link: &[u16; 2048],
-) -> usize
-    requires { ⌜ Linked (now registers) (now values) (now link) count ⌝ }
-    requires { ⌜ count ≤ length (now kinds) ⌝ }
-    ensures { λ r. ⌜ r ≡ broken (ownRightBy (now (kinds .entry)) (now (registers .entry)) (now (values .entry)) (now (link .entry))) count ⌝ }
-{
-    let mut i: usize = 0;
-    while i < count {
-        if !own_right(kinds, registers, values, link, count, i) {
-            return i;
-        }
-        i += 1;
-    }
-    count
-}
-
-// The first event that breaks rule D, or their number.
-pub fn rule_d(
     transactions: &[u16],
     registers: &[u16],
     values: &[u32],
@@ -195,13 +177,15 @@ pub fn rule_d(
     place: &[u16; 64],
     reads: &[bool; 2048],
     gaps: &[u16; 2048],
-) -> usize
+    i: usize,
+) -> bool
     requires { ⌜ Walkable (now transactions) (now registers) (now values) count (now link) (now writers) (now place) (now reads) (now gaps) ⌝ }
-    ensures { λ r. ⌜ r ≡ broken (noWriterBy (now (transactions .entry)) (now (registers .entry)) (now (values .entry)) (now (link .entry)) (now (writers .entry)) (now (place .entry)) (now (reads .entry)) (now (gaps .entry))) count ⌝ }
+    requires { ⌜ (i < count) × (count ≤ length (now kinds)) ⌝ }
+    ensures { λ b. ⌜ b ≡ readRuleBy zeros (columns (now (kinds .entry)) (now (transactions .entry)) (now (registers .entry)) (now (values .entry))) (now (link .entry)) (now (writers .entry)) (now (place .entry)) (now (reads .entry)) (now (gaps .entry)) rule i ⌝ }
 {
-    let mut i: usize = 0;
-    while i < count {
-        if !no_writer_between(
+    match rule {
+        Rule::C => own_right(kinds, registers, values, link, count, i),
+        Rule::D => no_writer_between(
             transactions,
             registers,
             values,
@@ -212,16 +196,28 @@ pub fn rule_d(
             reads,
             gaps,
             i,
-        ) {
-            return i;
-        }
-        i += 1;
+        ),
+        Rule::E => value_at_gap(
+            transactions,
+            registers,
+            values,
+            count,
+            link,
+            writers,
+            place,
+            reads,
+            gaps,
+            i,
+        ),
+        Rule::A => true,
+        Rule::B => true,
     }
-    count
 }
 
-// The first event that breaks rule E, or their number.
-pub fn rule_e(
+// The first event that breaks a rule of reads, or their number.
+pub fn first_broken(
+    rule: Rule,
+    kinds: &[u16],
     transactions: &[u16],
     registers: &[u16],
     values: &[u32],
@@ -233,11 +229,14 @@ pub fn rule_e(
     gaps: &[u16; 2048],
 ) -> usize
     requires { ⌜ Walkable (now transactions) (now registers) (now values) count (now link) (now writers) (now place) (now reads) (now gaps) ⌝ }
-    ensures { λ r. ⌜ r ≡ broken (valueBy zeros (now (transactions .entry)) (now (registers .entry)) (now (values .entry)) (now (link .entry)) (now (writers .entry)) (now (place .entry)) (now (reads .entry)) (now (gaps .entry))) count ⌝ }
+    requires { ⌜ count ≤ length (now kinds) ⌝ }
+    ensures { λ r. ⌜ r ≡ broken (readRuleBy zeros (columns (now (kinds .entry)) (now (transactions .entry)) (now (registers .entry)) (now (values .entry))) (now (link .entry)) (now (writers .entry)) (now (place .entry)) (now (reads .entry)) (now (gaps .entry)) rule) count ⌝ }
 {
     let mut i: usize = 0;
     while i < count {
-        if !value_at_gap(
+        if !holds_at(
+            rule,
+            kinds,
             transactions,
             registers,
             values,

@@ -1,48 +1,79 @@
--- `rules::judge::judge_reads` meets its contract.
+-- `rules::judge::judge_reads` meets its contract: what is left of the rules says what all of them say.
 -- Assumes nothing.
-use mathlib.Core.Path.{sym, _∙_}
+use Prim.Native.Nat.{_-_, _≤_}
+use mathlib.Core.Path.{_≡_, refl, sym, ap, _∙_}
 use native.Mathlib.Omega.{arith}
+use native.Mathlib.Numerals.{add-one}
+use lib.ListN.{drop}
 use borrow.Author.Needs.{needs}
-use lib.ListN.{getD}
-use Rattle.opacity.specs.declared.verdict.Verdict.the-variants.{Broken}
-use Rattle.opacity.specs.declared.verdict.Rule.the-variants.{C}
-use Rattle.links.specs.Writes.{ownRightBy}
-use Rattle.rules.specs.Judge.{zeros, pointsVerdict, readsVerdict}
-use Rattle.rules.proofs.JudgeLaws.{broke-here, broke-nowhere}
+use Rattle.events.specs.Columns.{columns}
+use Rattle.rules.specs.Judge.{zeros, readRuleBy, readRules, firstOf, readsVerdict}
+use Rattle.rules.proofs.JudgeLaws.{broken-here, broken-later, rules-done}
 use Rattle.rules.proofs.judge.judge_reads.Statement.{statement}
 use Rattle.rules.proofs.judge.judge_reads.Tie as tie
 
-rule-c-requires : tie.Need-rule-c-requires
-rule-c-requires c κs = search needs
+abbrev Inv-loop : tie.InvT-loop
+Inv-loop kinds transactions registers values count link writers place reads gaps k₀ k =
+    (k ≤ 3) × (firstOf (readRuleBy zeros (columns kinds transactions registers values) link writers place reads gaps) transactions count (drop k readRules) ≡ readsVerdict zeros (columns kinds transactions registers values) count link writers place reads gaps)
 
-broken-requires : tie.Need-broken-requires
-broken-requires c κs = search needs
+abbrev μ-loop : tie.MeasureT-loop
+μ-loop kinds transactions registers values count link writers place reads gaps k₀ k = 3 - k
 
-returns : tie.Need-returns
+loop-holds : tie.Need-loop-holds Inv-loop μ-loop
 unfolding readsVerdict
+loop-holds c = (omega arith, refl)
+
+read-rule-requires : tie.Need-read-rule-requires Inv-loop μ-loop
+read-rule-requires c κs = search needs
+
+first-broken-requires : tie.Need-first-broken-requires Inv-loop μ-loop
+first-broken-requires c κs = c .before .before .before .before .before .before .before .pre
+
+broken-requires : tie.Need-broken-requires Inv-loop μ-loop
+broken-requires c κs = omega (arith, c .before .before .before .before .before .before .before .before .before .pre .0 .transactions-long)
+
+returns : tie.Need-returns Inv-loop μ-loop
 returns c =
-    let start = c .before .before .before .before .before .before .before in
-    let rule = c .before .before .rule-c in
+    let start = c .before .before .before .before .before .before .before .before .before .before in
+    let cs = columns (start .args .kinds .now) (start .args .transactions .now) (start .args .registers .now) (start .args .values .now) in
+    let at = c .before .before .before .before .before .loop in
     c .broken .ensures
-    ∙ sym (broke-here (ownRightBy (start .args .kinds .now) (start .args .registers .now) (start .args .values .now) (start .args .link .now)) (start .args .count) (rule .result) (rule .ensures) (λ i. Broken C i (getD (start .args .transactions .now) i 0)) (pointsVerdict zeros (start .args .transactions .now) (start .args .registers .now) (start .args .values .now) (start .args .count) (start .args .link .now) (start .args .writers .now) (start .args .place .now) (start .args .reads .now) (start .args .gaps .now)) (c .before .if1 .taken))
+    ∙ (sym (broken-here (readRuleBy zeros cs (start .args .link .now) (start .args .writers .now) (start .args .place .now) (start .args .reads .now) (start .args .gaps .now)) (start .args .transactions .now) (start .args .count) (at .k) (omega arith) (c .before .before .before .read-rule .ensures) (c .before .before .first-broken .ensures) (omega arith))
+    ∙ at .inv .1)
 
-judge-points-requires : tie.Need-judge-points-requires
-judge-points-requires c κs = c .before .before .before .before .before .before .pre .0
+add-k : tie.Need-add-k Inv-loop μ-loop
+add-k c = search needs
 
-returns-2 : tie.Need-returns-2
-unfolding readsVerdict
+loop-less : tie.Need-loop-less Inv-loop μ-loop
+loop-less c = search needs
+
+loop-again : tie.Need-loop-again Inv-loop μ-loop
+loop-again c =
+    let start = c .before .before .before .before .before .before .before .before .before in
+    let cs = columns (start .args .kinds .now) (start .args .transactions .now) (start .args .registers .now) (start .args .values .now) in
+    let at = c .before .before .before .before .loop in
+    let later = broken-later (readRuleBy zeros cs (start .args .link .now) (start .args .writers .now) (start .args .place .now) (start .args .reads .now) (start .args .gaps .now)) (start .args .transactions .now) (start .args .count) (at .k) (omega arith) (c .before .before .read-rule .ensures) (c .before .first-broken .ensures) (omega (arith, c .if1 .left)) in
+    (omega arith, rw add-one (sym later ∙ at .inv .1))
+
+returns-2 : tie.Need-returns-2 Inv-loop μ-loop
 returns-2 c =
-    let start = c .before .before .before .before .before .before .before in
-    let rule = c .before .before .rule-c in
-    c .judge-points .ensures
-    ∙ sym (broke-nowhere (ownRightBy (start .args .kinds .now) (start .args .registers .now) (start .args .values .now) (start .args .link .now)) (start .args .count) (rule .result) (rule .ensures) (λ i. Broken C i (getD (start .args .transactions .now) i 0)) (pointsVerdict zeros (start .args .transactions .now) (start .args .registers .now) (start .args .values .now) (start .args .count) (start .args .link .now) (start .args .writers .now) (start .args .place .now) (start .args .reads .now) (start .args .gaps .now)) (omega (arith, c .before .if1 .left)))
+    let start = c .before .before .before .before .before .before in
+    let cs = columns (start .args .kinds .now) (start .args .transactions .now) (start .args .registers .now) (start .args .values .now) in
+    let e : c .before .loop .k ≡ 3 = omega (arith, c .before .loop .inv .0) in
+    sym (rules-done (readRuleBy zeros cs (start .args .link .now) (start .args .writers .now) (start .args .place .now) (start .args .reads .now) (start .args .gaps .now)) (start .args .transactions .now) (start .args .count) e) ∙ c .before .loop .inv .1
 
 pub judge-reads-spec : {M : Type 1} → statement M
 judge-reads-spec =
     tie.close
     (tie.spec
-    rule-c-requires
+    Inv-loop
+    μ-loop
+    loop-holds
+    read-rule-requires
+    first-broken-requires
     broken-requires
     returns
-    judge-points-requires
+    add-k
+    loop-less
+    loop-again
     returns-2)
