@@ -1,60 +1,42 @@
 -- Laws of the report: what the checker, the scan and the reader answer for columns and files is what the report says of the events.
 -- Assumes nothing.
-use Prim.Native.Nat.{ℕ, _≤_, _<_}
+use Prim.Native.Nat.{ℕ, _≤_}
 use native.Mathlib.Omega.{arith}
-use native.Mathlib.Decide.{decLe}
 use mathlib.Core.Path.{_≡_, refl, sym, ap, _∙_}
-use mathlib.Core.Bool.{Bool, true, false, cond}
+use mathlib.Core.Bool.{true, cond}
 use mathlib.Core.List.{List}
-use lib.Dec.{leb}
 use lib.ListN.{length}
-use borrow.Author.Tests.{leb-true, leb-false}
 use Rattle.events.specs.declared.event.Event.{Event}
 use Rattle.events.specs.declared.columns.Checked.{Checked}
 use Rattle.events.specs.Bytes.{Bytes}
-use Rattle.events.specs.Events.{begins}
 use Rattle.events.specs.Columns.{Columns, history, hold, filledWith}
 use Rattle.events.specs.Questions.{columnsAnswer}
-use Rattle.events.proofs.ColumnLaws.{Held, hold-e, hold-i}
+use Rattle.events.proofs.ColumnLaws.{Held, hold-e, hold-i, history-length}
 use Rattle.events.proofs.ReadableLaws.{readable-most}
 use Rattle.opacity.specs.Scan.{scan}
-use Rattle.rules.specs.Judge.{zeros}
-use Rattle.scan.specs.declared.Judgement.{Judgement}
+use Rattle.opacity.specs.Justification.{zeros}
 use Rattle.scan.specs.Answer.{sizeRefusal, decided, scanAnswer}
-use Rattle.scan.proofs.AnswerLaws.{decided-refused, decided-scanned, refused-31, passes-31, events-decide}
-use Rattle.marking.specs.declared.check.Judged.{Judged}
-use Rattle.marking.specs.File.{known, FileRead, content, refused as unread, fileRead}
-use Rattle.marking.specs.Answer.{ruled, afterColumns, answerFrom, verdictAnswer}
+use Rattle.scan.proofs.AnswerLaws.{events-decide}
+use Rattle.marking.specs.Answer.{afterColumns, answerFrom, verdictAnswer}
 use Rattle.reader.specs.declared.Reading.{Reading}
 use Rattle.reader.specs.Reading.{Outcome, readable, refused, historyOf, ReadAnswer, answered, filled, readAnswer}
 use Rattle.writer.proofs.WriteBack.{write-back}
 use Rattle.writer.proofs.RoundTrip.{read-stands}
-use Rattle.capture.specs.declared.Marking.{Marking}
-use Rattle.capture.specs.declared.Opacity.{Opacity}
 use Rattle.capture.specs.declared.Report.{Report}
-use Rattle.capture.specs.Report.{ruledOn, markingOf, opacityOf, judged, saidOf, reportOn, markingBy, opacityBy}
+use Rattle.capture.specs.Report.{markingOf, opacityOf, judged, saidOf, reportOn, markingBy, opacityBy}
 
 -- ---- the lines, of columns to which no question says no
 
 module _ (c : Columns) (n : ℕ) (fine : columnsAnswer c n ≡ Checked.Readable) where
   pub marking-line : (file : List ℕ) → markingBy (verdictAnswer c n file) ≡ markingOf (history c n) file
   unfolding verdictAnswer answerFrom markingOf
-  marking-line file = ap (λ (x : Checked). markingBy (afterColumns zeros (history c n) file x)) fine ∙ go (fileRead (known (history c n)) file)
-    where
-      go : (x : FileRead) → markingBy (ruled zeros (history c n) x) ≡ ruledOn (history c n) x
-      go (content m) = refl
-      go (unread q byte) = refl
+  marking-line file = ap (λ (x : Checked). markingBy (afterColumns zeros (history c n) file x)) fine
 
   pub opacity-line : opacityBy (scanAnswer c n) ≡ opacityOf (history c n)
   unfolding opacityOf
-  opacity-line = ap opacityBy (sym (events-decide c n fine)) ∙ go (leb (begins (history c n)) 10) refl
-    where
-      h : List Event
-      h = history c n
-
-      go : (b : Bool) → leb (begins h) 10 ≡ b → opacityBy (decided (sizeRefusal h n) (scan zeros h)) ≡ cond b (Opacity.Scanned (scan zeros h)) (Opacity.Refused 31)
-      go true e = ap opacityBy (sym (decided-scanned (scan zeros h) (passes-31 h n (leb-true _ _ e))))
-      go false e = ap opacityBy (sym (decided-refused (scan zeros h) (refused-31 h n (leb-false _ _ e))))
+  opacity-line =
+      ap opacityBy (sym (events-decide c n fine))
+      ∙ ap (λ (k : ℕ). opacityBy (decided (sizeRefusal (history c n) k) (scan zeros (history c n)))) (sym (history-length c n))
 
 -- ---- the whole, by what the reader answered: r, and d in the columns that held c
 

@@ -2,32 +2,35 @@
 -- its result.
 -- Assumes nothing.
 use Prim.Native.Nat.{ℕ, _≤_, _<_}
+use native.Mathlib.Decide.{decLt}
 use native.Mathlib.Omega.{arith}
 use mathlib.Core.Path.{_≡_, refl, sym, ap, _∙_}
 use mathlib.Core.Logic.{_↔_}
-use mathlib.Core.Bool.{Bool, true, false, cond}
+use mathlib.Core.Bool.{true}
 use mathlib.Core.List.{List}
-use lib.Dec.{leb}
-use borrow.Author.Tests.{leb-true, leb-false, le-leb, lt-leb}
+use lib.ListN.{length}
 use Rattle.events.specs.declared.event.Event.{Event}
 use Rattle.events.specs.Bytes.{Bytes}
 use Rattle.events.specs.Events.{begins}
 use Rattle.events.specs.Questions.{readable as isReadable}
 use Rattle.opacity.specs.declared.verdict.Scanned.{Scanned}
 use Rattle.opacity.specs.declared.verdict.Verdict.{Verdict}
-use Rattle.opacity.specs.Justification.{Justified}
+use Rattle.opacity.specs.Justification.{Justified, zeros}
 use Rattle.opacity.specs.Marking.{Marking as Content, verdict, RuleD}
 use Rattle.opacity.specs.Scan.{scan, AllJustified, FaultsAt}
 use Rattle.opacity.proofs.Theorems.{opaque-iff, faulted-iff, accepted-iff-justified}
-use Rattle.rules.specs.Judge.{zeros}
 use Rattle.marking.specs.File.{known, FileRead, content, refused as unread, fileRead}
+use Rattle.marking.specs.Answer.{ruled}
 use Rattle.marking.proofs.ContentLaws.{content-readable}
 use Rattle.reader.specs.Reading.{Outcome, readable, refused, historyOf}
 use Rattle.writer.proofs.WriteBack.{write-back}
+use Rattle.scan.specs.declared.Judgement.{Judgement}
+use Rattle.scan.specs.Answer.{sizeRefusal, decided}
+use Rattle.scan.proofs.AnswerLaws.{decided-refused, decided-scanned, scanned-e, refused-31, passes-31, passes-31-e}
 use Rattle.capture.specs.declared.Marking.{Marking}
 use Rattle.capture.specs.declared.Opacity.{Opacity}
 use Rattle.capture.specs.declared.Report.{Report}
-use Rattle.capture.specs.Report.{countsOf, ruledOn, markingOf, opacityOf, judged, saidOf, reportOn}
+use Rattle.capture.specs.Report.{countsOf, markingBy, opacityBy, markingOf, opacityOf, judged, saidOf, reportOn}
 
 -- A history is refused exactly where one of its questions says no, with that question's byte,
 pub history-refused : (s marking : List ℕ) (q byte : ℕ) → (reportOn s marking ≡ Report.Refused q byte) ↔ (historyOf s ≡ refused q byte)
@@ -50,19 +53,25 @@ module _ (s : List ℕ) (by : Bytes s) (h : List Event) (file : historyOf s ≡ 
   -- what the scan says is said of at most 10 transactions, and 31 of more
   scanned : (x : Scanned) → (opacityOf h ≡ Opacity.Scanned x) ↔ ((begins h ≤ 10) × (scan zeros h ≡ x))
   unfolding opacityOf
-  scanned x = (go (leb (begins h) 10) refl, λ w. rw (le-leb (begins h) 10 (w .0)) (ap Opacity.Scanned (w .1)))
+  scanned x = (go (decided (sizeRefusal h (length h)) (scan zeros h)) refl, λ w. ap opacityBy (sym (decided-scanned (scan zeros h) (passes-31 h (length h) (w .0)))) ∙ ap Opacity.Scanned (w .1))
     where
-      go : (b : Bool) → leb (begins h) 10 ≡ b → cond b (Opacity.Scanned (scan zeros h)) (Opacity.Refused 31) ≡ Opacity.Scanned x → (begins h ≤ 10) × (scan zeros h ≡ x)
-      go true e d = let k : scan zeros h ≡ x = cc in (leb-true _ _ e, k)
-      go false e d = absurd (let z : _≡_ {A = ℕ} 0 1 = cc in omega arith)
+      go : (j : Judgement) → decided (sizeRefusal h (length h)) (scan zeros h) ≡ j → opacityBy j ≡ Opacity.Scanned x → (begins h ≤ 10) × (scan zeros h ≡ x)
+      go (Judgement.Scanned s) e d =
+          let r = scanned-e _ _ s e in
+          let k : s ≡ x = cc in (passes-31-e h (length h) (r .0), r .1 ∙ k)
+      go (Judgement.Refused q i) e d = absurd (let z : _≡_ {A = ℕ} 0 1 = cc in omega arith)
 
   pub says-31 : (opacityOf h ≡ Opacity.Refused 31) ↔ (10 < begins h)
   unfolding opacityOf
-  says-31 = (go (leb (begins h) 10) refl, λ l. rw (lt-leb (begins h) 10 l) refl)
+  says-31 = (
+    λ e. elim (decLt 10 (begins h)) [ yes l ↦ l | no f ↦ absurd (few e (omega arith)) ],
+    λ l. ap opacityBy (sym (decided-refused (scan zeros h) (refused-31 h (length h) l))),
+  )
     where
-      go : (b : Bool) → leb (begins h) 10 ≡ b → cond b (Opacity.Scanned (scan zeros h)) (Opacity.Refused 31) ≡ Opacity.Refused 31 → 10 < begins h
-      go true e d = absurd (let z : _≡_ {A = ℕ} 0 1 = cc in omega arith)
-      go false e d = leb-false _ _ e
+      few : opacityBy (decided (sizeRefusal h (length h)) (scan zeros h)) ≡ Opacity.Refused 31 → begins h ≤ 10 → ⊥
+      few e l =
+          let x : Opacity.Scanned (scan zeros h) ≡ Opacity.Refused 31 = ap opacityBy (decided-scanned (scan zeros h) (passes-31 h (length h) l)) ∙ e in
+          let z : _≡_ {A = ℕ} 0 1 = cc in omega arith
 
   -- "opaque yes" exactly where every prefix has a justification,
   pub says-opaque : (opacityOf h ≡ Opacity.Scanned Scanned.Opaque) ↔ ((begins h ≤ 10) × AllJustified zeros h)
@@ -94,11 +103,11 @@ module _ (s : List ℕ) (by : Bytes s) (h : List Event) (file : historyOf s ≡ 
       by-rules : (m : Content) → fileRead (known h) marking ≡ content m → (verdict zeros h m ≡ Verdict.Accepted) ↔ (Justified zeros h (m .places) × RuleD h m)
       by-rules m e = accepted-iff-justified zeros h is-readable m (content-readable h marking m is-readable e)
 
-      go : (x : FileRead) → fileRead (known h) marking ≡ x → ruledOn h x ≡ Marking.Ruled Verdict.Accepted → Justifying
+      go : (x : FileRead) → fileRead (known h) marking ≡ x → markingBy (ruled zeros h x) ≡ Marking.Ruled Verdict.Accepted → Justifying
       go (content m) e d =
           let a = by-rules m e .0 cc in
           record { marked = m; holds = e; justified = a .0; ruleD = a .1 }
       go (unread q byte) e d = absurd (let z : _≡_ {A = ℕ} 0 1 = cc in omega arith)
 
-      back : Justifying → ruledOn h (fileRead (known h) marking) ≡ Marking.Ruled Verdict.Accepted
-      back j = ap (ruledOn h) (j .holds) ∙ ap Marking.Ruled (by-rules (j .marked) (j .holds) .1 (j .justified, j .ruleD))
+      back : Justifying → markingBy (ruled zeros h (fileRead (known h) marking)) ≡ Marking.Ruled Verdict.Accepted
+      back j = ap (λ (x : FileRead). markingBy (ruled zeros h x)) (j .holds) ∙ ap Marking.Ruled (by-rules (j .marked) (j .holds) .1 (j .justified, j .ruleD))

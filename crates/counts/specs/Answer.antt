@@ -1,12 +1,10 @@
 -- The answers of the counts ("Scan and report"): "transactions" counts those begun, "reads" the store reads.
 -- Assumes nothing.
 use Prim.Native.Nat.{ℕ}
-use lib.ListN.{length}
 use Rattle.events.specs.declared.columns.Checked.{Checked}
-use Rattle.events.specs.Events.{begins}
 use Rattle.events.specs.Columns.{Columns, history}
 use Rattle.events.specs.Questions.{columnsAnswer}
-use Rattle.opacity.specs.Transactions.{storeReads}
+use Rattle.opacity.specs.Counts.{counts}
 use Rattle.counts.specs.declared.Counting.{Counting}
 
 -- a number of columns to which no question says no
@@ -15,10 +13,10 @@ counted Checked.Readable n = Counting.Counted n
 counted (Checked.Refused q e) n = Counting.Refused q e
 
 unfoldable pub transactionsAnswer : Columns → ℕ → Counting
-transactionsAnswer c count = counted (columnsAnswer c count) (begins (history c count))
+transactionsAnswer c count = counted (columnsAnswer c count) (counts (history c count) .transactions)
 
 unfoldable pub storeReadsAnswer : Columns → ℕ → Counting
-storeReadsAnswer c count = counted (columnsAnswer c count) (length (storeReads (history c count)))
+storeReadsAnswer c count = counted (columnsAnswer c count) (counts (history c count) .reads)
 
 -- the paper's number of an answer, 0 where it was counted, and its value: the number counted, or the event
 unfoldable pub number : Counting → ℕ

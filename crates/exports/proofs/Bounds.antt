@@ -24,7 +24,7 @@ use Rattle.scan.specs.declared.Judgement.{Judgement}
 use Rattle.scan.specs.Answer.{scanAnswer}
 use Rattle.scan.proofs.AnswerLaws.{scanned-e}
 use Rattle.scan.proofs.Theorems.{faulted-exactly}
-use Rattle.rules.specs.Judge.{zeros}
+use Rattle.opacity.specs.Justification.{zeros}
 use Rattle.marking.specs.declared.check.Judged.{Judged}
 use Rattle.marking.specs.File.{known, FileRead, content, refused, fileRead}
 use Rattle.marking.specs.Answer.{ruled, afterColumns, answerFrom, verdictAnswer}

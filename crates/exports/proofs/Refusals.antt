@@ -35,7 +35,7 @@ use Rattle.scan.specs.Answer.{sizeRefusal, scanRefusal, scanAnswer}
 use Rattle.scan.proofs.AnswerLaws.{scanned-e, refused-e as unscanned-e, passed as scan-passed}
 use Rattle.scan.proofs.Theorems.{faulted-exactly}
 use Rattle.marking.specs.declared.check.Judged.{Judged}
-use Rattle.rules.specs.Judge.{zeros}
+use Rattle.opacity.specs.Justification.{zeros}
 use Rattle.marking.specs.File.{known, FileRead, content, refused, fileRead}
 use Rattle.marking.specs.Answer.{ruled, afterColumns, answerFrom, verdictAnswer}
 use Rattle.marking.proofs.Theorems.{history-refused}

@@ -20,9 +20,9 @@ use Rattle.opacity.specs.Marking.{ruleNumber}
 use Rattle.opacity.specs.Transactions.{storeReads}
 use Rattle.opacity.proofs.Bounds.{at-most-64}
 use Rattle.reader.specs.declared.Reading.{Reading}
-use Rattle.reader.specs.Reading.{readAnswer}
+use Rattle.reader.specs.Reading.{readAnswer, number as readNumber, value as readValue}
 use Rattle.writer.specs.declared.Writing.{Writing}
-use Rattle.writer.specs.Writing.{writtenAnswer}
+use Rattle.writer.specs.Writing.{writtenAnswer, number as writtenNumber, value as writtenValue}
 use Rattle.writer.proofs.FileLaws.{length-file, length-most}
 use Rattle.writer.proofs.RoundTrip.{was-read, was-written, refused-unread, refused-unwritten}
 use Rattle.finder.specs.declared.Found.{Found}
@@ -36,7 +36,8 @@ use Rattle.scan.proofs.Theorems.{no-cause-four}
 use Rattle.marking.specs.declared.check.Judged.{Judged}
 use Rattle.marking.specs.Answer.{verdictAnswer}
 use Rattle.counts.specs.declared.Counting.{Counting}
-use Rattle.counts.specs.Answer.{counted, transactionsAnswer, storeReadsAnswer}
+use Rattle.counts.specs.Answer.{counted, transactionsAnswer, storeReadsAnswer, number as countNumber, value as countValue}
+use Rattle.opacity.specs.Counts.{counts}
 use Rattle.exports.specs.Codes.{most, packed, brokenPlace, readCode, writtenCode, foundCode, scannedCode, scanCode, verdictCode, checkCode, countCode, codeOf, eventOf, transactionOf}
 use Rattle.exports.specs.Calls.{readCall, writeCall, findCall, scanCall, checkCall, transactionsCall, storeReadsCall}
 use Rattle.exports.specs.Decoded.{readingOf, writingOf, foundOf, judgementOf, judgedOf, countingOf}
@@ -51,7 +52,7 @@ use Rattle.exports.proofs.Refusals.{below-100, place-fits, beyond, read
 -- ---- read
 
 pub reading-back : (file : List ℕ) (c : Columns) → readingOf (readCall file c .number) ≡ readAnswer file c .result
-unfolding readCall readCode
+unfolding readCall readCode readNumber readValue
 reading-back file c = go (readAnswer file c .result) refl
   where
     go : (r : Reading) → readAnswer file c .result ≡ r → readingOf (readCode r) ≡ r
@@ -63,7 +64,7 @@ reading-back file c = go (readAnswer file c .result) refl
 -- ---- write
 
 pub writing-back : (c : Columns) (count : ℕ) (output : List ℕ) → count ≤ most → writingOf (writeCall c count output .number) ≡ writtenAnswer c count output .result
-unfolding writeCall writtenCode
+unfolding writeCall writtenCode writtenNumber writtenValue
 writing-back c count output l = go (writtenAnswer c count output .result) refl
   where
     go : (r : Writing) → writtenAnswer c count output .result ≡ r → writingOf (writtenCode r) ≡ r
@@ -139,7 +140,7 @@ module _ (c : Columns) (count : ℕ) (file : List ℕ) (r : Rule) (e t : ℕ) (b
 -- a number that is small wherever the history is readable
 counting-of : (c : Columns) (count n : ℕ) → count ≤ most → (readable (history c count) ≡ true → n ≤ most)
     → countingOf (countCode (counted (columnsAnswer c count) n)) ≡ counted (columnsAnswer c count) n
-unfolding countCode
+unfolding countCode countNumber countValue
 counting-of c count n l f = go (counted (columnsAnswer c count) n) refl
   where
     go : (r : Counting) → counted (columnsAnswer c count) n ≡ r → countingOf (countCode r) ≡ r
@@ -149,18 +150,18 @@ counting-of c count n l f = go (counted (columnsAnswer c count) n) refl
         uncounted-back (below-100 (omega arith) (omega arith) r) (place-fits l r)
 
 pub transactions-back : (c : Columns) (count : ℕ) → count ≤ most → countingOf (transactionsCall c count) ≡ transactionsAnswer c count
-unfolding transactionsCall transactionsAnswer
+unfolding transactionsCall transactionsAnswer counts
 transactions-back c count l = counting-of c count (begins (history c count)) l (λ r. omega (arith, at-most-64 (history c count) r))
 
 pub store-reads-back : (c : Columns) (count : ℕ) → count ≤ most → countingOf (storeReadsCall c count) ≡ storeReadsAnswer c count
-unfolding storeReadsCall storeReadsAnswer
+unfolding storeReadsCall storeReadsAnswer counts
 store-reads-back c count l = counting-of c count (length (storeReads (history c count))) l (λ r. omega (arith, reads-low (history c count) r))
 
 -- ---- the codes alone: 0 exactly where it is done, 1 to 99 exactly where a question refuses, 100 exactly where there is none, 101 to 104
 -- exactly where the scan faults, 201 to 205 exactly where a rule is broken
 
 pub read-class : (file : List ℕ) (c : Columns) → classOf (codeOf (readCall file c .number)) ≡ readClass (readAnswer file c .result)
-unfolding readCall readCode
+unfolding readCall readCode readNumber readValue
 read-class file c = go (readAnswer file c .result) refl
   where
     go : (r : Reading) → readAnswer file c .result ≡ r → classOf (codeOf (readCode r)) ≡ readClass r
@@ -168,7 +169,7 @@ read-class file c = go (readAnswer file c .result) refl
     go (Reading.Refused q b) w = class-refused q b (read-refusal file c q b w .0)
 
 pub write-class : (c : Columns) (count : ℕ) (output : List ℕ) → classOf (codeOf (writeCall c count output .number)) ≡ writtenClass (writtenAnswer c count output .result)
-unfolding writeCall writtenCode
+unfolding writeCall writtenCode writtenNumber writtenValue
 write-class c count output = go (writtenAnswer c count output .result) refl
   where
     go : (r : Writing) → writtenAnswer c count output .result ≡ r → classOf (codeOf (writtenCode r)) ≡ writtenClass r
@@ -223,7 +224,7 @@ check-class c count file = go (verdictAnswer c count file) refl
         class-refused q b (record { least = m .least; most = omega (arith, m .most) })
 
 count-class : (c : Columns) (count n : ℕ) → classOf (codeOf (countCode (counted (columnsAnswer c count) n))) ≡ countClass (counted (columnsAnswer c count) n)
-unfolding countCode
+unfolding countCode countNumber countValue
 count-class c count n = go (counted (columnsAnswer c count) n) refl
   where
     go : (r : Counting) → counted (columnsAnswer c count) n ≡ r → classOf (codeOf (countCode r)) ≡ countClass r
@@ -231,17 +232,17 @@ count-class c count n = go (counted (columnsAnswer c count) n) refl
     go (Counting.Refused q e) w = class-refused q e (below-100 (omega arith) (omega arith) (count-refusal c count n q e w))
 
 pub transactions-class : (c : Columns) (count : ℕ) → classOf (codeOf (transactionsCall c count)) ≡ countClass (transactionsAnswer c count)
-unfolding transactionsCall transactionsAnswer
+unfolding transactionsCall transactionsAnswer counts
 transactions-class c count = count-class c count (begins (history c count))
 
 pub store-reads-class : (c : Columns) (count : ℕ) → classOf (codeOf (storeReadsCall c count)) ≡ countClass (storeReadsAnswer c count)
-unfolding storeReadsCall storeReadsAnswer
+unfolding storeReadsCall storeReadsAnswer counts
 store-reads-class c count = count-class c count (length (storeReads (history c count)))
 
 -- ---- a call whose code is not 0 leaves every lent buffer as it was
 
 pub read-keeps : (file : List ℕ) (c : Columns) → (codeOf (readCall file c .number) ≡ 0 → ⊥) → readCall file c .columns ≡ c
-unfolding readCall readCode
+unfolding readCall readCode readNumber readValue
 read-keeps file c n = go (readAnswer file c .result) refl n
   where
     go : (r : Reading) → readAnswer file c .result ≡ r → (codeOf (readCode r) ≡ 0 → ⊥) → readAnswer file c .columns ≡ c
@@ -249,7 +250,7 @@ read-keeps file c n = go (readAnswer file c .result) refl n
     go (Reading.Refused q b) w f = refused-unread file c q b w
 
 pub write-keeps : (c : Columns) (count : ℕ) (output : List ℕ) → (codeOf (writeCall c count output .number) ≡ 0 → ⊥) → writeCall c count output .output ≡ output
-unfolding writeCall writtenCode
+unfolding writeCall writtenCode writtenNumber writtenValue
 write-keeps c count output n = go (writtenAnswer c count output .result) refl n
   where
     go : (r : Writing) → writtenAnswer c count output .result ≡ r → (codeOf (writtenCode r) ≡ 0 → ⊥) → writtenAnswer c count output .output ≡ output
@@ -283,9 +284,9 @@ pub check-beyond : (c : Columns) (count : ℕ) (file : List ℕ) (q e : ℕ) →
 check-beyond c count file q e x = beyond (check-history c count file q e x)
 
 pub transactions-beyond : (c : Columns) (count q e : ℕ) → transactionsAnswer c count ≡ Counting.Refused q e → most < e → CountRefused count q e
-unfolding transactionsAnswer
+unfolding transactionsAnswer counts
 transactions-beyond c count q e x = beyond (count-refusal c count (begins (history c count)) q e x)
 
 pub store-reads-beyond : (c : Columns) (count q e : ℕ) → storeReadsAnswer c count ≡ Counting.Refused q e → most < e → CountRefused count q e
-unfolding storeReadsAnswer
+unfolding storeReadsAnswer counts
 store-reads-beyond c count q e x = beyond (count-refusal c count (length (storeReads (history c count))) q e x)

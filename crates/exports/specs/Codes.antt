@@ -4,7 +4,9 @@
 use mathlib.Core.Path.{_≡_}
 use Prim.Native.Nat.{ℕ, _+_, _*_, _/_, _%_, _≤_, _<_, min}
 use Rattle.reader.specs.declared.Reading.{Reading}
+use Rattle.reader.specs.Reading.{number as readNumber, value as readValue}
 use Rattle.writer.specs.declared.Writing.{Writing}
+use Rattle.writer.specs.Writing.{number as writtenNumber, value as writtenValue}
 use Rattle.finder.specs.declared.Found.{Found}
 use Rattle.opacity.specs.declared.verdict.Rule.{Rule}
 use Rattle.opacity.specs.declared.verdict.Verdict.{Verdict}
@@ -13,6 +15,7 @@ use Rattle.opacity.specs.Marking.{ruleNumber}
 use Rattle.scan.specs.declared.Judgement.{Judgement}
 use Rattle.marking.specs.declared.check.Judged.{Judged}
 use Rattle.counts.specs.declared.Counting.{Counting}
+use Rattle.counts.specs.Answer.{number as countNumber, value as countValue}
 
 -- the largest place that is told, 2^32 − 1: a larger one is told as this
 abbrev pub most : ℕ
@@ -22,15 +25,12 @@ most = 4294967295
 unfoldable pub packed : ℕ → ℕ → ℕ
 packed code place = code * 4294967296 + min place most
 
--- the event count, or the byte
+-- of the answers with one number and one value: the event count or the byte, the length or the event
 unfoldable pub readCode : Reading → ℕ
-readCode (Reading.Read n) = packed 0 n
-readCode (Reading.Refused q byte) = packed q byte
+readCode r = packed (readNumber r) (readValue r)
 
--- the length, or the event
 unfoldable pub writtenCode : Writing → ℕ
-writtenCode (Writing.Written n) = packed 0 n
-writtenCode (Writing.Refused q e) = packed q e
+writtenCode r = packed (writtenNumber r) (writtenValue r)
 
 unfoldable pub foundCode : Found → ℕ
 foundCode (Found.Marking n) = packed 0 n
@@ -62,8 +62,7 @@ checkCode (Judged.MarkingRefused q byte) = packed q byte
 
 -- the number counted, or the event
 unfoldable pub countCode : Counting → ℕ
-countCode (Counting.Counted n) = packed 0 n
-countCode (Counting.Refused q e) = packed q e
+countCode r = packed (countNumber r) (countValue r)
 
 -- ---- what is known of an answer before it is told
 

@@ -15,7 +15,7 @@ use Rattle.events.specs.Columns.{Columns, history, hold}
 use Rattle.events.specs.Questions.{readable}
 use Rattle.events.proofs.ColumnLaws.{history-length}
 use Rattle.events.proofs.QuestionLaws.{readable-take}
-use Rattle.opacity.specs.Justification.{Place, Justified}
+use Rattle.opacity.specs.Justification.{Place, Justified, zeros}
 use Rattle.opacity.specs.Lowest.{LowestJustified}
 use Rattle.opacity.specs.Serial.{Serial, LowestSerial}
 use Rattle.opacity.specs.Marking.{ReadableFor, marked, markingBytes, verdict}
@@ -25,10 +25,6 @@ use Rattle.opacity.proofs.Theorems.{lowest-some, lowest-none, prefix-lowest-ser
 use Rattle.finder.specs.declared.Found.{Found}
 use Rattle.finder.specs.Answer.{Given, gives, decided, findRefusal, lowestMarking, foundAnswer}
 use Rattle.finder.proofs.AnswerLaws.{decided-refused, decided-marking, decided-none, marking-e, none-e, refused-e, passed, marking-some, some-marking, none-marking, marking-none}
-
--- every register is 0 before any writer
-abbrev pub zeros : ℕ → ℕ
-zeros r = 0
 
 -- a call: columns, count, prefix length, and the output as it was
 module _ (c : Columns) (count prefix : ℕ) (output : List ℕ) where

@@ -14,7 +14,7 @@ use Rattle.events.specs.Events.{begins}
 use Rattle.events.specs.Columns.{Columns, history, hold}
 use Rattle.events.specs.Questions.{ask, readable, eventsAnswer}
 use Rattle.opacity.specs.Transactions.{storeReads}
-use Rattle.opacity.specs.Justification.{Place}
+use Rattle.opacity.specs.Justification.{Place, zeros}
 use Rattle.opacity.specs.Lowest.{lowestOf}
 use Rattle.opacity.specs.Marking.{marked, markingBytes}
 use Rattle.tables.specs.Calls.{askedOf, thenChecked}
@@ -71,4 +71,4 @@ decided Checked.Readable (some bytes) o = gives (Found.Marking (length bytes)) (
 
 unfoldable pub foundAnswer : Columns → ℕ → ℕ → List ℕ → Given
 foundAnswer c count prefix output =
-    decided (findRefusal c count prefix (length output)) (lowestMarking (λ r. 0) (take prefix (history c count))) output
+    decided (findRefusal c count prefix (length output)) (lowestMarking zeros (take prefix (history c count))) output

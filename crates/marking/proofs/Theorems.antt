@@ -17,10 +17,9 @@ use Rattle.events.proofs.ReadableLaws.{columns-readable}
 use Rattle.opacity.specs.declared.verdict.Verdict.{Verdict}
 use Rattle.opacity.specs.declared.verdict.Verdict.the-variants.{Accepted, Broken}
 use Rattle.opacity.specs.declared.verdict.Rule.{Rule}
-use Rattle.opacity.specs.Justification.{Justified}
+use Rattle.opacity.specs.Justification.{Justified, zeros}
 use Rattle.opacity.specs.Marking.{Marking, ReadableFor, markingBytes, verdict, AllHold, RuleD, FirstBroken, namedEvent, namedTransaction}
 use Rattle.opacity.proofs.Theorems.{accepted-iff-rules, accepted-iff-justified, broken-iff-first}
-use Rattle.rules.specs.Judge.{zeros}
 use Rattle.marking.specs.declared.check.Judged.the-variants.{Ruled, HistoryRefused, MarkingRefused}
 use Rattle.marking.specs.File.{known, FileRead, content, refused, fileRead}
 use Rattle.marking.specs.Answer.{ruled, afterColumns, answerFrom, verdictAnswer}

@@ -10,7 +10,7 @@ use Rattle.events.specs.Columns.{Columns, history}
 use Rattle.events.specs.Questions.{columnsAnswer}
 use Rattle.opacity.specs.declared.verdict.Verdict.the-variants.{Accepted, Broken}
 use Rattle.opacity.specs.Marking.{verdict, ruleNumber}
-use Rattle.rules.specs.Judge.{zeros}
+use Rattle.opacity.specs.Justification.{zeros}
 use Rattle.marking.specs.declared.check.Judged.{Judged}
 use Rattle.marking.specs.declared.check.Judged.the-variants.{Ruled, HistoryRefused, MarkingRefused}
 use Rattle.marking.specs.File.{known, FileRead, content, refused, fileRead}

@@ -1,7 +1,8 @@
 // The checker: the questions of columns, those of the marking file, and the verdict.
 ghost use mathlib.Core.Path.{_≡_};
 ghost use Rattle.events.specs.Columns.{columns, history};
-ghost use Rattle.rules.specs.Judge.{zeros, Ground};
+ghost use Rattle.opacity.specs.Justification.{zeros};
+ghost use Rattle.rules.specs.Judge.{Ground};
 ghost use Rattle.marking.specs.File.{known, fileRead};
 ghost use Rattle.marking.specs.Answer.{ruled, verdictAnswer};
 use crate::read::read_marking;

@@ -12,6 +12,10 @@ use Rattle.events.specs.declared.event.Event.{Event}
 use Rattle.events.specs.Events.{eventAt, begins}
 use Rattle.opacity.specs.Transactions.{precedes, status, allows, lastWrite, isStoreRead, ownRight}
 
+-- 0 in every register before any writer
+abbrev pub zeros : ℕ → ℕ
+zeros r = 0
+
 -- A place of an order: a transaction with its outcome.
 pub record Place : Type 0 where
   pub transaction : ℕ

@@ -14,11 +14,12 @@ use Rattle.events.specs.Questions.{columnsAnswer}
 use Rattle.events.proofs.ColumnLaws.{Held, hold-e, history-take}
 use Rattle.events.proofs.ReadableLaws.{readable-columns, readable-fewer}
 use Rattle.opacity.specs.declared.verdict.Verdict.the-variants.{Accepted}
+use Rattle.opacity.specs.Justification.{zeros}
 use Rattle.opacity.specs.Marking.{Marking, ReadableFor, marked, markingBytes, verdict}
 use Rattle.finder.specs.declared.Found.{Found}
 use Rattle.finder.specs.Answer.{foundAnswer}
 use Rattle.finder.proofs.AnswerLaws.{Passed, passed}
-use Rattle.finder.proofs.Theorems.{zeros, Written, written}
+use Rattle.finder.proofs.Theorems.{Written, written}
 use Rattle.marking.specs.declared.check.Judged.the-variants.{Ruled}
 use Rattle.marking.specs.Answer.{verdictAnswer}
 use Rattle.marking.proofs.Theorems.{bytes-accepted}

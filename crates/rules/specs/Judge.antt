@@ -20,10 +20,6 @@ use Rattle.links.specs.Writes.{Links, Reads, ownRightBy}
 use Rattle.rules.specs.Orders.{placesOf}
 use Rattle.rules.specs.Walks.{noWriterBy, valueBy}
 
--- the values before any writer
-abbrev pub zeros : ℕ → ℕ
-zeros r = 0
-
 -- the marking that stands in the arrays
 unfoldable pub content : List Event → List ℕ → List ℕ → List ℕ → Marking
 content h order outcomes gaps =

@@ -14,6 +14,7 @@ use Rattle.events.specs.Questions.{readable, columnsAnswer}
 use Rattle.events.proofs.ColumnLaws.{hold-e, hold-i}
 use Rattle.events.proofs.ReadableLaws.{columns-readable, readable-columns}
 use Rattle.opacity.specs.declared.verdict.Scanned.{Scanned}
+use Rattle.opacity.specs.Justification.{zeros}
 use Rattle.opacity.specs.Scan.{scan}
 use Rattle.tables.proofs.CallLaws.{asked-none, asked-yes, asked-no, asked-e, then-readable, then-refused, then-e}
 use Rattle.scan.specs.declared.Judgement.{Judgement}
@@ -81,6 +82,6 @@ module _ (c : Columns) (count : ℕ) where
   unfolding scanAnswer scanRefusal
   event-refused x = decided-refused _ (then-refused _ x)
 
-  pub events-decide : columnsAnswer c count ≡ Checked.Readable → decided (sizeRefusal (history c count) count) (scan (λ r. 0) (history c count)) ≡ scanAnswer c count
+  pub events-decide : columnsAnswer c count ≡ Checked.Readable → decided (sizeRefusal (history c count) count) (scan zeros (history c count)) ≡ scanAnswer c count
   unfolding scanAnswer scanRefusal
-  events-decide x = ap (λ (y : Checked). decided y (scan (λ r. 0) (history c count))) (sym (then-readable _ x))
+  events-decide x = ap (λ (y : Checked). decided y (scan zeros (history c count))) (sym (then-readable _ x))

@@ -9,16 +9,13 @@ use Rattle.events.specs.Columns.{Columns, history, hold}
 use Rattle.events.specs.Questions.{columnsAnswer}
 use Rattle.events.proofs.ColumnLaws.{history-length}
 use Rattle.opacity.specs.declared.verdict.Scanned.{Scanned}
+use Rattle.opacity.specs.Justification.{zeros}
 use Rattle.opacity.specs.Scan.{scan, AllJustified, FaultsAt}
 use Rattle.opacity.specs.Serial.{AllSerial}
 use Rattle.opacity.proofs.Theorems.{opaque-iff, faulted-iff, opaque-iff-serial, cause-never-four}
 use Rattle.scan.specs.declared.Judgement.{Judgement}
 use Rattle.scan.specs.Answer.{scanRefusal, scanAnswer}
 use Rattle.scan.proofs.AnswerLaws.{decided-refused, decided-scanned, scanned-e, refused-e, passed}
-
--- every register is 0 before any writer
-abbrev pub zeros : ℕ → ℕ
-zeros r = 0
 
 -- a call: columns and count
 module _ (c : Columns) (count : ℕ) where

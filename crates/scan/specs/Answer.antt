@@ -1,17 +1,15 @@
 -- The scan's answer ("Scan and report"): opaque, or the event and the cause, or the first question that says no.
 -- Assumes nothing.
-use mathlib.Core.Path.{_≡_}
-use Prim.Native.Nat.{ℕ, suc, _≤_, _<_}
+use Prim.Native.Nat.{ℕ}
 use mathlib.Core.List.{List, [], _∷_}
 use lib.Dec.{leb}
-use lib.ListN.{length, take}
 use Rattle.events.specs.declared.event.Event.{Event}
 use Rattle.events.specs.declared.columns.Checked.{Checked}
-use Rattle.events.specs.Events.{eventAt, begins}
+use Rattle.events.specs.Events.{begins}
 use Rattle.events.specs.Columns.{Columns, history}
 use Rattle.events.specs.Questions.{ask, columnsAnswer}
 use Rattle.opacity.specs.declared.verdict.Scanned.{Scanned}
-use Rattle.opacity.specs.Justification.{Place, Justified}
+use Rattle.opacity.specs.Justification.{zeros}
 use Rattle.opacity.specs.Scan.{cause, scan}
 use Rattle.tables.specs.Calls.{askedOf, thenChecked}
 use Rattle.scan.specs.declared.Judgement.{Judgement}
@@ -39,4 +37,4 @@ decided (Checked.Refused q e) s = Judgement.Refused q e
 decided Checked.Readable s = Judgement.Scanned s
 
 unfoldable pub scanAnswer : Columns → ℕ → Judgement
-scanAnswer c count = decided (scanRefusal c count) (scan (λ r. 0) (history c count))
+scanAnswer c count = decided (scanRefusal c count) (scan zeros (history c count))

@@ -4,6 +4,7 @@ ghost use mathlib.Core.Bool.{cond};
 ghost use Prim.Native.Nat.{_+_, _<_};
 ghost use Rattle.events.specs.Columns.{columns, history};
 ghost use Rattle.events.specs.Events.{isBegin};
+ghost use Rattle.opacity.specs.Justification.{zeros};
 ghost use Rattle.opacity.specs.Scan.{scan, cause};
 ghost use Rattle.opacity.specs.Counts.{ofKind, HoldsReadable};
 ghost use Rattle.tables.specs.Order.{startOf, Judged};
@@ -97,7 +98,7 @@ fn scan_readable(
     count: usize,
 ) -> Judgement
     requires { ⌜ HoldsReadable (columns (now kinds) (now transactions) (now registers) (now values)) count ⌝ }
-    ensures { λ r. ⌜ r ≡ decided (sizeRefusal (history (columns (now (kinds .entry)) (now (transactions .entry)) (now (registers .entry)) (now (values .entry))) count) count) (scan (λ r. 0) (history (columns (now (kinds .entry)) (now (transactions .entry)) (now (registers .entry)) (now (values .entry))) count)) ⌝ }
+    ensures { λ r. ⌜ r ≡ decided (sizeRefusal (history (columns (now (kinds .entry)) (now (transactions .entry)) (now (registers .entry)) (now (values .entry))) count) count) (scan zeros (history (columns (now (kinds .entry)) (now (transactions .entry)) (now (registers .entry)) (now (values .entry))) count)) ⌝ }
 {
     let begun = opacity::counts::transactions_begun(kinds, transactions, registers, values, count);
     if begun > SEARCHED {

@@ -5,6 +5,7 @@ use denote.Ref.{now}
 use Rattle.events.specs.Columns.{columns}
 use Rattle.events.proofs.ColumnLaws.{history-length}
 use Rattle.events.proofs.ReadableLaws.{columns-readable}
+use Rattle.opacity.specs.Counts.{counts}
 use Rattle.opacity.proofs.CountLaws.{checked-readable}
 use Rattle.capture.specs.Report.{countsOf}
 use Rattle.capture.proofs.counts_of.Statement.{statement}
@@ -23,7 +24,7 @@ store-reads-requires c κs =
     checked-readable cs (start .args .count) (start .pre)
 
 returns : tie.Need-returns
-unfolding countsOf
+unfolding countsOf counts
 returns c =
     let start = c .before .before .before .before .before .before in
     let cs = columns (now (start .args .kinds)) (now (start .args .transactions)) (now (start .args .registers)) (now (start .args .values)) in

@@ -5,6 +5,7 @@ use denote.Ref.{now}
 use borrow.Author.Needs.{needs}
 use Rattle.events.specs.Columns.{columns}
 use Rattle.opacity.proofs.CountLaws.{checked-readable}
+use Rattle.opacity.specs.Counts.{counts}
 use Rattle.counts.specs.declared.Counting.{Counting}
 use Rattle.counts.specs.Answer.{storeReadsAnswer}
 use Rattle.counts.proofs.AnswerLaws.{counted-refused, counted-readable}
@@ -18,7 +19,7 @@ enum-known-checked : tie.Need-enum-known-checked
 enum-known-checked c = search needs
 
 returns : tie.Need-returns
-unfolding storeReadsAnswer
+unfolding storeReadsAnswer counts
 returns c = counted-refused _ (sym (c .before .before .before .check-columns .ensures) ∙ c .before .checked .given .1)
 
 enum-told : tie.Need-enum-told
@@ -31,7 +32,7 @@ store-reads-requires c κs =
     checked-readable cs (start .args .count) (sym (c .before .before .check-columns .ensures) ∙ c .enum-told .given .1)
 
 returns-2 : tie.Need-returns-2
-unfolding storeReadsAnswer
+unfolding storeReadsAnswer counts
 returns-2 c =
     ap Counting.Counted (c .store-reads .ensures)
     ∙ counted-readable _ (sym (c .before .before .before .check-columns .ensures) ∙ c .before .enum-told .given .1)

@@ -1,6 +1,7 @@
 -- `exports::codes::count_code` meets its contract.
 -- Assumes nothing.
 use mathlib.Core.Path.{sym, ap, _∙_}
+use Rattle.counts.specs.Answer.{number as countNumber, value as countValue}
 use Rattle.exports.specs.Codes.{countCode}
 use borrow.Author.Needs.{needs}
 use Rattle.exports.proofs.codes.count_code.Statement.{statement}
@@ -22,11 +23,11 @@ pack-requires-2 : tie.Need-pack-requires-2
 pack-requires-2 c κs = search needs
 
 returns : tie.Need-returns
-unfolding countCode
+unfolding countCode countNumber countValue
 returns c = c .pack .ensures ∙ sym (ap countCode (c .before .before .answer .given .1))
 
 returns-2 : tie.Need-returns-2
-unfolding countCode
+unfolding countCode countNumber countValue
 returns-2 c = c .pack2 .ensures ∙ sym (ap countCode (c .before .before .answer2 .given .1))
 
 pub count-code-spec : {M : Type 1} → statement M

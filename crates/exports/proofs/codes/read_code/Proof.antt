@@ -1,6 +1,7 @@
 -- `exports::codes::read_code` meets its contract.
 -- Assumes nothing.
 use mathlib.Core.Path.{sym, ap, _∙_}
+use Rattle.reader.specs.Reading.{number as readNumber, value as readValue}
 use Rattle.exports.specs.Codes.{readCode}
 use borrow.Author.Needs.{needs}
 use Rattle.exports.proofs.codes.read_code.Statement.{statement}
@@ -22,11 +23,11 @@ pack-requires-2 : tie.Need-pack-requires-2
 pack-requires-2 c κs = search needs
 
 returns : tie.Need-returns
-unfolding readCode
+unfolding readCode readNumber readValue
 returns c = c .pack .ensures ∙ sym (ap readCode (c .before .before .answer .given .1))
 
 returns-2 : tie.Need-returns-2
-unfolding readCode
+unfolding readCode readNumber readValue
 returns-2 c = c .pack2 .ensures ∙ sym (ap readCode (c .before .before .answer2 .given .1))
 
 pub read-code-spec : {M : Type 1} → statement M

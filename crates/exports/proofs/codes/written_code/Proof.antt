@@ -1,6 +1,7 @@
 -- `exports::codes::written_code` meets its contract.
 -- Assumes nothing.
 use mathlib.Core.Path.{sym, ap, _∙_}
+use Rattle.writer.specs.Writing.{number as writtenNumber, value as writtenValue}
 use Rattle.exports.specs.Codes.{writtenCode}
 use borrow.Author.Needs.{needs}
 use Rattle.exports.proofs.codes.written_code.Statement.{statement}
@@ -22,11 +23,11 @@ pack-requires-2 : tie.Need-pack-requires-2
 pack-requires-2 c κs = search needs
 
 returns : tie.Need-returns
-unfolding writtenCode
+unfolding writtenCode writtenNumber writtenValue
 returns c = c .pack .ensures ∙ sym (ap writtenCode (c .before .before .answer .given .1))
 
 returns-2 : tie.Need-returns-2
-unfolding writtenCode
+unfolding writtenCode writtenNumber writtenValue
 returns-2 c = c .pack2 .ensures ∙ sym (ap writtenCode (c .before .before .answer2 .given .1))
 
 pub written-code-spec : {M : Type 1} → statement M

@@ -5,7 +5,7 @@ use native.Mathlib.Omega.{arith}
 use Rattle.events.specs.Columns.{columns, history}
 use Rattle.opacity.specs.Marking.{verdict}
 use Rattle.links.proofs.WriteLaws.{links-back}
-use Rattle.rules.specs.Judge.{zeros}
+use Rattle.opacity.specs.Justification.{zeros}
 use Rattle.rules.proofs.JudgeLaws.{ground-tabled}
 use Rattle.marking.specs.declared.check.Judged.the-variants.{Ruled}
 use Rattle.marking.specs.File.{Known, fileRead}

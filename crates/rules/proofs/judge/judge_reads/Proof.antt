@@ -7,7 +7,8 @@ use native.Mathlib.Numerals.{add-one}
 use lib.ListN.{drop}
 use borrow.Author.Needs.{needs}
 use Rattle.events.specs.Columns.{columns}
-use Rattle.rules.specs.Judge.{zeros, readRuleBy, readRules, firstOf, readsVerdict}
+use Rattle.opacity.specs.Justification.{zeros}
+use Rattle.rules.specs.Judge.{readRuleBy, readRules, firstOf, readsVerdict}
 use Rattle.rules.proofs.JudgeLaws.{broken-here, broken-later, rules-done}
 use Rattle.rules.proofs.judge.judge_reads.Statement.{statement}
 use Rattle.rules.proofs.judge.judge_reads.Tie as tie

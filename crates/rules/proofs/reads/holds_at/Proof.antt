@@ -4,7 +4,8 @@ use mathlib.Core.Path.{sym, ap, _∙_}
 use borrow.Author.Needs.{needs}
 use Rattle.events.specs.Columns.{columns}
 use Rattle.opacity.specs.declared.verdict.Rule.{Rule}
-use Rattle.rules.specs.Judge.{zeros, readRuleBy}
+use Rattle.opacity.specs.Justification.{zeros}
+use Rattle.rules.specs.Judge.{readRuleBy}
 use Rattle.rules.proofs.reads.holds_at.Statement.{statement}
 use Rattle.rules.proofs.reads.holds_at.Tie as tie
 
