@@ -20,7 +20,7 @@ use Rattle.events.specs.Bytes as bytes
 use Rattle.events.specs.Bytes.{u16Bytes}
 use Rattle.opacity.specs.Marking.{placeBytes, flat}
 use Rattle.tables.proofs.TreeLink.{decode-snoc, placed-snoc}
-use Rattle.finder.proofs.RunLaws.{placed-then}
+use Rattle.marking_writer.proofs.RunLaws.{placed-then}
 
 pub decode-append : (p q : List ℕ) → decode (p ++ q) ≡ decode p ++ decode q
 unfolding decode

@@ -31,42 +31,20 @@ use Rattle.tables.specs.Order.{decode, Judged}
 use Rattle.events.specs.Bytes as bytes
 use Rattle.events.specs.Bytes.{over}
 use Rattle.opacity.specs.Marking.{markingHead, placeBytes, pointBytes, flat, markingBytes}
-use Rattle.finder.specs.Points.{readBytes, pointsTo, pointsOf}
+use Rattle.marking_writer.specs.Points.{readBytes, pointsTo}
+use Rattle.marking_writer.proofs.RunLaws.{placed-then, placed-nothing}
+use Rattle.marking_writer.proofs.PointLaws.{points-are, points-le}
+use Rattle.finder.specs.Points.{pointsOf}
 use Rattle.tables.proofs.TableLaws.{tables-more}
 use Rattle.tables.proofs.Meaning.{Fine, plus, written-holds}
 use Rattle.tables.proofs.GoodHistory.{good}
-use Rattle.finder.proofs.RunLaws.{placed-then, placed-nothing}
 use Rattle.finder.proofs.MarkLaws.{places-length}
 
 -- ---- the points of the definition
 
-points-are : (store : ℕ → Bool) (gap : ℕ → ℕ) (n : ℕ)
-    → flat pointBytes (map (λ i. record { event = i; gap = gap i }) (keep store (range n))) ≡ pointsTo store gap n
-unfolding flat keep range pointsTo
-points-are store gap zero = refl
-points-are store gap (suc n) =
-    let f : ℕ → Point = λ (i : ℕ). record { event = i; gap = gap i } in
-    ap (λ (l : List ℕ). flat pointBytes (map f l)) (keep-append store (range n) (n ∷ []))
-    ∙ ap (flat pointBytes) (map-append f (keep store (range n)) (keep store (n ∷ [])))
-    ∙ flat-append pointBytes (map f (keep store (range n))) (map f (keep store (n ∷ [])))
-    ∙ ap₂ (λ (a b : List ℕ). a ++ b) (points-are store gap n) (last (store n))
-  where
-    last : (b : Bool) → flat pointBytes (map (λ i. record { event = i; gap = gap i }) (push b n [])) ≡ readBytes b n (gap n)
-    last true = refl
-    last false = refl
-
 pub marking-is : (h : List Event) (J : List Place) → markingBytes (marked h J) ≡ markingHead ++ (flat placeBytes J ++ pointsOf h J (length h))
 unfolding markingBytes marked storeReads
 marking-is h J = ap (λ (l : List ℕ). markingHead ++ (flat placeBytes J ++ l)) (points-are (isStoreRead h) (λ i. placeOf (eventAt h i .transaction) J) (length h))
-
-points-le : (store : ℕ → Bool) (gap : ℕ → ℕ) (n i : ℕ) → i ≤ n → length (pointsTo store gap i) ≤ length (pointsTo store gap n)
-unfolding pointsTo
-points-le store gap zero i l = let e : i ≡ 0 = omega arith in rw e (le-refl 0)
-points-le store gap (suc n) i l =
-    ⊎-elim
-    (λ e. rw e (le-refl (length (pointsTo store gap (suc n)))))
-    (λ m. omega (arith, points-le store gap n i (le-of-suc-le-suc m), length-append (pointsTo store gap n) (readBytes (store n) n (gap n))))
-    (eq-or-lt-of-le l)
 
 -- ---- the points as they are written
 

@@ -8,7 +8,6 @@ ghost use Rattle.opacity.specs.Counts.{HoldsReadable};
 ghost use Rattle.tables.specs.Order.{startOf, Judged};
 ghost use Rattle.finder.specs.Answer.{markingSize, lowestMarking, gives, decided, prefixRefusal, foundAnswer};
 
-pub mod records;
 pub mod writer;
 
 use events::columns::Checked;

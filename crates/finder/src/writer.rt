@@ -10,9 +10,11 @@ ghost use Rattle.events.specs.Columns.{columns, history};
 ghost use Rattle.opacity.specs.Counts.{ofKind};
 ghost use Rattle.opacity.specs.Marking.{flat, placeBytes, placeOf, marked, markingBytes};
 ghost use Rattle.tables.specs.Order.{decode, Judged};
-ghost use Rattle.finder.specs.Points.{readBytes, pointsOf};
-use crate::records;
+ghost use Rattle.finder.specs.Points.{pointsOf};
 use events::record::Record;
+use marking_writer::put_head;
+use marking_writer::put_place;
+use marking_writer::put_read;
 
 fn wide(x: u8) -> u16
     ensures { λ r. ⌜ r ≡ x ⌝ }
@@ -29,7 +31,7 @@ fn put_places(out: &mut [u8], places: [u8; 10], count: usize)
     let mut i: usize = 0;
     while i < count {
         let code = wide(places[i]);
-        records::put_place(out, 6 + 8 * i, code / 2, code % 2);
+        put_place(out, 6 + 8 * i, code / 2, code % 2);
         i += 1;
     }
 }
@@ -61,19 +63,6 @@ fn reads_store(written: &[u64; 320], kind: u16, t: u16, r: u16) -> bool
     }
     let at = tables::slot(t, r);
     written[at] == 0
-}
-
-// The point of an event, if it is a store read; and where the next one goes.
-fn put_read(out: &mut [u8], at: usize, store: bool, event: u32, gap: u16) -> usize
-    requires { ⌜ at + length (readBytes store event gap) ≤ length (now out) ⌝ }
-    ensures { λ _. ⌜ now (out .exit) ≡ placed (now (out .entry)) at (readBytes store event gap) ⌝ }
-    ensures { λ r. ⌜ r ≡ at + length (readBytes store event gap) ⌝ }
-{
-    if store {
-        records::put_point(out, at, event, gap);
-        return at + 10;
-    }
-    at
 }
 
 // The points of the store reads among the first n events, from byte `from` on; and where they end.
@@ -129,7 +118,7 @@ pub fn write_marking(
     ensures { λ _. ⌜ now (out .exit) ≡ over (markingBytes (marked (history (columns (now (kinds .entry)) (now (transactions .entry)) (now (registers .entry)) (now (values .entry))) n) (decode (take count places)))) (now (out .entry)) ⌝ }
     ensures { λ r. ⌜ r ≡ length (markingBytes (marked (history (columns (now (kinds .entry)) (now (transactions .entry)) (now (registers .entry)) (now (values .entry))) n) (decode (take count places)))) ⌝ }
 {
-    records::put_head(out);
+    put_head(out);
     put_places(out, places, count);
     put_points(
         kinds,

@@ -9,7 +9,7 @@ use denote.Ref.{now}
 use Rattle.tables.specs.Order.{decode}
 use Rattle.events.specs.Bytes as bytes
 use Rattle.opacity.specs.Marking.{flat, placeBytes}
-use Rattle.finder.proofs.RunLaws.{placed-nothing}
+use Rattle.marking_writer.proofs.RunLaws.{placed-nothing}
 use Rattle.finder.proofs.MarkLaws.{places-more}
 use Rattle.finder.proofs.writer.put_places.Statement.{statement}
 use Rattle.finder.proofs.writer.put_places.Tie as tie

@@ -1,10 +1,12 @@
-// The records of a marking file, put into an output.
+// The records of a marking file, put into an output that has room for them: what the finder and the
+// straightening write with. Proved of each: the output afterwards, all of it, as one equation.
 ghost use mathlib.Core.Path.{_≡_};
 ghost use mathlib.Core.List.{_++_};
 ghost use Prim.Native.Nat.{_+_, _≤_};
 ghost use lib.ListN.{length};
 ghost use Rattle.events.specs.Bytes.{u16Bytes, u32Bytes, placed};
 ghost use Rattle.opacity.specs.Marking.{markingHead};
+ghost use Rattle.marking_writer.specs.Points.{readBytes};
 use events::fields;
 use events::record::Record;
 
@@ -37,4 +39,17 @@ pub fn put_point(out: &mut [u8], at: usize, event: u32, gap: u16)
     fields::put_u16(out, at + 2, Record::POINT);
     fields::put_u32(out, at + 4, event);
     fields::put_u16(out, at + 8, gap);
+}
+
+// The point of an event, if it is a store read; and where the next one goes.
+pub fn put_read(out: &mut [u8], at: usize, store: bool, event: u32, gap: u16) -> usize
+    requires { ⌜ at + length (readBytes store event gap) ≤ length (now out) ⌝ }
+    ensures { λ _. ⌜ now (out .exit) ≡ placed (now (out .entry)) at (readBytes store event gap) ⌝ }
+    ensures { λ r. ⌜ r ≡ at + length (readBytes store event gap) ⌝ }
+{
+    if store {
+        put_point(out, at, event, gap);
+        return at + 10;
+    }
+    at
 }

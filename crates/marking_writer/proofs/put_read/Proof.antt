@@ -1,13 +1,13 @@
--- `finder::writer::put_read` meets its contract.
+-- `marking_writer::put_read` meets its contract.
 -- Assumes nothing.
 use mathlib.Core.Path.{refl}
 use Prim.Native.Nat.{_-_}
 use native.Mathlib.Omega.{arith}
 use denote.Ref.{now}
-use Rattle.finder.proofs.RunLaws.{placed-nothing}
+use Rattle.marking_writer.proofs.RunLaws.{placed-nothing}
 use borrow.Author.Needs.{needs}
-use Rattle.finder.proofs.writer.put_read.Statement.{statement}
-use Rattle.finder.proofs.writer.put_read.Tie as tie
+use Rattle.marking_writer.proofs.put_read.Statement.{statement}
+use Rattle.marking_writer.proofs.put_read.Tie as tie
 
 put-point-requires : tie.Need-put-point-requires
 put-point-requires c κs = rw (c .before .if1 .taken) at (c .before .before .before .pre)

@@ -1,4 +1,4 @@
--- `finder::records::put_place` meets its contract.
+-- `marking_writer::put_place` meets its contract.
 -- Assumes nothing.
 use mathlib.Core.Path.{refl}
 use mathlib.Core.List.{_++_}
@@ -6,10 +6,10 @@ use Prim.Native.Nat.{_+_, _-_}
 use native.Mathlib.Omega.{arith}
 use denote.Ref.{now}
 use Rattle.events.specs.Bytes.{u16Bytes}
-use Rattle.finder.proofs.RunLaws.{placed-then}
+use Rattle.marking_writer.proofs.RunLaws.{placed-then}
 use borrow.Author.Needs.{needs}
-use Rattle.finder.proofs.records.put_place.Statement.{statement}
-use Rattle.finder.proofs.records.put_place.Tie as tie
+use Rattle.marking_writer.proofs.put_place.Statement.{statement}
+use Rattle.marking_writer.proofs.put_place.Tie as tie
 
 put-u16-requires : tie.Need-put-u16-requires
 put-u16-requires c κs = search needs

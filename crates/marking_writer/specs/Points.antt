@@ -1,0 +1,15 @@
+-- The read points of a marking, as a writer goes through the events.
+-- Assumes nothing.
+use Prim.Native.Nat.{ℕ, zero, suc}
+use mathlib.Core.Bool.{Bool, cond}
+use mathlib.Core.List.{List, [], _++_}
+use Rattle.opacity.specs.Marking.{pointBytes}
+
+-- the point of event i, if that is a store read
+abbrev pub readBytes : Bool → ℕ → ℕ → List ℕ
+readBytes store i g = cond store (pointBytes (record { event = i; gap = g })) []
+
+-- the points of the events below n
+unfoldable pub pointsTo : (ℕ → Bool) → (ℕ → ℕ) → ℕ → List ℕ
+pointsTo store gap zero = []
+pointsTo store gap (suc i) = pointsTo store gap i ++ readBytes (store i) i (gap i)
