@@ -1,39 +1,36 @@
 -- The points of a marking, one event more at a time.
 -- Assumes nothing.
 use mathlib.Core.Path.{_≡_, refl, sym, ap, ap₂, _∙_}
-use mathlib.Core.Logic.{⊎-elim}
-use Prim.Native.Nat.{ℕ, zero, suc, _+_, _*_, _≤_, _<_}
-use native.Mathlib.Nat.{le-refl, le-of-lt, le-of-suc-le-suc, eq-or-lt-of-le}
-use native.Mathlib.Numerals.{add-one}
+use Prim.Native.Nat.{ℕ, _+_, _*_, _≤_, _<_}
+use native.Mathlib.Nat.{le-of-lt}
 use native.Mathlib.Omega.{arith}
-use mathlib.Core.Bool.{Bool, true, false}
-use mathlib.Core.List.{List, [], _∷_, _++_, map, map-append}
+use mathlib.Core.Bool.{Bool, true}
+use mathlib.Core.List.{List, _++_}
 use mathlib.Core.Option.{Option, none, some}
-use lib.ListN.{length, take, drop, getD, length-append}
+use lib.ListN.{length, take, getD, length-append}
 use lib.Dec.{eqb}
 use Rattle.events.specs.Questions.{readable}
 use Rattle.events.proofs.ReadableLaws.{readable-most}
 use borrow.Author.Tests.{ne-eqb}
-use Rattle.events.specs.Lists.{_and_, isNone, push, keep, range}
+use Rattle.events.specs.Lists.{_and_, isNone, range}
 use Rattle.events.specs.declared.event.Event.{Event}
 use Rattle.events.specs.Events.{eventAt, isRead}
 use Rattle.opacity.specs.Transactions.{lastWrite, isStoreRead, storeReads}
 use Rattle.events.specs.Columns.{Columns, entry, history}
 use Rattle.opacity.specs.Counts.{ofKind}
 use Rattle.opacity.specs.Justification.{Place}
-use Rattle.opacity.specs.Marking.{Point, placeOf, marked}
-use Rattle.events.proofs.ListLaws.{keep-append, keep-length, range-length}
+use Rattle.opacity.specs.Marking.{placeOf, marked}
+use Rattle.events.proofs.ListLaws.{keep-length, range-length}
 use Rattle.events.proofs.ColumnLaws.{history-length, history-at, history-take}
-use Rattle.opacity.proofs.MarkingBytes.{flat-append}
 use Rattle.opacity.proofs.Prefixes.{store-read-at}
 use Rattle.tables.specs.Tables.{Tables, next, empty, goThrough, tablesOf}
 use Rattle.tables.specs.Order.{decode, Judged}
 use Rattle.events.specs.Bytes as bytes
 use Rattle.events.specs.Bytes.{over}
-use Rattle.opacity.specs.Marking.{markingHead, placeBytes, pointBytes, flat, markingBytes}
-use Rattle.marking_writer.specs.Points.{readBytes, pointsTo}
-use Rattle.marking_writer.proofs.RunLaws.{placed-then, placed-nothing}
-use Rattle.marking_writer.proofs.PointLaws.{points-are, points-le}
+use Rattle.opacity.specs.Marking.{markingHead, placeBytes, flat, markingBytes}
+use Rattle.marking_writer.specs.Points.{readBytes}
+use Rattle.marking_writer.proofs.RunLaws.{Put, put-none, put-room, put-more}
+use Rattle.marking_writer.proofs.PointLaws.{points-are, points-none, points-more, marking-put}
 use Rattle.finder.specs.Points.{pointsOf}
 use Rattle.tables.proofs.TableLaws.{tables-more}
 use Rattle.tables.proofs.Meaning.{Fine, plus, written-holds}
@@ -75,55 +72,42 @@ store-at c n j i l s store tables reads =
 pub record Pointing (c : Columns) (n : ℕ) (J : List Place) (d : List ℕ) (from i : ℕ) (out : List ℕ) (s : Tables) (to : ℕ) : Type 0 where
   pub passed : i ≤ n
   pub tables : s ≡ tablesOf (history c i)
-  pub long : length out ≡ length d
-  pub ends : to ≡ from + length (pointsOf (history c n) J i)
-  pub bytes : out ≡ bytes.placed d from (pointsOf (history c n) J i)
+  pub put : Put (pointsOf (history c n) J) d from i out to
 
 module _ (c : Columns) (n : ℕ) (J : List Place) (d : List ℕ) (from : ℕ) where
+  abbrev store : ℕ → Bool
+  store = isStoreRead (history c n)
+
+  abbrev gap : ℕ → ℕ
+  gap i = placeOf (eventAt (history c n) i .transaction) J
+
+  abbrev point : ℕ → List ℕ
+  point i = readBytes (store i) i (gap i)
+
   pub pointing-none : (s : Tables) → s ≡ empty → Pointing c n J d from 0 d s from
-  unfolding pointsTo history tablesOf goThrough
-  pointing-none s e = record { passed = omega arith; tables = e; long = refl; ends = omega arith; bytes = placed-nothing d from }
+  unfolding history tablesOf goThrough
+  pointing-none s e = record { passed = omega arith; tables = e; put = put-none (pointsOf (history c n) J) point (points-none store gap) (points-more store gap) d from }
 
   module _ (j : Judged c n) (room : from + length (pointsOf (history c n) J n) ≤ length d) (i : ℕ) (l : i < n) (out : List ℕ) (s : Tables) (to : ℕ)
-      (p : Pointing c n J d from i out s to) (store : Bool) (gap : ℕ)
-      (reads : store ≡ (isRead (ofKind (entry c i .kind)) and eqb (getD (s .written) (entry c i .transaction * 32 + entry c i .register) 0) 0))
-      (place : gap ≡ placeOf (entry c i .transaction) J) where
-    store-is : store ≡ isStoreRead (history c n) i
-    store-is = store-at c n j i l s store (p .tables) reads
+      (p : Pointing c n J d from i out s to) (reads : Bool) (at : ℕ)
+      (reads-are : reads ≡ (isRead (ofKind (entry c i .kind)) and eqb (getD (s .written) (entry c i .transaction * 32 + entry c i .register) 0) 0))
+      (place : at ≡ placeOf (entry c i .transaction) J) where
+    point-is : readBytes reads i at ≡ point i
+    point-is =
+        ap₂ (λ (b : Bool) (g : ℕ). readBytes b i g)
+        (store-at c n j i l s reads (p .tables) reads-are)
+        (place ∙ ap (λ (e : Event). placeOf (e .transaction) J) (sym (history-at c n i l)))
 
-    gap-is : gap ≡ placeOf (eventAt (history c n) i .transaction) J
-    gap-is = place ∙ ap (λ (e : Event). placeOf (e .transaction) J) (sym (history-at c n i l))
+    pub pointing-room : to + length (readBytes reads i at) ≤ length out
+    pointing-room = rw point-is (put-room (pointsOf (history c n) J) point (points-none store gap) (points-more store gap) d from n room i l out to (p .put))
 
-    bytes-are : readBytes store i gap ≡ readBytes (isStoreRead (history c n) i) i (placeOf (eventAt (history c n) i .transaction) J)
-    bytes-are = ap₂ (λ (b : Bool) (g : ℕ). readBytes b i g) store-is gap-is
-
-    more : pointsOf (history c n) J (i + 1) ≡ pointsOf (history c n) J i ++ readBytes store i gap
-    unfolding pointsTo
-    more = rw (add-one, bytes-are)
-
-    fits : from + length (pointsOf (history c n) J i) + length (readBytes store i gap) ≤ length d
-    fits =
-        let a : length (pointsOf (history c n) J (i + 1)) ≤ length (pointsOf (history c n) J n) =
-        points-le (isStoreRead (history c n)) (λ i. placeOf (eventAt (history c n) i .transaction) J) n (i + 1) (omega arith) in
-        let b : length (pointsOf (history c n) J (i + 1)) ≡ length (pointsOf (history c n) J i) + length (readBytes store i gap) =
-        ap length more ∙ length-append (pointsOf (history c n) J i) (readBytes store i gap) in
-        omega arith
-
-    pub pointing-room : to + length (readBytes store i gap) ≤ length out
-    pointing-room = rw (p .long, p .ends) fits
-
-    pub pointing-more : (out′ : List ℕ) (s′ : Tables) (to′ : ℕ) → length out′ ≡ length out → out′ ≡ bytes.placed out to (readBytes store i gap)
-        → to′ ≡ to + length (readBytes store i gap) → s′ ≡ next s (entry c i) → Pointing c n J d from (i + 1) out′ s′ to′
+    pub pointing-more : (out′ : List ℕ) (s′ : Tables) (to′ : ℕ) → length out′ ≡ length out → out′ ≡ bytes.placed out to (readBytes reads i at)
+        → to′ ≡ to + length (readBytes reads i at) → s′ ≡ next s (entry c i) → Pointing c n J d from (i + 1) out′ s′ to′
     pointing-more out′ s′ to′ k e f g =
-        let b : length (pointsOf (history c n) J (i + 1)) ≡ length (pointsOf (history c n) J i) + length (readBytes store i gap) =
-        ap length more ∙ length-append (pointsOf (history c n) J i) (readBytes store i gap) in
-        let a = p .ends in
         record {
           passed = omega arith;
           tables = tables-more c i s s′ (p .tables) g;
-          long = k ∙ p .long;
-          ends = omega arith;
-          bytes = rw more (placed-then d out out′ from (pointsOf (history c n) J i) (readBytes store i gap) to (p .bytes) e (sym a) (let q = fits in omega arith));
+          put = put-more (pointsOf (history c n) J) point (points-none store gap) (points-more store gap) d from n room i l out to (p .put) out′ to′ k (rw point-is at e) (rw point-is at f);
         }
 
 -- ---- the marking
@@ -150,16 +134,8 @@ module _ (c : Columns) (n : ℕ) (places : List ℕ) (size : length places ≡ 1
       → o₃ ≡ bytes.placed o₂ (6 + 8 * count) (pointsOf (history c n) (decode (take count places)) n)
       → o₃ ≡ over (markingBytes (marked (history c n) (decode (take count places)))) d
   marking-written d o₁ o₂ o₃ room e₁ e₂ e₃ =
-      let F = flat placeBytes (decode (take count places)) in
-      let k = marking-length in
       let m = places-length places size count few in
-      let a : o₂ ≡ bytes.placed d 0 (markingHead ++ F) = placed-then d o₁ o₂ 0 markingHead F 6 e₁ e₂ refl (omega arith) in
-      let b : o₃ ≡ bytes.placed d 0 ((markingHead ++ F) ++ pointsOf (history c n) (decode (take count places)) n) =
-      placed-then d o₂ o₃ 0 (markingHead ++ F) (pointsOf (history c n) (decode (take count places)) n) (6 + 8 * count) a e₃ (omega arith) (omega arith) in
-      b ∙ ap (λ (l : List ℕ). bytes.placed d 0 l) (sym marking-here) ∙ starts d (markingBytes (marked (history c n) (decode (take count places))))
-    where
-      starts : (d xs : List ℕ) → bytes.placed d 0 xs ≡ over xs d
-      starts d xs = let z : 0 + length xs ≡ length xs = omega arith in ap (λ (k : ℕ). xs ++ drop k d) z
+      rw marking-here (marking-put (flat placeBytes (decode (take count places))) (pointsOf (history c n) (decode (take count places)) n) d o₁ o₂ o₃ (6 + 8 * count) (omega arith) (rw marking-here at room) e₁ e₂ e₃)
 
 -- a readable history has at most 2,048 store reads
 pub reads-low : (h : List Event) → readable h ≡ true → length (storeReads h) ≤ 2048

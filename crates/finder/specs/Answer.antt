@@ -1,8 +1,6 @@
 -- The finder's answer ("Finder"): the marking of the lowest justification of a prefix, or none, or the first question that says no.
 -- Assumes nothing.
-use mathlib.Core.Path.{_≡_}
-use Prim.Native.Nat.{ℕ, _+_, _*_, _≤_}
-use mathlib.Core.Bool.{true}
+use Prim.Native.Nat.{ℕ, _+_, _*_}
 use mathlib.Core.List.{List, [], _∷_}
 use mathlib.Core.Option.{Option, none, some}
 use lib.Dec.{leb}
@@ -12,7 +10,7 @@ use Rattle.events.specs.declared.columns.Checked.{Checked}
 use Rattle.events.specs.Bytes.{over}
 use Rattle.events.specs.Events.{begins}
 use Rattle.events.specs.Columns.{Columns, history, hold}
-use Rattle.events.specs.Questions.{ask, readable, eventsAnswer}
+use Rattle.events.specs.Questions.{ask, eventsAnswer}
 use Rattle.opacity.specs.Transactions.{storeReads}
 use Rattle.opacity.specs.Justification.{Place, zeros}
 use Rattle.opacity.specs.Lowest.{lowestOf}

@@ -1,18 +1,18 @@
 -- The points of a marking, one event more at a time.
 -- Assumes nothing.
 use mathlib.Core.Path.{_≡_, refl, ap, ap₂, _∙_}
-use mathlib.Core.Logic.{⊎-elim}
 use Prim.Native.Nat.{ℕ, zero, suc, _+_, _≤_}
-use native.Mathlib.Nat.{le-refl, le-of-suc-le-suc, eq-or-lt-of-le}
 use native.Mathlib.Omega.{arith}
 use mathlib.Core.Bool.{Bool, true, false}
 use mathlib.Core.List.{List, [], _∷_, _++_, map, map-append}
 use lib.ListN.{length, length-append}
+use Rattle.events.specs.Bytes.{placed, over}
 use Rattle.events.specs.Lists.{push, keep, range}
 use Rattle.events.proofs.ListLaws.{keep-append}
-use Rattle.opacity.specs.Marking.{Point, pointBytes, flat}
+use Rattle.opacity.specs.Marking.{Point, markingHead, pointBytes, flat}
 use Rattle.opacity.proofs.MarkingBytes.{flat-append}
 use Rattle.marking_writer.specs.Points.{readBytes, pointsTo}
+use Rattle.marking_writer.proofs.RunLaws.{placed-then, placed-first}
 
 -- they are the points of the definition
 pub points-are : (store : ℕ → Bool) (gap : ℕ → ℕ) (n : ℕ)
@@ -30,12 +30,20 @@ points-are store gap (suc n) =
     last true = refl
     last false = refl
 
--- fewer events have no more
-pub points-le : (store : ℕ → Bool) (gap : ℕ → ℕ) (n i : ℕ) → i ≤ n → length (pointsTo store gap i) ≤ length (pointsTo store gap n)
-unfolding pointsTo
-points-le store gap zero i l = let e : i ≡ 0 = omega arith in rw e (le-refl 0)
-points-le store gap (suc n) i l =
-    ⊎-elim
-    (λ e. rw e (le-refl (length (pointsTo store gap (suc n)))))
-    (λ m. omega (arith, points-le store gap n i (le-of-suc-le-suc m), length-append (pointsTo store gap n) (readBytes (store n) n (gap n))))
-    (eq-or-lt-of-le l)
+-- each event's point is put behind those before it
+module _ (store : ℕ → Bool) (gap : ℕ → ℕ) where
+  pub points-none : pointsTo store gap 0 ≡ []
+  unfolding pointsTo
+  points-none = refl
+
+  pub points-more : (i : ℕ) → pointsTo store gap (suc i) ≡ pointsTo store gap i ++ readBytes (store i) i (gap i)
+  unfolding pointsTo
+  points-more i = refl
+
+-- head, places and points, one run after the other, are the file from the output's first byte
+pub marking-put : (F P d o₁ o₂ o₃ : List ℕ) (k : ℕ) → 6 + length F ≡ k → length (markingHead ++ (F ++ P)) ≤ length d
+    → o₁ ≡ placed d 0 markingHead → o₂ ≡ placed o₁ 6 F → o₃ ≡ placed o₂ k P → o₃ ≡ over (markingHead ++ (F ++ P)) d
+marking-put F P d o₁ o₂ o₃ k h room e₁ e₂ e₃ =
+    let n = length-append F P in
+    let a : o₂ ≡ placed d 0 (markingHead ++ F) = placed-then d o₁ o₂ 0 markingHead F 6 e₁ e₂ refl (omega arith) in
+    placed-then d o₂ o₃ 0 (markingHead ++ F) P k a e₃ (omega arith) (omega arith) ∙ placed-first (markingHead ++ (F ++ P)) d

@@ -166,7 +166,7 @@ fn value_at_gap(
 }
 
 // Does a rule of reads hold at event i?
-fn holds_at(
+pub fn holds_at(
     rule: Rule,
     kinds: &[u16],
     transactions: &[u16],

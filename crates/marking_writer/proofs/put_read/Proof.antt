@@ -1,7 +1,6 @@
 -- `marking_writer::put_read` meets its contract.
 -- Assumes nothing.
 use mathlib.Core.Path.{refl}
-use Prim.Native.Nat.{_-_}
 use native.Mathlib.Omega.{arith}
 use denote.Ref.{now}
 use Rattle.marking_writer.proofs.RunLaws.{placed-nothing}

@@ -118,7 +118,7 @@ loop-again c =
     pointing-more cs (start .args .n) J (now (start .args .out)) (start .args .from) (start .pre .0) (start .pre .1 .1) (at .i) (omega arith) (at .out) s (at .at) (at .inv) (c .before .before .before .before .before .before .before .before .before .reads-store .result) (c .before .before .before .before .before .before .before .before .place-of .result) (c .before .before .before .before .before .before .before .before .before .reads-store .ensures) (c .before .before .before .before .before .before .before .before .place-of .ensures .0) (c .before .before .before .before .before .before .put-read .last .0) _ (c .before .before .before .before .before .before .put-read .result) (c .before .before .before .before .before .before .put-read .kept .0) (c .before .before .before .before .before .before .put-read .ensures .0) (c .before .before .before .before .before .before .put-read .ensures .1) (c .step .ensures)
 
 same-length : tie.Need-same-length Inv-loop μ-loop
-same-length c = c .before .loop .inv .long
+same-length c = c .before .loop .inv .put .long
 
 returns : tie.Need-returns Inv-loop μ-loop
 returns c =
@@ -127,7 +127,7 @@ returns c =
     let cs = columns (now (start .args .kinds)) (now (start .args .transactions)) (now (start .args .registers)) (now (start .args .values)) in
     let q = at .inv .passed in
     let e : at .i ≡ start .args .n = omega arith in
-    (rw e at (at .inv .bytes), rw e at (at .inv .ends))
+    (rw e at (at .inv .put .holds), rw e at (at .inv .put .ends))
 
 pub put-points-spec : {M : Type 1} → statement M
 put-points-spec =

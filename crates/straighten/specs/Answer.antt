@@ -1,0 +1,76 @@
+-- The answer of the straightening: the questions of the checker, then 15, then the verdict on the straightened marking.
+-- Assumes nothing.
+use Prim.Native.Nat.{ℕ}
+use mathlib.Core.Bool.{Bool, cond}
+use mathlib.Core.List.{List, [], _∷_}
+use lib.Dec.{leb}
+use lib.ListN.{length}
+use Rattle.events.specs.declared.event.Event.{Event}
+use Rattle.events.specs.declared.columns.Checked.{Checked}
+use Rattle.events.specs.declared.columns.Checked.the-variants.{Readable, Refused as Refuses}
+use Rattle.events.specs.Lists.{_and_}
+use Rattle.events.specs.Bytes.{over}
+use Rattle.events.specs.Columns.{Columns, history}
+use Rattle.events.specs.Questions.{columnsAnswer}
+use Rattle.opacity.specs.declared.verdict.Verdict.{Verdict}
+use Rattle.opacity.specs.declared.verdict.Verdict.the-variants.{Accepted, Broken as Breaks}
+use Rattle.opacity.specs.Transactions.{storeReads}
+use Rattle.opacity.specs.Justification.{zeros}
+use Rattle.opacity.specs.Marking.{Marking, markingBytes, verdict, ruleNumber}
+use Rattle.marking.specs.File.{known, FileRead, content, refused, fileRead}
+use Rattle.straighten.specs.declared.Straightening.{Straightening}
+use Rattle.straighten.specs.declared.Straightening.the-variants.{Straightened, Broken, Refused, MarkingRefused}
+use Rattle.straighten.specs.Straight.{straightened, movedEvents}
+
+-- What a call gives: its result, and the output and the list afterwards.
+pub record Given : Type 0 where
+  pub result : Straightening
+  pub output : List ℕ
+  pub list : List ℕ
+
+abbrev pub gives : Straightening → List ℕ → List ℕ → Given
+gives r o l = record { result = r; output = o; list = l }
+
+-- Where no rule is broken, the marking is written from the output's first byte and the moved events from the list's first entry, and nothing
+-- behind them changes; a broken rule leaves both alone.
+abbrev pub settled : Marking → List ℕ → List ℕ → List ℕ → Verdict → Given
+settled m moved output list Accepted = gives (Straightened (length (markingBytes m)) (length moved)) (over (markingBytes m) output) (over moved list)
+settled m moved output list (Breaks r e t) = gives (Broken r e t) output list
+
+-- the verdict on the straightened marking
+unfoldable pub judged : (ℕ → ℕ) → List Event → Marking → List ℕ → List ℕ → Given
+judged start h m output list = settled (straightened start h m) (movedEvents start h m) output list (verdict start h (straightened start h m))
+
+-- 15: the output is as long as the marking, and the list has an entry for every store read
+unfoldable pub roomy : List Event → List ℕ → List ℕ → List ℕ → Bool
+roomy h file output list = leb (length file) (length output) and leb (length (storeReads h)) (length list)
+
+abbrev pub afterFile : (ℕ → ℕ) → List Event → ℕ → List ℕ → List ℕ → List ℕ → FileRead → Given
+afterFile start h n file output list (refused q byte) = gives (MarkingRefused q byte) output list
+afterFile start h n file output list (content m) = cond (roomy h file output list) (judged start h m output list) (gives (Refused 15 n) output list)
+
+abbrev pub afterColumns : (ℕ → ℕ) → List Event → ℕ → List ℕ → List ℕ → List ℕ → Checked → Given
+afterColumns start h n file output list (Refuses q event) = gives (Refused q event) output list
+afterColumns start h n file output list Readable = afterFile start h n file output list (fileRead (known h) file)
+
+-- 17 and each event's own questions, then the marking's, then 15 with the count, then the rules
+unfoldable pub straightenedFrom : (ℕ → ℕ) → Columns → ℕ → List ℕ → List ℕ → List ℕ → Given
+straightenedFrom start c n file output list = afterColumns start (history c n) n file output list (columnsAnswer c n)
+
+-- with start value 0 everywhere
+unfoldable pub straightenedAnswer : Columns → ℕ → List ℕ → List ℕ → List ℕ → Given
+straightenedAnswer c n file output list = straightenedFrom zeros c n file output list
+
+-- the paper's number of an answer: the question that says no, or 0; its values: the length of the marking and how many points were moved, or
+-- the broken rule (1 for A to 5 for E) with its event and transaction, or the event or byte of the question
+unfoldable pub number : Straightening → ℕ
+number (Straightened n k) = 0
+number (Broken r e t) = 0
+number (Refused q e) = q
+number (MarkingRefused q byte) = q
+
+unfoldable pub values : Straightening → List ℕ
+values (Straightened n k) = n ∷ k ∷ []
+values (Broken r e t) = ruleNumber r ∷ e ∷ t ∷ []
+values (Refused q e) = e ∷ []
+values (MarkingRefused q byte) = byte ∷ []

@@ -1,0 +1,203 @@
+// Straightened read points: outcomes and order of a marking are kept, and so is every point that
+// breaks neither rule D nor rule E; each other one is moved to its reader's place. Proved: result,
+// output and list as one equation, refusals and broken rules among them (specs/Answer); that it
+// succeeds exactly if outcomes and order justify the history, and that the checker accepts what it
+// writes (proofs/Theorems). Time is that of two checks.
+ghost use mathlib.Core.Path.{_≡_};
+ghost use lib.ListN.{length};
+ghost use Rattle.events.specs.Columns.{columns, history};
+ghost use Rattle.events.specs.Events.{begins};
+ghost use Rattle.opacity.specs.Counts.{HoldsReadable};
+ghost use Rattle.opacity.specs.Justification.{zeros};
+ghost use Rattle.rules.specs.Judge.{Given as Judgeable, content};
+ghost use Rattle.marking.specs.File.{known, fileRead};
+ghost use Rattle.straighten.specs.Answer.{gives, judged, afterFile, straightenedAnswer};
+ghost use Rattle.straighten.specs.Tables.{Room};
+
+pub mod moves;
+pub mod write;
+
+use crate::moves::straight_of;
+use crate::write::list_moved;
+use crate::write::write_marking;
+use events::columns::Checked;
+use events::columns::check_columns;
+use links::writes::links;
+use links::writes::store_reads;
+use marking::read::read_marking;
+use opacity::counts;
+use opacity::verdict::Rule;
+use opacity::verdict::Verdict;
+use rules::judge::judge;
+
+// The answer: the length of the marking written and the number of events moved; the rule that is
+// broken wherever the points are; the question that refuses the history or a lent buffer, with its
+// event; or the question that refuses the marking, with its byte.
+pub enum Straightening {
+    Straightened {
+        length: usize,
+        moved: usize,
+    },
+    Broken {
+        rule: Rule,
+        event: usize,
+        transaction: usize,
+    },
+    Refused {
+        question: u8,
+        event: usize,
+    },
+    MarkingRefused {
+        question: u8,
+        byte: usize,
+    },
+}
+
+// Moves the points of a readable marking and judges what comes out. Only where no rule is broken are
+// output and list written, for which there is room.
+fn settle(
+    kinds: &[u16],
+    transactions: &[u16],
+    registers: &[u16],
+    values: &[u32],
+    count: usize,
+    begun: usize,
+    link: &[u16; 2048],
+    reads: &[bool; 2048],
+    order: &[u16; 64],
+    outcomes: &[u8; 64],
+    gaps: &[u16; 2048],
+    output: &mut [u8],
+    moved: &mut [u32],
+) -> Straightening
+    requires { ⌜ Judgeable (columns (now kinds) (now transactions) (now registers) (now values)) count (now link) (now reads) (now order) (now outcomes) (now gaps) ⌝ }
+    requires { ⌜ begun ≡ begins (history (columns (now kinds) (now transactions) (now registers) (now values)) count) ⌝ }
+    requires { ⌜ Room (history (columns (now kinds) (now transactions) (now registers) (now values)) count) (length (now output)) (length (now moved)) ⌝ }
+    ensures { λ r. ⌜ gives r (now (output .exit)) (now (moved .exit)) ≡ judged zeros (history (columns (now (kinds .entry)) (now (transactions .entry)) (now (registers .entry)) (now (values .entry))) count) (content (history (columns (now (kinds .entry)) (now (transactions .entry)) (now (registers .entry)) (now (values .entry))) count) (now (order .entry)) (now (outcomes .entry)) (now (gaps .entry))) (now (output .entry)) (now (moved .entry)) ⌝ }
+{
+    let straight = straight_of(
+        kinds,
+        transactions,
+        registers,
+        values,
+        count,
+        begun,
+        link,
+        reads,
+        order,
+        outcomes,
+        gaps,
+    );
+    let moves = straight.moves;
+    let points = straight.gaps;
+    let verdict = judge(
+        kinds,
+        transactions,
+        registers,
+        values,
+        count,
+        link,
+        reads,
+        order,
+        outcomes,
+        &points,
+    );
+    if let Verdict::Broken {
+        rule,
+        event,
+        transaction,
+    } = verdict {
+        return Straightening::Broken {
+            rule,
+            event,
+            transaction,
+        };
+    }
+    let length = write_marking(order, outcomes, begun, reads, &points, count, output);
+    let number = list_moved(&moves, count, moved);
+    Straightening::Straightened {
+        length,
+        moved: number,
+    }
+}
+
+// The answer for a readable history: the marking's questions, 15, and then the rules.
+fn straighten_file(
+    kinds: &[u16],
+    transactions: &[u16],
+    registers: &[u16],
+    values: &[u32],
+    count: usize,
+    file: &[u8],
+    output: &mut [u8],
+    moved: &mut [u32],
+) -> Straightening
+    requires { ⌜ HoldsReadable (columns (now kinds) (now transactions) (now registers) (now values)) count ⌝ }
+    ensures { λ r. ⌜ gives r (now (output .exit)) (now (moved .exit)) ≡ afterFile zeros (history (columns (now (kinds .entry)) (now (transactions .entry)) (now (registers .entry)) (now (values .entry))) count) count (now (file .entry)) (now (output .entry)) (now (moved .entry)) (fileRead (known (history (columns (now (kinds .entry)) (now (transactions .entry)) (now (registers .entry)) (now (values .entry))) count)) (now (file .entry))) ⌝ }
+{
+    let begun = counts::transactions_begun(kinds, transactions, registers, values, count);
+    let link = links(kinds, transactions, count);
+    let reads = store_reads(kinds, registers, values, &link, count);
+    let reading = read_marking(&reads, count, begun, file);
+    if reading.question != 0 {
+        return Straightening::MarkingRefused {
+            question: reading.question,
+            byte: reading.byte,
+        };
+    }
+    let points = counts::store_reads(kinds, transactions, registers, values, count);
+    if output.len() < file.len() || moved.len() < points {
+        return Straightening::Refused {
+            question: 15,
+            event: count,
+        };
+    }
+    let order = reading.order;
+    let outcomes = reading.outcomes;
+    let gaps = reading.gaps;
+    settle(
+        kinds,
+        transactions,
+        registers,
+        values,
+        count,
+        begun,
+        &link,
+        &reads,
+        &order,
+        &outcomes,
+        &gaps,
+        output,
+        moved,
+    )
+}
+
+// Straightens the read points of a marking file for the history in the first `count` entries of the
+// columns: the marking goes into the output, the moved events, rising, into the list.
+pub fn straighten(
+    kinds: &[u16],
+    transactions: &[u16],
+    registers: &[u16],
+    values: &[u32],
+    count: usize,
+    file: &[u8],
+    output: &mut [u8],
+    moved: &mut [u32],
+) -> Straightening
+    ensures { λ r. ⌜ gives r (now (output .exit)) (now (moved .exit)) ≡ straightenedAnswer (columns (now (kinds .entry)) (now (transactions .entry)) (now (registers .entry)) (now (values .entry))) count (now (file .entry)) (now (output .entry)) (now (moved .entry)) ⌝ }
+{
+    let checked = check_columns(kinds, transactions, registers, values, count);
+    match checked {
+        Checked::Refused { question, event } => Straightening::Refused { question, event },
+        Checked::Readable => straighten_file(
+            kinds,
+            transactions,
+            registers,
+            values,
+            count,
+            file,
+            output,
+            moved,
+        ),
+    }
+}
