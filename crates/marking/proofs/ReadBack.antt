@@ -35,7 +35,7 @@ use Rattle.marking.proofs.StepLaws.{body-place, body-point}
 use Rattle.marking.proofs.CheckLaws.{beyond-history}
 
 -- one after another, each at least the bound and one past the one before
-unfoldable rising : ℕ → List ℕ → Bool
+unfoldable pub rising : ℕ → List ℕ → Bool
 rising b [] = true
 rising b (x ∷ xs) = leb b x and rising (x + 1) xs
 
@@ -69,7 +69,7 @@ module _ (p : ℕ → Bool) where
       go true ih = and-i _ _ (le-leb b a l) (ih (a + 1) (le-refl (a + 1)))
       go false ih = ih b (omega arith)
 
-  keep-passes : (xs : List ℕ) → all p (keep p xs) ≡ true
+  pub keep-passes : (xs : List ℕ) → all p (keep p xs) ≡ true
   unfolding all keep
   keep-passes [] = refl
   keep-passes (x ∷ xs) = go (p x) refl (keep-passes xs)
@@ -89,6 +89,10 @@ module _ (p : ℕ → Bool) where
       here q =
           let y : p n ≡ true = ap p (sym q) ∙ e in
           or-r _ _ (rw (y, eq-eqb n i (sym q)) (or-l true false refl))
+
+-- the numbers below n that pass rise
+pub passing-rise : (p : ℕ → Bool) (n : ℕ) → rising 0 (keep p (range n)) ≡ true
+passing-rise p n = rw (range-from n) (keep-rising p 0 n 0 (le-refl 0))
 
 place-taken : (b next : ℕ) (used : ℕ → Bool) (body : List ℕ) (t o end : ℕ) → length body ≡ 4 → transactionIn body ≡ t → outcomeIn body ≡ o
     → next ≡ 0 → t < b → used t ≡ false → o < 2 → placeStep b next used body end ≡ Placed t o end
@@ -231,7 +235,7 @@ any-events i (q ∷ qs) = ap (λ (b : Bool). eqb (q .event) i or b) (any-events 
 module _ (h : List Event) (m : Marking) (r : readable h ≡ true) (f : ReadableFor h m) where
   reads-rise : rising 0 (map (λ q. q .event) (m .points)) ≡ true
   unfolding storeReads
-  reads-rise = rw (f .reads, range-from (length h)) (keep-rising (isStoreRead h) 0 (length h) 0 (le-refl 0))
+  reads-rise = rw (f .reads) (passing-rise (isStoreRead h) (length h))
 
   reads-are : all (isStoreRead h) (map (λ q. q .event) (m .points)) ≡ true
   unfolding storeReads

@@ -72,7 +72,7 @@ module _ (start : ℕ → ℕ) (c : Columns) (n : ℕ) (file : List ℕ) where
       answered : answerFrom start c n file ≡ Ruled (verdict start (history c n) m)
       answered = after ∙ ap (ruled start (history c n)) holds
 
-      by-verdict : (v : Verdict) → (answerFrom start c n file ≡ Ruled v) ↔ (verdict start (history c n) m ≡ v)
+      pub by-verdict : (v : Verdict) → (answerFrom start c n file ≡ Ruled v) ↔ (verdict start (history c n) m ≡ v)
       by-verdict v = (λ e. same (sym answered ∙ e), λ e. answered ∙ ap Ruled e)
         where
           same : Ruled (verdict start (history c n) m) ≡ Ruled v → verdict start (history c n) m ≡ v

@@ -1,9 +1,11 @@
 -- No lent buffer changes where a question says no (demand 1), for each public function that is lent buffers to fill: the reader's columns,
--- the writer's output and the finder's output. Checker and scan are lent nothing that they can write to. `number` gives the paper's number,
--- 0 for none.
+-- the writer's output, the finder's output, and the straightening's output and list, which a broken rule leaves alone too. Checker and scan are
+-- lent nothing that they can write to. `number` gives the paper's number, 0 for none.
 -- Assumes nothing.
 use Prim.Native.Nat.{ℕ}
+use native.Mathlib.Omega.{arith}
 use mathlib.Core.Path.{_≡_, refl, sym, ap, _∙_}
+use mathlib.Core.Logic.{_⊎_, ⊎-elim}
 use mathlib.Core.List.{List}
 use Rattle.events.specs.declared.columns.Checked.{Checked}
 use Rattle.events.specs.declared.columns.Checked.the-variants.{Readable, Refused as Refuses}
@@ -19,6 +21,11 @@ use Rattle.writer.proofs.RoundTrip.{refused-unread, refused-unwritten}
 use Rattle.finder.specs.declared.Found.{Found}
 use Rattle.finder.specs.Answer.{foundAnswer, number as foundNumber}
 use Rattle.finder.proofs.Theorems.{refused-unchanged}
+use Rattle.opacity.specs.declared.verdict.Rule.{Rule}
+use Rattle.opacity.specs.Justification.{zeros}
+use Rattle.straighten.specs.declared.Straightening.the-variants.{Broken}
+use Rattle.straighten.specs.Answer.{straightenedAnswer, number as straightenedNumber}
+use Rattle.straighten.proofs.Theorems.{untouched}
 use Rattle.promises.specs.Numbers.{number}
 
 pub reader-keeps : (file : List ℕ) (c : Columns) → (readNumber (readAnswer file c .result) ≡ 0 → ⊥) → readAnswer file c .columns ≡ c
@@ -45,6 +52,16 @@ finder-keeps c count prefix output n = go (foundAnswer c count prefix output .re
     go (Found.Marking k) e f = absurd (f refl)
     go Found.None e f = absurd (f refl)
     go (Found.Refused q i) e f = refused-unchanged c count prefix output q i e
+
+-- the straightening's output and list, where a question says no or a rule is broken
+pub straightening-keeps : (c : Columns) (count : ℕ) (file output list : List ℕ)
+    → (straightenedNumber (straightenedAnswer c count file output list .result) ≡ 0 → ⊥)
+    ⊎ ((q : Rule) × (i : ℕ) × (t : ℕ) × (straightenedAnswer c count file output list .result ≡ Broken q i t))
+    → (straightenedAnswer c count file output list .output ≡ output) × (straightenedAnswer c count file output list .list ≡ list)
+unfolding straightenedAnswer straightenedNumber
+straightening-keeps c count file output list w =
+    untouched zeros c count file output list
+    (λ k l x. ⊎-elim (λ n. n (ap straightenedNumber x)) (λ b. let z : _≡_ {A = ℕ} 0 1 = cc (b .3) in omega arith) w)
 
 -- columns to which no question says no have the number 0
 pub readable-number : (c : Columns) (count : ℕ) → columnsAnswer c count ≡ Readable → number (columnsAnswer c count) ≡ 0

@@ -1,6 +1,6 @@
 -- The paper's number and event of what the questions of columns answer: 0 where every question says yes. The answers of reader, writer,
--- finder and checker have theirs beside them: `number` and `value` or `values` in reader/specs/Reading, writer/specs/Writing and
--- finder/specs/Answer, `said` in marking/specs/Answer.
+-- finder, straightening and checker have theirs beside them: `number` and `value` or `values` in reader/specs/Reading, writer/specs/Writing,
+-- finder/specs/Answer and straighten/specs/Answer, `said` in marking/specs/Answer.
 -- Assumes nothing.
 use Prim.Native.Nat.{ℕ}
 use Rattle.events.specs.declared.columns.Checked.{Checked}

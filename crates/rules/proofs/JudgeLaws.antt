@@ -21,7 +21,7 @@ use Rattle.opacity.specs.declared.verdict.Rule.{Rule}
 use Rattle.opacity.specs.declared.verdict.Rule.the-variants.{A, B, C, D, E}
 use Rattle.opacity.specs.Transactions.{Status, committed, aborted, pending, live, status, allows, precedes, isStoreRead, ownRight}
 use Rattle.opacity.specs.Justification.{Place, placed, before, contents, written, outcomeKept, preceded, realTimeKept}
-use Rattle.opacity.specs.Marking.{gapOf, placeOf, others, between, noWriterBetween, valueAtGap, broke, verdict, lastEvent, beginOf}
+use Rattle.opacity.specs.Marking.{gapOf, placeOf, others, between, noWriterBetween, valueAtGap, ruleHolds, broke, verdict, lastEvent, beginOf}
 use Rattle.opacity.proofs.Finder.{gap-marked, before-le}
 use Rattle.links.specs.declared.tables.Fact.the-variants.{LastEvent, LastWrite, LastBegin, FirstBegin, FirstEnd, Standing}
 use Rattle.links.specs.Tables.{Slots, Tabled, slot, earlier}
@@ -49,7 +49,7 @@ allows-standing aborted c = refl
 allows-standing pending c = refl
 allows-standing live c = refl
 
-place-le : (t : ℕ) (order outcomes : List ℕ) (b : ℕ) → placeOf t (placesOf order outcomes b) ≤ b
+pub place-le : (t : ℕ) (order outcomes : List ℕ) (b : ℕ) → placeOf t (placesOf order outcomes b) ≤ b
 unfolding placeOf
 place-le t order outcomes b = let l = before-le t (placesOf order outcomes b) in let e = places-length order outcomes b in omega arith
 
@@ -89,6 +89,10 @@ module _ {c : Columns} {n : ℕ} {link : List ℕ} {reads : List Bool} {order ou
   read-same : (i : ℕ) → i < n → getD reads i false ≡ isStoreRead (history c n) i
   unfolding _and_
   read-same i l = y .tabled .holds i ∙ rw (lt-ltb i n l) (store-read-table c n link (y .links) i l)
+
+  pub gap-same : (i : ℕ) → i < n → isStoreRead (history c n) i ≡ true → gapOf (content (history c n) order outcomes gaps .points) i ≡ getD gaps i 0
+  unfolding content
+  gap-same i l s = gap-marked (history c n) (λ k. getD gaps k 0) i (rw (history-length c n) l) s
 
   -- rule A
   outcome-same : (standing place : List ℕ) → Slots Standing (c .kinds) (c .transactions) n standing → Inverse order (begunIn c n) place
@@ -143,10 +147,6 @@ module _ {c : Columns} {n : ℕ} {link : List ℕ} {reads : List Bool} {order ou
         low k false e = omega arith
 
     module _ (i : ℕ) (l : i < n) where
-      gap-same : isStoreRead (history c n) i ≡ true → gapOf (content (history c n) order outcomes gaps .points) i ≡ getD gaps i 0
-      unfolding content
-      gap-same s = gap-marked (history c n) (λ k. getD gaps k 0) i (rw (history-length c n) l) s
-
       reader : getD place (getD (c .transactions) i 0) 0 ≡ placeOf (getD (c .transactions) i 0) (orderIn c n order outcomes)
       reader = inverse-place order outcomes (begunIn c n) (y .ordered) place v (getD (c .transactions) i 0) (y .ground .begun i l)
 
@@ -160,7 +160,7 @@ module _ {c : Columns} {n : ℕ} {link : List ℕ} {reads : List Bool} {order ou
               ≡ (b implies isNone (latest (written (history c n) (getD (c .registers) i 0)) (others (getD (c .transactions) i 0) (between (gapOf (content (history c n) order outcomes gaps .points) i) (placeOf (getD (c .transactions) i 0) (orderIn c n order outcomes)) (orderIn c n order outcomes)))))
           go false e = refl
           go true e =
-              rw (reader, gap-same e)
+              rw (reader, gap-same i l e)
               (ap isNone (found-between c n link last order outcomes writers (begunIn c n) (y .links) lasts (apart .low) table (y .ordered) (getD (c .transactions) i 0) (getD (c .registers) i 0) (y .ground .begun i l)
               (getD gaps i 0) (placeOf (getD (c .transactions) i 0) (orderIn c n order outcomes)) (y .gaps-fit i l e) (place-le (getD (c .transactions) i 0) order outcomes (begunIn c n))))
 
@@ -174,7 +174,7 @@ module _ {c : Columns} {n : ℕ} {link : List ℕ} {reads : List Bool} {order ou
               ≡ (b implies eqb (getD (c .values) i 0) (Option·getD (latest (written (history c n) (getD (c .registers) i 0)) (others (getD (c .transactions) i 0) (take (gapOf (content (history c n) order outcomes gaps .points) i) (orderIn c n order outcomes)))) (start (getD (c .registers) i 0))))
           go false e = refl
           go true e =
-              rw (reader, gap-same e)
+              rw (reader, gap-same i l e)
               (ap (λ (o : Option ℕ). eqb (getD (c .values) i 0) (Option·getD o (start (getD (c .registers) i 0))))
               (found-before c n link last order outcomes writers (begunIn c n) (y .links) lasts (apart .low) table (y .ordered) (getD (c .transactions) i 0) (getD (c .registers) i 0) (y .ground .begun i l) (getD gaps i 0) (y .gaps-fit i l e)))
 
@@ -213,6 +213,22 @@ module _ {c : Columns} {n : ℕ} {link : List ℕ} {reads : List Bool} {order ou
       pub all-walkable : {last writers : List ℕ} → Slots LastWrite (c .kinds) (c .transactions) n last → Writers order outcomes last k writers
           → Walkable (c .transactions) (c .registers) (c .values) n link writers place reads gaps
       all-walkable {last} {writers} lasts table = walkable place last writers v lasts (writers-all table)
+
+      -- the place of the reader of event i
+      pub reader-same : (i : ℕ) → i < n → getD place (getD (c .transactions) i 0) 0 ≡ placeOf (eventAt (history c n) i .transaction) (orderIn c n order outcomes)
+      reader-same i l =
+          inverse-place order outcomes (begunIn c n) (y .ordered) place v (getD (c .transactions) i 0) (y .ground .begun i l)
+          ∙ ap (λ (e : Event). placeOf (e .transaction) (orderIn c n order outcomes)) (sym (history-at c n i l))
+
+      -- D and E at event i
+      module _ {last writers : List ℕ} (lasts : Slots LastWrite (c .kinds) (c .transactions) n last) (table : Writers order outcomes last k writers) (start : ℕ → ℕ) (i : ℕ) (l : i < n) where
+        pub d-same : readRuleBy start c link writers place reads gaps D i ≡ ruleHolds start (history c n) (content (history c n) order outcomes gaps) D i
+        unfolding readRuleBy ruleHolds content
+        d-same = no-writer-same place last writers v lasts (writers-all table) i l
+
+        pub e-same : readRuleBy start c link writers place reads gaps E i ≡ ruleHolds start (history c n) (content (history c n) order outcomes gaps) E i
+        unfolding readRuleBy ruleHolds content
+        e-same = value-same place last writers v lasts (writers-all table) i l start
 
       module _ (start : ℕ → ℕ) {standing : List ℕ} (s : Slots Standing (c .kinds) (c .transactions) n standing)
           {t : ℕ} (et : t ≡ broken (outcomeBy standing place outcomes) k) where

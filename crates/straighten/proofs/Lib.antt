@@ -1,2 +1,8 @@
--- What the proofs of several functions use, here and in the crates above.
+-- What the proofs of several functions use, and the theorems.
 pub mod TableLaws
+pub mod PointLaws
+pub mod StraightLaws
+pub mod RuleLaws
+pub mod MoveLaws
+pub mod AnswerLaws
+pub mod Theorems

@@ -1,8 +1,7 @@
 -- Tables that are filled from the front, and what is put into output and list one event more at a time.
 -- Assumes nothing.
-use Prim.Native.Nat.{ℕ, zero, suc, _+_, _*_, _≤_, _<_}
+use Prim.Native.Nat.{ℕ, suc, _+_, _*_, _≤_, _<_}
 use native.Mathlib.Omega.{arith}
-use native.Mathlib.Numerals.{add-one}
 use mathlib.Core.Path.{_≡_, refl, sym, ap, _∙_}
 use mathlib.Core.Bool.{Bool, true, false, not}
 use mathlib.Core.List.{List, [], _∷_, _++_, append-assoc, append-nil}
@@ -10,19 +9,14 @@ use lib.Dec.{eqb}
 use lib.ListN.{length, getD, take, drop, set, length-append, length-set}
 use lib.Seq.{sets-eq, getD-set-same, getD-set-other}
 use borrow.Author.Tests.{eqb-true, eqb-false}
-use Rattle.events.specs.Bytes.{u16Bytes, placed, over}
+use Rattle.events.specs.Bytes.{placed}
 use Rattle.events.specs.Lists.{_and_, push, keep, range}
-use Rattle.events.proofs.BufferLaws.{placed-over}
 use Rattle.events.proofs.ListLaws.{keep-append}
-use Rattle.opacity.specs.Justification.{Place}
-use Rattle.opacity.specs.Marking.{outcomeNumber, placeBytes, flat}
+use Rattle.opacity.specs.Marking.{placeBytes, flat}
 use Rattle.opacity.proofs.MarkingBytes.{flat-append, flat-length}
 use Rattle.rules.specs.Orders.{placeAt, placesOf}
 use Rattle.rules.proofs.OrderLaws.{places-length}
-use Rattle.marking_writer.specs.Points.{readBytes, pointsTo}
-use Rattle.marking_writer.proofs.RunLaws.{placed-then}
-use Rattle.marking_writer.proofs.PointLaws.{points-le}
-use Rattle.straighten.specs.Tables.{Filled, listed, pointsIn}
+use Rattle.straighten.specs.Tables.{Filled, listed, pointsIn, bytesIn}
 
 -- ---- a table, one entry more
 
@@ -50,57 +44,42 @@ pub second-tells : (a b x y : Bool) → x ≡ a → x ≡ true → y ≡ b → n
 unfolding _and_
 second-tells a b x y e f g = let z : a ≡ true = sym e ∙ f in rw z (ap not g)
 
--- ---- the places, one more
+-- ---- what is put into output and list, one run more
 
 module _ (order outcomes : List ℕ) where
-  pub places-bytes : (k : ℕ) → length (flat placeBytes (placesOf order outcomes k)) ≡ 8 * k
+  -- the first k places as bytes, and the k-th
+  abbrev pub placesTo : ℕ → List ℕ
+  placesTo k = flat placeBytes (placesOf order outcomes k)
+
+  abbrev pub placeHere : ℕ → List ℕ
+  placeHere k = placeBytes (placeAt order outcomes k)
+
+  pub places-none : placesTo 0 ≡ []
+  unfolding flat placesOf
+  places-none = refl
+
+  pub places-more : (k : ℕ) → placesTo (suc k) ≡ placesTo k ++ placeHere k
+  unfolding flat placesOf
+  places-more k = flat-append placeBytes (placesOf order outcomes k) (placeAt order outcomes k ∷ []) ∙ ap (λ (l : List ℕ). placesTo k ++ l) (append-nil (placeHere k))
+
+  pub places-bytes : (k : ℕ) → length (placesTo k) ≡ 8 * k
   places-bytes k = flat-length placeBytes 8 (placesOf order outcomes k) (λ p. refl) ∙ ap (λ (n : ℕ). 8 * n) (places-length order outcomes k)
 
-  pub place-more : (d o o′ : List ℕ) (k outcome : ℕ) → 6 + 8 * k ≤ length d → outcome ≡ outcomeNumber (eqb (getD outcomes k 0) 1)
-      → o ≡ placed d 6 (flat placeBytes (placesOf order outcomes k))
-      → o′ ≡ placed o (6 + 8 * k) (u16Bytes 6 ++ u16Bytes 32 ++ u16Bytes (getD order k 0) ++ u16Bytes outcome)
-      → o′ ≡ placed d 6 (flat placeBytes (placesOf order outcomes (k + 1)))
-  unfolding flat placesOf
-  place-more d o o′ k outcome room c e f =
-      let P = placesOf order outcomes k in
-      let n = places-bytes k in
-      let b : flat placeBytes (placesOf order outcomes (k + 1)) ≡ flat placeBytes P ++ (u16Bytes 6 ++ u16Bytes 32 ++ u16Bytes (getD order k 0) ++ u16Bytes outcome) =
-      ap (λ (m : ℕ). flat placeBytes (placesOf order outcomes m)) (add-one k) ∙ flat-append placeBytes P (placeAt order outcomes k ∷ [])
-      ∙ ap (λ (m : ℕ). flat placeBytes P ++ (u16Bytes 6 ++ u16Bytes 32 ++ u16Bytes (getD order k 0) ++ u16Bytes m)) (sym c) in
-      placed-then d o o′ 6 (flat placeBytes P) (u16Bytes 6 ++ u16Bytes 32 ++ u16Bytes (getD order k 0) ++ u16Bytes outcome) (6 + 8 * k) e f (omega arith) room
-      ∙ ap (placed d 6) (sym b)
+pub bytes-length : (order outcomes : List ℕ) (b : ℕ) (reads : List Bool) (gaps : List ℕ) (n : ℕ) → length (bytesIn order outcomes b reads gaps n) ≡ 6 + 8 * b + length (pointsIn reads gaps n)
+bytes-length order outcomes b reads gaps n = omega (arith, length-append (placesTo order outcomes b) (pointsIn reads gaps n), places-bytes order outcomes b)
 
--- ---- the points, one event more
+module _ (moves : List Bool) where
+  -- the i-th entry of the list, if event i is moved
+  abbrev pub movedHere : ℕ → List ℕ
+  movedHere i = push (getD moves i false) i []
 
-module _ (reads : List Bool) (gaps : List ℕ) (n : ℕ) (d : List ℕ) (from : ℕ) (room : from + length (pointsIn reads gaps n) ≤ length d) (i : ℕ) (l : i < n) where
-  more : pointsIn reads gaps (i + 1) ≡ pointsIn reads gaps i ++ readBytes (getD reads i false) i (getD gaps i 0)
-  unfolding pointsTo
-  more = rw (add-one i)
+  pub listed-none : listed moves 0 ≡ []
+  unfolding keep range
+  listed-none = refl
 
-  pub points-more : length (pointsIn reads gaps (i + 1)) ≡ length (pointsIn reads gaps i) + length (readBytes (getD reads i false) i (getD gaps i 0))
-  points-more = ap length more ∙ length-append (pointsIn reads gaps i) (readBytes (getD reads i false) i (getD gaps i 0))
+  pub listed-more : (i : ℕ) → listed moves (suc i) ≡ listed moves i ++ movedHere i
+  unfolding keep range
+  listed-more i = keep-append (λ k. getD moves k false) (range i) (i ∷ [])
 
-  pub point-room : from + length (pointsIn reads gaps i) + length (readBytes (getD reads i false) i (getD gaps i 0)) ≤ length d
-  point-room = let a = points-le (λ k. getD reads k false) (λ k. getD gaps k 0) n (i + 1) (omega arith) in let b = points-more in omega arith
-
-  pub point-more : (o o′ : List ℕ) (at : ℕ) → at ≡ from + length (pointsIn reads gaps i) → o ≡ placed d from (pointsIn reads gaps i)
-      → o′ ≡ placed o at (readBytes (getD reads i false) i (getD gaps i 0)) → o′ ≡ placed d from (pointsIn reads gaps (i + 1))
-  point-more o o′ at a e f =
-      rw more (placed-then d o o′ from (pointsIn reads gaps i) (readBytes (getD reads i false) i (getD gaps i 0)) at e f (sym a) (let r = point-room in omega arith))
-
--- ---- the list, one entry more
-
-placed-one : (d : List ℕ) (at v : ℕ) → at + 1 ≤ length d → set d at v ≡ placed d at (v ∷ [])
+pub placed-one : (d : List ℕ) (at v : ℕ) → at + 1 ≤ length d → set d at v ≡ placed d at (v ∷ [])
 placed-one d at v h = sets-eq (v ∷ []) d at h ∙ append-assoc (take at d) (v ∷ []) (drop (at + 1) d)
-
-pub over-more : (xs d : List ℕ) (m v : ℕ) → m ≡ length xs → m < length d → length (over xs d) ≡ length d → set (over xs d) m v ≡ over (xs ++ (v ∷ [])) d
-over-more xs d m v e l k = placed-one (over xs d) m v (omega arith) ∙ placed-over xs d (v ∷ []) m (sym e)
-
-module _ (moves : List Bool) (i : ℕ) where
-  pub listed-more : getD moves i false ≡ true → listed moves (i + 1) ≡ listed moves i ++ (i ∷ [])
-  unfolding keep range
-  listed-more e = ap (λ (m : ℕ). listed moves m) (add-one i) ∙ keep-append (λ k. getD moves k false) (range i) (i ∷ []) ∙ rw e
-
-  pub listed-same : getD moves i false ≡ false → listed moves (i + 1) ≡ listed moves i
-  unfolding keep range
-  listed-same e = ap (λ (m : ℕ). listed moves m) (add-one i) ∙ keep-append (λ k. getD moves k false) (range i) (i ∷ []) ∙ rw e (append-nil (listed moves i))

@@ -1,14 +1,17 @@
 -- Straightened read points: outcomes and order are kept, and so is every point that breaks neither D nor E; each other one is moved to its
 -- reader's place. The start values are a parameter.
 -- Assumes nothing.
-use Prim.Native.Nat.{ℕ}
-use mathlib.Core.Bool.{Bool, not, cond}
+use Prim.Native.Nat.{ℕ, suc, _<_}
+use mathlib.Core.Path.{_≡_}
+use mathlib.Core.Bool.{Bool, true, false, not, cond}
 use mathlib.Core.List.{List, map}
+use lib.ListN.{length, getD}
 use Rattle.events.specs.declared.event.Event.{Event}
 use Rattle.events.specs.Lists.{_and_, keep}
 use Rattle.events.specs.Events.{eventAt}
-use Rattle.opacity.specs.Justification.{Place}
-use Rattle.opacity.specs.Marking.{Point, Marking, placeOf, noWriterBetween, valueAtGap}
+use Rattle.opacity.specs.declared.verdict.Rule.{Rule}
+use Rattle.opacity.specs.Justification.{Place, legal}
+use Rattle.opacity.specs.Marking.{Point, Marking, placeOf, noWriterBetween, valueAtGap, ruleNumber, Holds}
 
 -- the point breaks neither D nor E
 unfoldable pub stands : (ℕ → ℕ) → List Event → List Place → Point → Bool
@@ -27,3 +30,20 @@ straightened start h m = record { places = m .places; points = map (straightPoin
 -- the events whose points are moved, in the order of the points
 unfoldable pub movedEvents : (ℕ → ℕ) → List Event → Marking → List ℕ
 movedEvents start h m = map (λ p. p .event) (keep (λ p. not (stands start h (m .places) p)) (m .points))
+
+-- ---- The words of the theorems.
+
+-- each number is above the one before it
+abbrev pub Rises : List ℕ → Type 0
+Rises xs = (j : ℕ) → suc j < length xs → getD xs j 0 < getD xs (suc j) 0
+
+-- A, B and C hold
+abbrev pub OrderRulesHold : (ℕ → ℕ) → List Event → Marking → Type 0
+OrderRulesHold start h m = (q : Rule) → ruleNumber q < 4 → Holds start h m q
+
+-- i is the first store read that is not legal in the marking's order, whatever its points are, and A, B and C hold
+pub record FirstIllegal (start : ℕ → ℕ) (h : List Event) (m : Marking) (i : ℕ) : Type 0 where
+  pub inside : i < length h
+  pub illegal : legal start h (m .places) i ≡ false
+  pub lowest : (j : ℕ) → j < i → legal start h (m .places) j ≡ true
+  pub earlier : OrderRulesHold start h m

@@ -1,10 +1,11 @@
 // The marking that stands in arrays put into an output, and the moved events put into a list.
 ghost use mathlib.Core.Path.{_≡_};
-ghost use mathlib.Core.Bool.{false};
-ghost use Prim.Native.Nat.{ℕ, _+_, _*_, _≤_, _<_};
+ghost use Prim.Native.Nat.{_+_, _*_, _≤_};
+ghost use mathlib.Core.List.{[]};
 ghost use lib.Dec.{eqb};
-ghost use lib.ListN.{length, getD};
+ghost use lib.ListN.{length};
 ghost use Rattle.events.specs.Bytes.{placed, over};
+ghost use Rattle.events.specs.Lists.{push};
 ghost use Rattle.opacity.specs.Marking.{outcomeNumber, placeBytes, flat};
 ghost use Rattle.rules.specs.Orders.{placesOf};
 ghost use Rattle.straighten.specs.Tables.{listed, pointsIn, bytesIn};
@@ -78,6 +79,19 @@ pub fn write_marking(
     put_points(reads, gaps, count, 6 + 8 * begun, out)
 }
 
+// An event, if it is moved; and where the next one goes.
+fn put_moved(list: &mut [u32], at: usize, moved: bool, event: u32) -> usize
+    requires { ⌜ at + length (push moved event []) ≤ length (now list) ⌝ }
+    ensures { λ _. ⌜ now (list .exit) ≡ placed (now (list .entry)) at (push moved event []) ⌝ }
+    ensures { λ r. ⌜ r ≡ at + length (push moved event []) ⌝ }
+{
+    if moved {
+        list[at] = event;
+        return at + 1;
+    }
+    at
+}
+
 // The moved events, rising, from the list's first entry; how many they are.
 pub fn list_moved(moves: &[bool; 2048], count: usize, list: &mut [u32]) -> usize
     requires { ⌜ count ≤ 2048 ⌝ }
@@ -88,10 +102,7 @@ pub fn list_moved(moves: &[bool; 2048], count: usize, list: &mut [u32]) -> usize
     let mut number: usize = 0;
     let mut i: usize = 0;
     while i < count {
-        if moves[i] {
-            list[number] = i as u32;
-            number += 1;
-        }
+        number = put_moved(list, number, moves[i], i as u32);
         i += 1;
     }
     number

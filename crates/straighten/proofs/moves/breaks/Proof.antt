@@ -1,7 +1,8 @@
 -- `straighten::moves::breaks` meets its contract.
 -- Assumes nothing.
-use borrow.Author.Needs.{needs}
 use Rattle.straighten.proofs.TableLaws.{first-fails, second-tells}
+use Rattle.events.proofs.ListLaws.{not-true, not-false}
+use borrow.Author.Needs.{needs}
 use Rattle.straighten.proofs.moves.breaks.Statement.{statement}
 use Rattle.straighten.proofs.moves.breaks.Tie as tie
 
@@ -9,13 +10,13 @@ holds-at-requires : tie.Need-holds-at-requires
 holds-at-requires c κs = search needs
 
 returns : tie.Need-returns
-returns c = first-fails _ _ _ (c .before .before .holds-at .ensures) (c .before .if1 .taken)
+returns c = first-fails _ _ _ (c .before .holds-at .ensures) (not-true _ (c .if1 .taken))
 
 holds-at-requires-2 : tie.Need-holds-at-requires-2
 holds-at-requires-2 c κs = search needs
 
 returns-2 : tie.Need-returns-2
-returns-2 c = second-tells _ _ _ _ (c .before .before .before .holds-at .ensures) (c .before .before .if1 .left) (c .holds-at2 .ensures)
+returns-2 c = second-tells _ _ _ _ (c .before .before .holds-at .ensures) (not-false _ (c .before .if1 .left)) (c .holds-at2 .ensures)
 
 pub breaks-spec : {M : Type 1} → statement M
 breaks-spec = tie.close (tie.spec holds-at-requires returns holds-at-requires-2 returns-2)

@@ -23,7 +23,7 @@ element-copy-out-result : tie.Need-element-copy-out-result
 element-copy-out-result c = search needs
 
 returns : tie.Need-returns
-returns c = rw (c .before .before .before .before .before .if1 .taken) (?)
+returns c = rw (c .before .before .before .if1 .taken, c .before .wide .ensures)
 
 mul-result-2 : tie.Need-mul-result-2
 mul-result-2 c = search needs
@@ -32,7 +32,7 @@ element-copy-out-result-2 : tie.Need-element-copy-out-result-2
 element-copy-out-result-2 c = search needs
 
 returns-2 : tie.Need-returns-2
-returns-2 c = ?
+returns-2 c = rw (c .before .if1 .left)
 
 pub gap-at-spec : {M : Type 1} → statement M
 gap-at-spec =

@@ -1,57 +1,61 @@
+-- `straighten::write::list_moved` meets its contract.
+-- Assumes nothing.
+use Prim.Native.Nat.{ℕ, _-_, _≤_}
+use mathlib.Core.Path.{_≡_, _∙_}
+use native.Mathlib.Omega.{arith}
+use denote.Ref.{now}
+use Rattle.marking_writer.proofs.RunLaws.{placed-first, Put, put-none, put-room, put-more}
+use Rattle.straighten.specs.Tables.{listed}
+use Rattle.straighten.proofs.TableLaws.{movedHere, listed-none, listed-more}
+use borrow.Author.Needs.{needs}
 use Rattle.straighten.proofs.write.list_moved.Statement.{statement}
 use Rattle.straighten.proofs.write.list_moved.Tie as tie
-use Rattle.straighten.proofs.write.list_moved.Reads as reads
-use Rattle.straighten.proofs.write.list_moved.Lts as lts
 
 abbrev Inv-loop : tie.InvT-loop
-Inv-loop moves count list₀ number₀ i₀ list number i = ?
+Inv-loop moves count list₀ number₀ i₀ list number i = (i ≤ count) × Put (listed moves) list₀ 0 i list number
 
 abbrev μ-loop : tie.MeasureT-loop
-μ-loop moves count list₀ number₀ i₀ list number i = ?
+μ-loop moves count list₀ number₀ i₀ list number i = count - i
 
--- src/write.rt:90:5
 loop-holds : tie.Need-loop-holds Inv-loop μ-loop
-loop-holds c = ?
+loop-holds c =
+    let start = c .before in
+    (omega arith, put-none (listed (start .args .moves .now)) (movedHere (start .args .moves .now)) (listed-none (start .args .moves .now)) (listed-more (start .args .moves .now)) (now (start .args .list)) 0)
 
--- src/write.rt:91:12
-element-copy-out-if1 : tie.Need-element-copy-out-if1 Inv-loop μ-loop
-element-copy-out-if1 c = ?
+element-copy-out-put-moved : tie.Need-element-copy-out-put-moved Inv-loop μ-loop
+element-copy-out-put-moved c = search needs
 
--- src/write.rt:92:28
-cast-list : tie.Need-cast-list Inv-loop μ-loop
-cast-list c = ?
+cast-put-moved : tie.Need-cast-put-moved Inv-loop μ-loop
+cast-put-moved c = omega (arith, c .before .before .before .before .before .pre .0)
 
--- src/write.rt:92:13
-mul-list : tie.Need-mul-list Inv-loop μ-loop
-mul-list c = ?
+put-moved-requires : tie.Need-put-moved-requires Inv-loop μ-loop
+put-moved-requires c κs =
+    let start = c .before .before .before .before .before in
+    let at = c .before .before .before .loop in
+    put-room (listed (start .args .moves .now)) (movedHere (start .args .moves .now)) (listed-none (start .args .moves .now)) (listed-more (start .args .moves .now)) (now (start .args .list)) 0 (start .args .count) (omega (arith, start .pre .1)) (at .i) (omega arith) (at .list) (at .number) (at .inv .1)
 
--- src/write.rt:92:13
-slice-write-list : tie.Need-slice-write-list Inv-loop μ-loop
-slice-write-list c = ?
-
--- src/write.rt:93:13
-add-number : tie.Need-add-number Inv-loop μ-loop
-add-number c = ?
-
--- src/write.rt:95:9
 add-i : tie.Need-add-i Inv-loop μ-loop
-add-i c = ?
+add-i c = search needs
 
--- src/write.rt:90:5
 loop-less : tie.Need-loop-less Inv-loop μ-loop
-loop-less c = ?
+loop-less c = search needs
 
--- src/write.rt:90:5
 loop-again : tie.Need-loop-again Inv-loop μ-loop
-loop-again c = ?
+loop-again c =
+    let start = c .before .before .before .before .before .before .before .before in
+    let at = c .before .before .before .before .before .before .loop in
+    let put = c .before .before .put-moved in
+    (omega arith, put-more (listed (start .args .moves .now)) (movedHere (start .args .moves .now)) (listed-none (start .args .moves .now)) (listed-more (start .args .moves .now)) (now (start .args .list)) 0 (start .args .count) (omega (arith, start .pre .1)) (at .i) (omega arith) (at .list) (at .number) (at .inv .1) (put .last .0) (put .result) (put .kept .0) (put .ensures .0) (put .ensures .1))
 
--- src/write.rt:82:1
 same-length : tie.Need-same-length Inv-loop μ-loop
-same-length c = ?
+same-length c = c .before .loop .inv .1 .long
 
--- src/write.rt:82:1
 returns : tie.Need-returns Inv-loop μ-loop
-returns c = ?
+returns c =
+    let start = c .before .before .before in
+    let at = c .before .loop in
+    let e : at .i ≡ start .args .count = omega (arith, at .inv .0) in
+    ((rw e at (at .inv .1 .holds)) ∙ placed-first (listed (start .args .moves .now) (start .args .count)) (now (start .args .list)), omega (arith, (rw e at (at .inv .1 .ends))))
 
 pub list-moved-spec : {M : Type 1} → statement M
 list-moved-spec =
@@ -60,11 +64,9 @@ list-moved-spec =
     Inv-loop
     μ-loop
     loop-holds
-    element-copy-out-if1
-    cast-list
-    mul-list
-    slice-write-list
-    add-number
+    element-copy-out-put-moved
+    cast-put-moved
+    put-moved-requires
     add-i
     loop-less
     loop-again

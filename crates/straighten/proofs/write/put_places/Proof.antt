@@ -1,67 +1,73 @@
+-- `straighten::write::put_places` meets its contract.
+-- Assumes nothing.
+use Prim.Native.Nat.{ℕ, _+_, _*_, _-_, _≤_}
+use mathlib.Core.Path.{_≡_, ap, _∙_}
+use mathlib.Core.List.{List, _++_}
+use native.Mathlib.Omega.{arith}
+use lib.ListN.{length, getD}
+use denote.Ref.{now}
+use Rattle.events.specs.Bytes.{u16Bytes, placed}
+use Rattle.marking_writer.proofs.RunLaws.{Put, put-none, put-room, put-more}
+use Rattle.straighten.proofs.TableLaws.{placesTo, placeHere, places-none, places-more, places-bytes}
+use borrow.Author.Needs.{needs}
 use Rattle.straighten.proofs.write.put_places.Statement.{statement}
 use Rattle.straighten.proofs.write.put_places.Tie as tie
-use Rattle.straighten.proofs.write.put_places.Reads as reads
-use Rattle.straighten.proofs.write.put_places.Lts as lts
-use Rattle.marking_writer.proofs.put_place.Reads as put-place-reads
-use Rattle.straighten.proofs.write.outcome_number.Reads as outcome-number-reads
 
 abbrev Inv-loop : tie.InvT-loop
-Inv-loop order outcomes begun out₀ k₀ out k = ?
+Inv-loop order outcomes begun out₀ k₀ out k = (k ≤ begun) × Put (placesTo order outcomes) out₀ 6 k out (6 + 8 * k)
 
 abbrev μ-loop : tie.MeasureT-loop
-μ-loop order outcomes begun out₀ k₀ out k = ?
+μ-loop order outcomes begun out₀ k₀ out k = begun - k
 
--- src/write.rt:32:5
 loop-holds : tie.Need-loop-holds Inv-loop μ-loop
-loop-holds c = ?
+loop-holds c =
+    let start = c .before in
+    (omega arith, put-none (placesTo (start .args .order .now) (start .args .outcomes .now)) (placeHere (start .args .order .now) (start .args .outcomes .now)) (places-none _ _) (places-more _ _) (now (start .args .out)) 6)
 
--- src/write.rt:33:38
 element-copy-out-outcome-number : tie.Need-element-copy-out-outcome-number Inv-loop μ-loop
-element-copy-out-outcome-number c = ?
+element-copy-out-outcome-number c = search needs
 
--- src/write.rt:33:13
 outcome-number-requires : tie.Need-outcome-number-requires Inv-loop μ-loop
-outcome-number-requires c κs = ?
+outcome-number-requires c κs = search needs
 
--- src/write.rt:34:28
 mul-put-place : tie.Need-mul-put-place Inv-loop μ-loop
-mul-put-place c = ?
+mul-put-place c = search needs
 
--- src/write.rt:34:24
 add-put-place : tie.Need-add-put-place Inv-loop μ-loop
-add-put-place c = ?
+add-put-place c = search needs
 
--- src/write.rt:34:35
 mul-put-place-2 : tie.Need-mul-put-place-2 Inv-loop μ-loop
-mul-put-place-2 c = ?
+mul-put-place-2 c = search needs
 
--- src/write.rt:34:35
 element-copy-out-put-place : tie.Need-element-copy-out-put-place Inv-loop μ-loop
-element-copy-out-put-place c = ?
+element-copy-out-put-place c = search needs
 
--- src/write.rt:34:9
 put-place-requires : tie.Need-put-place-requires Inv-loop μ-loop
-put-place-requires c κs = ?
+put-place-requires c κs = search needs
 
--- src/write.rt:35:9
 add-k : tie.Need-add-k Inv-loop μ-loop
-add-k c = ?
+add-k c = search needs
 
--- src/write.rt:32:5
 loop-less : tie.Need-loop-less Inv-loop μ-loop
-loop-less c = ?
+loop-less c = search needs
 
--- src/write.rt:32:5
 loop-again : tie.Need-loop-again Inv-loop μ-loop
-loop-again c = ?
+loop-again c =
+    let start = c .before .before .before .before .before .before .before .before .before .before in
+    let at = c .before .before .before .before .before .before .before .before .loop in
+    let put = c .before .before .put-place in
+    let room = places-bytes (start .args .order .now) (start .args .outcomes .now) (start .args .begun) in
+    (omega arith, put-more (placesTo (start .args .order .now) (start .args .outcomes .now)) (placeHere (start .args .order .now) (start .args .outcomes .now)) (places-none _ _) (places-more _ _) (now (start .args .out)) 6 (start .args .begun) (omega (arith, start .pre .1)) (at .k) (omega arith) (at .out) (6 + 8 * at .k) (at .inv .1) (put .last .0) _ (put .kept .0) (put .ensures ∙ ap (λ (o : ℕ). placed (at .out) (6 + 8 * at .k) (u16Bytes 6 ++ u16Bytes 32 ++ u16Bytes (getD (start .args .order .now) (at .k) 0) ++ u16Bytes o)) (c .before .before .before .before .before .outcome-number .ensures)) (omega arith))
 
--- src/write.rt:26:1
 same-length : tie.Need-same-length Inv-loop μ-loop
-same-length c = ?
+same-length c = c .before .loop .inv .1 .long
 
--- src/write.rt:26:1
 returns : tie.Need-returns Inv-loop μ-loop
-returns c = ?
+returns c =
+    let start = c .before .before .before in
+    let at = c .before .loop in
+    let e : at .k ≡ start .args .begun = omega (arith, at .inv .0) in
+    rw e at (at .inv .1 .holds)
 
 pub put-places-spec : {M : Type 1} → statement M
 put-places-spec =
