@@ -1,6 +1,6 @@
 -- What the questions of columns say of the history, and how the arrays of a reading and the tables of the history fit together.
 -- Assumes nothing.
-use Prim.Native.Nat.{ℕ, zero, suc, _+_, _≤_, _<_}
+use Prim.Native.Nat.{ℕ, zero, suc, _≤_, _<_}
 use native.Mathlib.Nat.{le-step, lt-suc-self, lt-of-not-le}
 use native.Mathlib.Decide.{decLe}
 use native.Mathlib.Omega.{arith}
@@ -26,8 +26,9 @@ use Rattle.links.specs.Writes.{Links, Reads}
 use Rattle.links.proofs.WriteLaws.{store-read-table}
 use Rattle.rules.specs.Judge.{content as inArrays, Ground, Given}
 use Rattle.marking.specs.declared.read.Reading.{Reading}
-use Rattle.marking.specs.File.{known}
-use Rattle.marking.specs.State.{knownBy, pointsOf, soFar, Kept}
+use Rattle.marking.specs.File.{Known, known, content, refused, fileRead}
+use Rattle.marking.specs.State.{knownBy, pointsOf, soFar, readAs, Kept}
+use Rattle.marking.proofs.WalkLaws.{refused-as, content-as}
 
 -- ---- a readable history
 
@@ -122,3 +123,12 @@ module _ (c : Columns) (n b : ℕ) (link : List ℕ) (reads : List Bool) (count 
           ordered = rw count at (kept .ordered);
           gaps-fit = λ i l s. (let f = kept .gaps-fit i l (reads-same i ∙ s) in let e = count in omega arith);
         }
+
+    -- what the reading says of the file
+    module _ (file : List ℕ) (answer : readAs n b r ≡ fileRead (knownBy reads n b) file) where
+      pub reading-content : r .question ≡ 0 → fileRead (known (history c n)) file ≡ content (inArrays (history c n) (r .order) (r .outcomes) (r .gaps))
+      reading-content e = ap (λ (k : Known). fileRead k file) (sym known-same) ∙ (sym answer ∙ (content-as n b r e ∙ ap content (sym arrays-so)))
+
+  pub reading-refused : (r : Reading) (file : List ℕ) → readAs n b r ≡ fileRead (knownBy reads n b) file → (r .question ≡ 0 → ⊥)
+      → fileRead (known (history c n)) file ≡ refused (r .question) (r .byte)
+  reading-refused r file answer z = ap (λ (k : Known). fileRead k file) (sym known-same) ∙ (sym answer ∙ refused-as n b r (r .question) (r .byte) refl refl z)

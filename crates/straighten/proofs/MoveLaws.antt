@@ -4,7 +4,6 @@
 use Prim.Native.Nat.{ℕ, zero, suc, _≤_, _<_}
 use native.Mathlib.Nat.{le-step, lt-suc-self, lt-of-not-le}
 use native.Mathlib.Decide.{decLe}
-use native.Mathlib.Omega.{arith}
 use mathlib.Core.Path.{_≡_, refl, sym, ap, ap₂, _∙_}
 use mathlib.Core.Bool.{Bool, true, false, not, cond}
 use mathlib.Core.List.{List, [], _∷_, _++_, map}
@@ -18,12 +17,12 @@ use Rattle.events.specs.Columns.{Columns, history}
 use Rattle.events.proofs.ListLaws.{and-l, and-r, and-i, keep-append, clash}
 use Rattle.events.proofs.ColumnLaws.{history-length}
 use Rattle.opacity.specs.Transactions.{isStoreRead, storeReads}
-use Rattle.opacity.specs.Marking.{Marking, Point, ReadableFor, gapOf, placeOf, ruleHolds}
+use Rattle.opacity.specs.Marking.{Marking, ReadableFor, gapOf, placeOf}
 use Rattle.links.specs.Tables.{Slots}
 use Rattle.links.specs.declared.tables.Fact.the-variants.{LastWrite}
 use Rattle.rules.specs.Orders.{Inverse, Writers}
 use Rattle.rules.specs.Judge.{content, Given, readRuleBy}
-use Rattle.rules.proofs.JudgeLaws.{orderIn, place-le, gap-same, reader-same, d-same, e-same}
+use Rattle.rules.proofs.JudgeLaws.{place-le, gap-same, reader-same, d-same, e-same}
 use Rattle.marking.proofs.CheckLaws.{beyond-history}
 use Rattle.marking.proofs.ReadBack.{keep-passes}
 use Rattle.straighten.specs.Straight.{straightened, movedEvents}

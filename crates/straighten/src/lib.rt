@@ -4,7 +4,9 @@
 // succeeds exactly if outcomes and order justify the history, and that the checker accepts what it
 // writes (proofs/Theorems). Time is that of two checks.
 ghost use mathlib.Core.Path.{_≡_};
+ghost use lib.Dec.{leb};
 ghost use lib.ListN.{length};
+ghost use Rattle.events.specs.Lists.{_and_};
 ghost use Rattle.events.specs.Columns.{columns, history};
 ghost use Rattle.events.specs.Events.{begins};
 ghost use Rattle.opacity.specs.Counts.{HoldsReadable};
@@ -121,6 +123,16 @@ fn settle(
     }
 }
 
+// Question 15: is the output as long as the marking, and has the list an entry for every store read?
+fn has_room(marking: usize, output: usize, points: usize, entries: usize) -> bool
+    ensures { λ r. ⌜ r ≡ (leb marking output and leb points entries) ⌝ }
+{
+    if output < marking {
+        return false;
+    }
+    points <= entries
+}
+
 // The answer for a readable history: the marking's questions, 15, and then the rules.
 fn straighten_file(
     kinds: &[u16],
@@ -146,7 +158,7 @@ fn straighten_file(
         };
     }
     let points = counts::store_reads(kinds, transactions, registers, values, count);
-    if output.len() < file.len() || moved.len() < points {
+    if !has_room(file.len(), output.len(), points, moved.len()) {
         return Straightening::Refused {
             question: 15,
             event: count,

@@ -1,42 +1,41 @@
+-- `straighten::straighten` meets its contract.
+-- Assumes nothing.
+use mathlib.Core.Path.{sym, _∙_}
+use Rattle.events.specs.Columns.{columns}
+use Rattle.opacity.proofs.CountLaws.{checked-readable}
+use Rattle.straighten.specs.Answer.{straightenedFrom, straightenedAnswer}
 use borrow.Author.Needs.{needs}
 use Rattle.straighten.proofs.straighten.Statement.{statement}
 use Rattle.straighten.proofs.straighten.Tie as tie
-use Rattle.straighten.proofs.straighten.Reads as reads
-use Rattle.straighten.proofs.straighten.Lts as lts
-use Rattle.events.proofs.columns.check_columns.Reads as check-columns-reads
-use Rattle.straighten.proofs.straighten_file.Reads as straighten-file-reads
 
--- src/lib.rt:189:9
 check-columns-requires : tie.Need-check-columns-requires
 check-columns-requires c κs = search needs
 
--- src/lib.rt:191:28
 enum-known-checked : tie.Need-enum-known-checked
 enum-known-checked c = search needs
 
--- src/lib.rt:199:13
 enum-told : tie.Need-enum-told
 enum-told c = search needs
 
--- src/lib.rt:192:30
 straighten-file-requires : tie.Need-straighten-file-requires
-straighten-file-requires c κs = ?
+straighten-file-requires c κs =
+    let start = c .before .before .before .before .before .before .before .before .before .before .before .before in
+    let cs = columns (start .args .kinds .now) (start .args .transactions .now) (start .args .registers .now) (start .args .values .now) in
+    checked-readable cs (start .args .count) (sym (c .before .before .before .before .check-columns .ensures) ∙ c .before .before .enum-told .given .1)
 
--- src/lib.rt:177:1
 returns : tie.Need-returns
-returns c = ?
+unfolding straightenedAnswer straightenedFrom
+returns c = rw (sym (c .before .before .before .check-columns .ensures) ∙ c .before .checked .given .1)
 
--- src/lib.rt:177:1
 same-length : tie.Need-same-length
 same-length c = search needs
 
--- src/lib.rt:177:1
 same-length-2 : tie.Need-same-length-2
 same-length-2 c = search needs
 
--- src/lib.rt:177:1
 returns-2 : tie.Need-returns-2
-returns-2 c = ?
+unfolding straightenedAnswer straightenedFrom
+returns-2 c = rw (sym (c .before .before .before .before .before .before .before .before .before .check-columns .ensures) ∙ c .before .before .before .before .before .before .before .enum-told .given .1) (c .before .before .before .before .straighten-file .ensures)
 
 pub straighten-spec : {M : Type 1} → statement M
 straighten-spec =

@@ -1,17 +1,14 @@
 -- `marking::check::check_file` meets its contract.
 -- Assumes nothing.
-use mathlib.Core.Path.{refl, sym, ap, _∙_}
+use mathlib.Core.Path.{sym, ap, _∙_}
 use native.Mathlib.Omega.{arith}
 use Rattle.events.specs.Columns.{columns, history}
-use Rattle.opacity.specs.Marking.{verdict}
 use Rattle.links.proofs.WriteLaws.{links-back}
 use Rattle.opacity.specs.Justification.{zeros}
 use Rattle.rules.proofs.JudgeLaws.{ground-tabled}
 use Rattle.marking.specs.declared.check.Judged.the-variants.{Ruled}
-use Rattle.marking.specs.File.{Known, fileRead}
 use Rattle.marking.specs.Answer.{ruled}
-use Rattle.marking.proofs.WalkLaws.{refused-as, content-as}
-use Rattle.marking.proofs.CheckLaws.{none-beyond, known-same, arrays-so, given}
+use Rattle.marking.proofs.CheckLaws.{none-beyond, given, reading-refused, reading-content}
 use Rattle.marking.proofs.check.check_file.Statement.{statement}
 use Rattle.marking.proofs.check.check_file.Tie as tie
 
@@ -39,10 +36,7 @@ returns : tie.Need-returns
 returns c =
     let start = c .before .before .before .before .before .before .before .before .before .before .before .before .before in
     let cs = columns (start .args .kinds .now) (start .args .transactions .now) (start .args .registers .now) (start .args .values .now) in
-    let eb = c .before .before .before .before .before .before .before .transactions-begun .ensures in
-    let ks = known-same cs (start .args .count) (c .before .before .before .before .before .before .before .transactions-begun .result) (c .before .before .before .before .before .before .links .result) (c .before .before .before .before .store-reads .result) eb (c .before .before .before .before .before .before .links .ensures) (c .before .before .before .before .store-reads .ensures) in
-    let q = refused-as (start .args .count) (c .before .before .before .before .before .before .before .transactions-begun .result) (c .before .before .read-marking .result) ((c .before .before .read-marking .result) .question) ((c .before .before .read-marking .result) .byte) refl refl (c .if1 .taken) in
-    sym (ap (ruled zeros (history cs (start .args .count))) (ap (λ (k : Known). fileRead k (start .args .file .now)) (sym ks) ∙ (sym (c .before .before .read-marking .ensures .0) ∙ q)))
+    sym (ap (ruled zeros (history cs (start .args .count))) (reading-refused cs (start .args .count) (c .before .before .before .before .before .before .before .transactions-begun .result) (c .before .before .before .before .before .before .links .result) (c .before .before .before .before .store-reads .result) (c .before .before .before .before .before .before .before .transactions-begun .ensures) (c .before .before .before .before .before .before .links .ensures) (c .before .before .before .before .store-reads .ensures) (c .before .before .read-marking .result) (start .args .file .now) (c .before .before .read-marking .ensures .0) (c .if1 .taken)))
 
 judge-requires : tie.Need-judge-requires
 judge-requires c κs =
@@ -55,12 +49,10 @@ returns-2 : tie.Need-returns-2
 returns-2 c =
     let start = c .before .before .before .before .before .before .before .before .before .before .before .before .before .before .before .before .before .before .before .before .before .before in
     let cs = columns (start .args .kinds .now) (start .args .transactions .now) (start .args .registers .now) (start .args .values .now) in
-    let eb = c .before .before .before .before .before .before .before .before .before .before .before .before .before .before .before .before .transactions-begun .ensures in
-    let ks = known-same cs (start .args .count) (c .before .before .before .before .before .before .before .before .before .before .before .before .before .before .before .before .transactions-begun .result) (c .before .before .before .before .before .before .before .before .before .before .before .before .before .before .before .links .result) (c .before .before .before .before .before .before .before .before .before .before .before .before .before .store-reads .result) eb (c .before .before .before .before .before .before .before .before .before .before .before .before .before .before .before .links .ensures) (c .before .before .before .before .before .before .before .before .before .before .before .before .before .store-reads .ensures) in
-    let q = content-as (start .args .count) (c .before .before .before .before .before .before .before .before .before .before .before .before .before .before .before .before .transactions-begun .result) (c .before .before .before .before .before .before .before .before .before .before .before .read-marking .result) (c .before .before .before .before .before .before .before .before .before .if1 .left) in
-    let s = arrays-so cs (start .args .count) (c .before .before .before .before .before .before .before .before .before .before .before .before .before .before .before .before .transactions-begun .result) (c .before .before .before .before .before .before .before .before .before .before .before .before .before .before .before .links .result) (c .before .before .before .before .before .before .before .before .before .before .before .before .before .store-reads .result) eb (c .before .before .before .before .before .before .before .before .before .before .before .before .before .before .before .links .ensures) (c .before .before .before .before .before .before .before .before .before .before .before .before .before .store-reads .ensures) (c .before .before .before .before .before .before .before .before .before .before .before .read-marking .result) (c .before .before .before .before .before .before .before .before .before .before .before .read-marking .ensures .1 (c .before .before .before .before .before .before .before .before .before .if1 .left)) in
-    ap Ruled (c .judge .ensures ∙ ap (verdict zeros (history cs (start .args .count))) s)
-    ∙ sym (ap (ruled zeros (history cs (start .args .count))) (ap (λ (k : Known). fileRead k (start .args .file .now)) (sym ks) ∙ (sym (c .before .before .before .before .before .before .before .before .before .before .before .read-marking .ensures .0) ∙ q)))
+    let reading = c .before .before .before .before .before .before .before .before .before .before .before .read-marking in
+    let whole = c .before .before .before .before .before .before .before .before .before .if1 .left in
+    ap Ruled (c .judge .ensures)
+    ∙ sym (ap (ruled zeros (history cs (start .args .count))) (reading-content cs (start .args .count) (c .before .before .before .before .before .before .before .before .before .before .before .before .before .before .before .before .transactions-begun .result) (c .before .before .before .before .before .before .before .before .before .before .before .before .before .before .before .links .result) (c .before .before .before .before .before .before .before .before .before .before .before .before .before .store-reads .result) (c .before .before .before .before .before .before .before .before .before .before .before .before .before .before .before .before .transactions-begun .ensures) (c .before .before .before .before .before .before .before .before .before .before .before .before .before .before .before .links .ensures) (c .before .before .before .before .before .before .before .before .before .before .before .before .before .store-reads .ensures) (reading .result) (reading .ensures .1 whole) (start .args .file .now) (reading .ensures .0) whole))
 
 pub check-file-spec : {M : Type 1} → statement M
 check-file-spec =

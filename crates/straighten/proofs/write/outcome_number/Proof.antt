@@ -1,6 +1,5 @@
 -- `straighten::write::outcome_number` meets its contract.
 -- Assumes nothing.
-use mathlib.Core.Path.{refl}
 use borrow.Author.Tests.{eq-eqb, ne-eqb}
 use Rattle.straighten.proofs.write.outcome_number.Statement.{statement}
 use Rattle.straighten.proofs.write.outcome_number.Tie as tie

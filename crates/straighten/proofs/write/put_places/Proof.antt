@@ -2,12 +2,12 @@
 -- Assumes nothing.
 use Prim.Native.Nat.{ℕ, _+_, _*_, _-_, _≤_}
 use mathlib.Core.Path.{_≡_, ap, _∙_}
-use mathlib.Core.List.{List, _++_}
+use mathlib.Core.List.{_++_}
 use native.Mathlib.Omega.{arith}
-use lib.ListN.{length, getD}
+use lib.ListN.{getD}
 use denote.Ref.{now}
 use Rattle.events.specs.Bytes.{u16Bytes, placed}
-use Rattle.marking_writer.proofs.RunLaws.{Put, put-none, put-room, put-more}
+use Rattle.marking_writer.proofs.RunLaws.{Put, put-none, put-more}
 use Rattle.straighten.proofs.TableLaws.{placesTo, placeHere, places-none, places-more, places-bytes}
 use borrow.Author.Needs.{needs}
 use Rattle.straighten.proofs.write.put_places.Statement.{statement}
