@@ -1,6 +1,7 @@
 #!/bin/sh
-# Compiles the header as C99 and as C++, builds verdict.c against the static library, and compares what it prints for each folder of
-# captures/ with the report.txt there. The library is looked for in SENDOSHI_LIB_DIR, or else in target/staticlib.
+# Compiles the header as C99 and as C++, builds verdict.c against the static library, compares what it prints for each folder of
+# captures/ with the report.txt there, and has it straighten three markings. The library is looked for in SENDOSHI_LIB_DIR, or else
+# in target/staticlib.
 set -eu
 here=$(cd "$(dirname "$0")" && pwd)
 include=$here/../include
@@ -38,4 +39,19 @@ compare "$room/long" "$room/report"
 { cat "$here/captures/h0/capture.hst" && head -c 32680 /dev/zero; } >"$room/long/capture.hst"
 echo 'history refused 2 byte 88' >"$room/report"
 compare "$room/long" "$room/report"
-echo "verdict.c: $ran captures, each with the report expected"
+
+# The point at gap 2 is moved to its reader, which gives the marking of h0. That one is straight. The order of h7 justifies nothing: no
+# file is written.
+straighten() { # FOLDER LINE
+    rm -f "$room/straight"
+    "$room/verdict" "$here/captures/$1" "$room/straight" >"$room/printed"
+    { cat "$here/captures/$1/report.txt" && echo "$2"; } >"$room/report"
+    cmp "$room/printed" "$room/report"
+}
+straighten h0-gap-2 'straightened moved 1 event 9'
+cmp "$room/straight" "$here/captures/h0/capture.mrk"
+straighten h0 'straightened moved 0'
+cmp "$room/straight" "$here/captures/h0/capture.mrk"
+straighten h7 'straightened no'
+[ ! -e "$room/straight" ] || { echo 'h7: a marking was written' && exit 1; }
+echo "verdict.c: $ran captures, each with the report expected, and 3 markings straightened as expected"

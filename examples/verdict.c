@@ -6,7 +6,9 @@
  *     marking accepted
  *     opaque yes
  *
- * or what is refused, which rule the marking breaks, and which event leaves the history without a justification.
+ * or what is refused, which rule the marking breaks, and which event leaves the history without a justification. With a second
+ * argument the marking's read points are straightened: if its order is a justification, the result is written to the file of that name,
+ * and the events whose points were moved are printed.
  */
 #include <inttypes.h>
 #include <stdio.h>
@@ -19,6 +21,8 @@ enum { ROOM = SENDOSHI_MAX_FILE + 1 };
 
 static uint8_t history[ROOM];
 static uint8_t marking[ROOM];
+static uint8_t straight[ROOM];
+static uint32_t moved[SENDOSHI_MAX_EVENTS];
 static uint16_t kinds[SENDOSHI_MAX_EVENTS];
 static uint16_t transactions[SENDOSHI_MAX_EVENTS];
 static uint16_t registers[SENDOSHI_MAX_EVENTS];
@@ -46,6 +50,15 @@ static size_t load(const char *folder, const char *name, uint8_t *buffer)
     return bytes;
 }
 
+static void save(const char *path, const uint8_t *bytes, size_t length)
+{
+    FILE *file = fopen(path, "wb");
+    if (file == NULL || fwrite(bytes, 1, length, file) != length || fclose(file) != 0) {
+        fprintf(stderr, "%s cannot be written\n", path);
+        exit(2);
+    }
+}
+
 static void print_marking(uint64_t answer)
 {
     uint32_t code = sendoshi_code(answer);
@@ -71,10 +84,24 @@ static void print_opaque(uint64_t answer)
     }
 }
 
+static void print_straightened(uint64_t answer, const char *path)
+{
+    if (sendoshi_code(answer) != SENDOSHI_DONE) {
+        printf("straightened no\n");
+        return;
+    }
+    save(path, straight, sendoshi_straight_length(answer));
+    printf("straightened moved %" PRIu32, sendoshi_straight_moved(answer));
+    for (uint32_t i = 0; i < sendoshi_straight_moved(answer); i++) {
+        printf(" event %" PRIu32, moved[i]);
+    }
+    printf("\n");
+}
+
 int main(int argc, char **argv)
 {
-    if (argc != 2) {
-        fprintf(stderr, "usage: %s FOLDER\n", argv[0]);
+    if (argc != 2 && argc != 3) {
+        fprintf(stderr, "usage: %s FOLDER [STRAIGHTENED]\n", argv[0]);
         return 2;
     }
     size_t history_length = load(argv[1], "capture.hst", history);
@@ -89,5 +116,9 @@ int main(int argc, char **argv)
            sendoshi_place(sendoshi_store_reads(COLUMNS, count)));
     print_marking(sendoshi_check(COLUMNS, count, marking, marking_length));
     print_opaque(sendoshi_scan(COLUMNS, count));
+    if (argc == 3) {
+        print_straightened(sendoshi_straighten(COLUMNS, count, marking, marking_length, straight, ROOM, moved, SENDOSHI_MAX_EVENTS),
+                           argv[2]);
+    }
     return 0;
 }

@@ -15,7 +15,7 @@
  *   22    committed        yes           0                     0
  *   23    aborted          yes           0                     0
  *
- * Buffers are lent as a pointer and a length: the number of entries of a column, the number of bytes of a file or an output.
+ * Buffers are lent as a pointer and a length: the number of entries of a column or a list, the number of bytes of a file or an output.
  *
  * What a caller must see to, since no function can test it: each pointer is not NULL, is aligned for its type and is good for its
  * length (with length 0 nothing behind it is touched); a buffer that is written overlaps no other buffer of the same call. There
@@ -24,9 +24,9 @@
  *
  * What a caller can rely on, for every call:
  *   - a buffer passed as a pointer to const keeps its contents;
- *   - a call that refuses, or finds nothing, leaves every buffer as it was;
- *   - a call that is done changes a written buffer only up to what it returns, the event count or the length;
- *   - neither what stands in columns past the count, nor what an output held before, makes a difference to an answer.
+ *   - a call that refuses, finds nothing, or answers with a broken rule, leaves every buffer as it was;
+ *   - a call that is done changes a written buffer only up to what it returns, the event count, the length or the number moved;
+ *   - neither what stands in columns past the count, nor what an output or a list held before, makes a difference to an answer.
  */
 #ifndef SENDOSHI_H
 #define SENDOSHI_H
@@ -59,12 +59,14 @@ enum {
  *
  *   code        meaning                         place
  *   0           done                            the event count (read), the length (write, find), the number counted
- *                                               (transactions, store_reads), or 0 (scan: opaque; check: accepted)
+ *                                               (transactions, store_reads), the number moved * 65536 + the length
+ *                                               (straighten), or 0 (scan: opaque; check: accepted)
  *   1 to 99     refused by this question        the byte or the event, see below
  *   100         find: there is no               0
  *               justification
  *   101 to 104  scan: not opaque, cause 1 to 4  the last event of the first prefix without a justification
- *   201 to 205  check: rule A to E is broken    event * 65536 + transaction
+ *   201 to 205  check, straighten: rule A to E  event * 65536 + transaction
+ *               is broken (straighten: never D)
  *
  * Questions about files have a byte as their place: where the record begins, 0 for question 1 and for an empty file, the file's
  * length for 14, for 29 and for 28 at the end. All others have an event: its number, or the count for 15, 17, 18, 31 and 32. A
@@ -92,7 +94,7 @@ enum {
 
     /* Lent buffers and numbers. */
     SENDOSHI_COLUMN_TOO_SHORT = 14, /* read: a column is too short for the events of the file */
-    SENDOSHI_OUTPUT_TOO_SHORT = 15, /* write: the output is too short */
+    SENDOSHI_OUTPUT_TOO_SHORT = 15, /* write, straighten: the output is too short; straighten: the list is */
     SENDOSHI_STRAY_FIELD = 16,      /* columns: a field that the kind lacks is not 0, or an 18 has not its call's register */
     SENDOSHI_COUNT_TOO_LARGE = 17,  /* a column is shorter than the count */
     SENDOSHI_PREFIX_TOO_LONG = 18,  /* find: the prefix is longer than the count */
@@ -122,7 +124,7 @@ enum {
     SENDOSHI_RULE_A = 201, /* an outcome that the history does not allow; the lowest such transaction, its last event */
     SENDOSHI_RULE_B = 202, /* real time is not kept; the lowest transaction placed too early, its begin */
     SENDOSHI_RULE_C = 203, /* an own read that is wrong; the lowest such event */
-    SENDOSHI_RULE_D = 204, /* a writer between read point and reader; the lowest such event */
+    SENDOSHI_RULE_D = 204, /* a writer between read point and reader; the lowest such event; proved never to come of straighten */
     SENDOSHI_RULE_E = 205  /* another value than that before the read point; the lowest such event */
 };
 
@@ -148,6 +150,18 @@ static inline uint32_t sendoshi_rule_event(uint64_t answer)
 static inline uint32_t sendoshi_rule_transaction(uint64_t answer)
 {
     return sendoshi_place(answer) & 0xffffu;
+}
+
+/* The length of a straightened marking. */
+static inline uint32_t sendoshi_straight_length(uint64_t answer)
+{
+    return sendoshi_place(answer) & 0xffffu;
+}
+
+/* The number of read points that were moved. */
+static inline uint32_t sendoshi_straight_moved(uint64_t answer)
+{
+    return sendoshi_place(answer) >> 16;
 }
 
 /*
@@ -204,6 +218,25 @@ uint64_t sendoshi_check(const uint16_t *kinds, size_t kinds_length,
                         const uint32_t *values, size_t values_length,
                         size_t count,
                         const uint8_t *file, size_t file_length);
+
+/*
+ * Straightens the read points of a marking file of the first `count` events: keeps outcomes, order and every point that breaks
+ * neither rule D nor rule E, and moves each other point to its reader's place. Done: the number of points moved, and the length, which
+ * is that of the file. The marking is written from the output's first byte, the events of the moved points from the list's first
+ * entry, rising. sendoshi_check accepts the bytes written; a file that it accepts already comes back byte for byte, with no point
+ * moved. Else the first rule that is broken with the points so moved, A, B, C or E: outcomes and order are no justification.
+ * The output is a buffer of its own: a marking is not straightened in place.
+ * Refuses: 17; 4, 6 to 13 and 16 for each event in turn; then for the file 1, 2, 21; 2, 22 to 28 for each record in turn; 28; 29; then
+ * 15, if the output is shorter than the file or the list has fewer entries than sendoshi_store_reads counts.
+ */
+uint64_t sendoshi_straighten(const uint16_t *kinds, size_t kinds_length,
+                             const uint16_t *transactions, size_t transactions_length,
+                             const uint16_t *registers, size_t registers_length,
+                             const uint32_t *values, size_t values_length,
+                             size_t count,
+                             const uint8_t *file, size_t file_length,
+                             uint8_t *output, size_t output_length,
+                             uint32_t *moved, size_t moved_length);
 
 /*
  * Counts the transactions begun in the first `count` events.

@@ -3,13 +3,14 @@
 //! anything. The argument is the number of rounds.
 
 use outside::limits;
-use outside::marks::random_marking;
+use outside::marks::marked_history;
 use outside::random::Random;
 use outside::shapes::{is_judged_quickly, marking_size};
-use outside::walk::{walk, Shape};
 use outside::{coverage, damage};
 use reference::entries::{self, Answer};
 use reference::event::{Columns, Event};
+use reference::justification::Outcome::{Aborted, Committed};
+use reference::reads::store_reads;
 use reference::{history_file, worked};
 use sendoshi::{calls, ffi};
 use std::mem::MaybeUninit;
@@ -24,13 +25,14 @@ fn main() {
     }
     let h0 = reference::log::Log::h0().events;
     all_calls(&h0, &history_file::write(&h0), &worked::h0_marking());
+    let careless = worked::marking(&[(1, Aborted), (0, Committed)], &[(5, 2), (9, 2)]);
+    all_calls(&h0, &history_file::write(&h0), &careless);
     println!("{} entries, {rounds} rounds and every limit", coverage::ENTRIES.len());
 }
 
 fn round(random: &mut Random) {
-    let shape = Shape::small(random);
-    let events = walk(random, shape);
-    let marking = random_marking(random, &events).to_bytes();
+    let (events, marking) = marked_history(random);
+    let marking = marking.to_bytes();
     all_calls(&events, &history_file::write(&events), &marking);
     let file = damage::file(random, history_file::write(&events));
     let marking = damage::file(random, marking);
@@ -47,6 +49,7 @@ fn all_calls(events: &[Event], file: &[u8], marking: &[u8]) {
     assert_eq!(plain(calls::check(exact.view(), count, &marking)), entries::check(&columns, count, &marking));
     assert_eq!(plain(calls::transactions(exact.view(), count)), entries::transactions(&columns, count));
     assert_eq!(plain(calls::store_reads(exact.view(), count)), entries::store_reads(&columns, count));
+    straighten(&columns, count, &marking, store_reads(events).count());
     if is_judged_quickly(events) {
         assert_eq!(plain(calls::scan(exact.view(), count)), entries::scan(&columns, count));
         output_call(ffi_find, |output| entries::find(&columns, count, count, output), &columns, count, marking_size(events));
@@ -145,6 +148,24 @@ fn output_call(
     }
 }
 
+/// The straightener: with an output and a list that are just long enough, and with either of them one too short.
+fn straighten(columns: &Columns, count: usize, file: &[u8], points: usize) {
+    let one_less = (file.len().saturating_sub(1), points.saturating_sub(1));
+    for (length, entries) in [(file.len(), points), (one_less.0, points), (file.len(), one_less.1)] {
+        let exact = Exact::new(columns);
+        let mut output = Box::<[u8]>::new_uninit_slice(length);
+        let mut list = Box::<[u32]>::new_uninit_slice(entries);
+        let got = sendoshi::Answer::of(ffi_straighten(exact.view(), count, file, &mut output, &mut list));
+        let (mut expected, mut expected_list) = (vec![0; length], vec![0; entries]);
+        assert_eq!(plain(got), entries::straighten(columns, count, file, &mut expected, &mut expected_list));
+        if got.code == 0 {
+            let (moved, length) = got.halves();
+            assert_eq!(set(&output, length), expected[..length]);
+            assert_eq!(set(&list, moved), expected_list[..moved]);
+        }
+    }
+}
+
 fn ffi_write(c: sendoshi::Columns, count: usize, output: &mut [MaybeUninit<u8>]) -> u64 {
     // SAFETY: pointers and lengths are those of slices.
     unsafe {
@@ -180,6 +201,35 @@ fn ffi_find(c: sendoshi::Columns, count: usize, output: &mut [MaybeUninit<u8>]) 
             count,
             output.as_mut_ptr().cast(),
             output.len(),
+        )
+    }
+}
+
+fn ffi_straighten(
+    c: sendoshi::Columns,
+    count: usize,
+    file: &[u8],
+    output: &mut [MaybeUninit<u8>],
+    list: &mut [MaybeUninit<u32>],
+) -> u64 {
+    // SAFETY: pointers and lengths are those of slices.
+    unsafe {
+        ffi::sendoshi_straighten(
+            c.kinds.as_ptr(),
+            c.kinds.len(),
+            c.transactions.as_ptr(),
+            c.transactions.len(),
+            c.registers.as_ptr(),
+            c.registers.len(),
+            c.values.as_ptr(),
+            c.values.len(),
+            count,
+            file.as_ptr(),
+            file.len(),
+            output.as_mut_ptr().cast(),
+            output.len(),
+            list.as_mut_ptr().cast(),
+            list.len(),
         )
     }
 }

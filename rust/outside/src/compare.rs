@@ -7,6 +7,7 @@ use reference::event::Columns;
 use sendoshi::calls;
 
 const BYTE: u8 = 0xa5;
+const EVENT: u32 = 0xc35a_a53c;
 
 fn same(entry: Entry, got: sendoshi::Answer, expected: Answer, coverage: &mut Coverage) -> Answer {
     let got = Answer { code: got.code, place: got.place };
@@ -65,6 +66,28 @@ pub fn check(columns: &Columns, count: usize, file: &[u8], coverage: &mut Covera
     let answer = same(Entry::Check, got, entries::check(columns, count, file), coverage);
     assert!(lent.hold(columns), "check changed its columns");
     assert!(lent_file.holds(file), "check changed its file");
+    answer
+}
+
+/// Straightens a marking into an output and a list that hold something already.
+pub fn straighten(
+    columns: &Columns,
+    count: usize,
+    file: &[u8],
+    output: &mut [u8],
+    list: &mut [u32],
+    coverage: &mut Coverage,
+) -> Answer {
+    let lent = LentColumns::new(columns);
+    let lent_file = Lent::new(file, BYTE);
+    let mut lent_output = Lent::new(output, BYTE);
+    let mut lent_list = Lent::new(list, EVENT);
+    let got = calls::straighten(lent.view(), count, lent_file.slice(), lent_output.slice_mut(), lent_list.slice_mut());
+    let answer = same(Entry::Straighten, got, entries::straighten(columns, count, file, output, list), coverage);
+    assert!(lent.hold(columns), "straighten changed its columns");
+    assert!(lent_file.holds(file), "straighten changed its file");
+    assert!(lent_output.holds(output), "straighten left another output than it should");
+    assert!(lent_list.holds(list), "straighten left another list than it should");
     answer
 }
 

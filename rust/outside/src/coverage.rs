@@ -10,6 +10,7 @@ pub enum Entry {
     Find,
     Scan,
     Check,
+    Straighten,
     Transactions,
     StoreReads,
 }
@@ -40,7 +41,7 @@ impl Coverage {
         assert!(missing.is_empty(), "{entry:?} never answered with {missing:?}; it answered\n{self}");
     }
 
-    /// Fails if an entry has answered with a code that it has not: the scan with cause 4, say.
+    /// Fails if an entry has answered with a code that it has not: the scan with cause 4, say, or the straightener with rule D.
     pub fn allow(&self) {
         for &(entry, code) in self.met.keys() {
             let known = judgements(entry).contains(&code) || refusals(entry).contains(&code);
@@ -61,6 +62,9 @@ impl fmt::Display for Coverage {
 /// The questions that columns and their events are asked by every entry but the reader.
 const COLUMNS: [u32; 11] = [4, 6, 7, 8, 9, 10, 11, 12, 13, 16, 17];
 
+/// The questions that a marking is asked.
+const MARKING: [u32; 11] = [1, 2, 21, 22, 23, 24, 25, 26, 27, 28, 29];
+
 /// The questions that an entry can answer with no.
 pub fn refusals(entry: Entry) -> Vec<u32> {
     let own: Vec<u32> = match entry {
@@ -68,21 +72,32 @@ pub fn refusals(entry: Entry) -> Vec<u32> {
         Entry::Write => vec![15],
         Entry::Find => vec![18, 31, 32],
         Entry::Scan => vec![31],
-        Entry::Check => [1, 2].into_iter().chain(21..=29).collect(),
+        Entry::Check => MARKING.to_vec(),
+        Entry::Straighten => [&MARKING[..], &[15]].concat(),
         Entry::Transactions | Entry::StoreReads => vec![],
     };
     [&COLUMNS[..], &own].concat()
 }
 
-/// The other codes that an entry can answer with. The scan's cause 4 is not among them: no readable history has it.
+/// The other codes that an entry can answer with. The scan's cause 4 is not among them: no readable history has it. Nor is rule D among
+/// those of a straightened marking: nothing lies between a reader and a point at its place.
 pub fn judgements(entry: Entry) -> &'static [u32] {
     match entry {
         Entry::Find => &[0, 100],
         Entry::Scan => &[0, 101, 102, 103],
         Entry::Check => &[0, 201, 202, 203, 204, 205],
+        Entry::Straighten => &[0, 201, 202, 203, 205],
         _ => &[0],
     }
 }
 
-pub const ENTRIES: [Entry; 7] =
-    [Entry::Read, Entry::Write, Entry::Find, Entry::Scan, Entry::Check, Entry::Transactions, Entry::StoreReads];
+pub const ENTRIES: [Entry; 8] = [
+    Entry::Read,
+    Entry::Write,
+    Entry::Find,
+    Entry::Scan,
+    Entry::Check,
+    Entry::Straighten,
+    Entry::Transactions,
+    Entry::StoreReads,
+];

@@ -1,6 +1,8 @@
 //! Random markings, and markings that are not quite what they were.
 
 use crate::random::Random;
+use crate::simulate::{simulate, Plan};
+use crate::walk::{walk, Shape};
 use reference::event::*;
 use reference::justification::{is_allowed, place_of, Outcome, Place};
 use reference::marking_file::{Marking, Point};
@@ -31,6 +33,57 @@ fn random_place(random: &mut Random, history: &[Event], transaction: u16) -> Pla
         Outcome::Aborted => Place { transaction, outcome: Outcome::Committed },
         Outcome::Committed => Place { transaction, outcome: Outcome::Aborted },
     }
+}
+
+/// The same outcomes and order with careless read points: most of them at a random gap.
+pub fn careless(random: &mut Random, mut marking: Marking) -> Marking {
+    let gaps = marking.places.len() + 1;
+    for point in &mut marking.points {
+        if random.chance(80) {
+            point.gap = random.below(gaps) as u16;
+        }
+    }
+    marking
+}
+
+/// A small history and a marking of it: a walk with a random marking, or what a transactional memory does, in the right order with
+/// careless read points.
+pub fn marked_history(random: &mut Random) -> (Vec<Event>, Marking) {
+    if random.chance(50) {
+        let shape = Shape::small(random);
+        let events = walk(random, shape);
+        let marking = random_marking(random, &events);
+        return (events, marking);
+    }
+    let plan = Plan::small(random);
+    let events = simulate(random, plan);
+    let order = in_effect(random, &events);
+    let marking = careless(random, order);
+    (events, marking)
+}
+
+/// The marking of a log of [`simulate`](crate::simulate) in the order in which its transactions took effect. It is a justification if
+/// nothing went wrong, and each unanswered commit is taken as what it was.
+pub fn in_effect(random: &mut Random, history: &[Event]) -> Marking {
+    let all = 0..transactions(history) as u16;
+    let mut effects: Vec<(usize, Place)> = all.map(|transaction| effect(random, history, transaction)).collect();
+    effects.sort_by_key(|&(event, _)| event);
+    let places: Vec<Place> = effects.into_iter().map(|(_, place)| place).collect();
+    Marking::of(history, &places)
+}
+
+/// A transaction with an allowed outcome, and the event at which it took effect: a committed one's call of commit, which is when its
+/// writes come into the store, and another's begin, when it found what it reads.
+fn effect(random: &mut Random, history: &[Event], transaction: u16) -> (usize, Place) {
+    let outcomes = [Outcome::Aborted, Outcome::Committed].map(|outcome| Place { transaction, outcome });
+    let allowed: Vec<Place> = outcomes.into_iter().filter(|&place| is_allowed(history, place)).collect();
+    let place = random.pick(&allowed);
+    let kind = match place.outcome {
+        Outcome::Aborted => BEGIN,
+        Outcome::Committed => COMMIT_CALLED,
+    };
+    let event = history.iter().position(|e| e.kind == kind && e.transaction == transaction);
+    (event.expect("a transaction begins, and calls commit before it has committed"), place)
 }
 
 /// A readable marking changed in one place, still readable.

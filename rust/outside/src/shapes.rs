@@ -1,4 +1,4 @@
-//! Columns and outputs of odd lengths that hold something already, and what the brute force can judge in good time.
+//! Columns, outputs and lists of odd lengths that hold something already, and what the brute force can judge in good time.
 
 use crate::random::Random;
 use reference::event::{Columns, Event};
@@ -40,13 +40,23 @@ pub fn columns_for(random: &mut Random, events: usize) -> Columns {
 
 /// An output for so many bytes, full of other things: some too short, most long enough.
 pub fn output_for(random: &mut Random, bytes: usize) -> Vec<u8> {
-    let length = match random.below(20) {
-        0 => bytes.saturating_sub(1),
-        1 => random.below(bytes + 1),
-        2..=12 => bytes,
-        _ => bytes + random.below(20),
-    };
+    let length = length_for(random, bytes);
     (0..length).map(|_| random.word() as u8).collect()
+}
+
+/// A list for so many events, full of other things: some too short, most long enough.
+pub fn list_for(random: &mut Random, events: usize) -> Vec<u32> {
+    let length = length_for(random, events);
+    (0..length).map(|_| random.word() as u32).collect()
+}
+
+fn length_for(random: &mut Random, needed: usize) -> usize {
+    match random.below(20) {
+        0 => needed.saturating_sub(1),
+        1 => random.below(needed + 1),
+        2..=12 => needed,
+        _ => needed + random.below(20),
+    }
 }
 
 /// The size of the marking of a prefix.

@@ -18,6 +18,20 @@ pub struct Plan {
     pub faults: Faults,
 }
 
+impl Plan {
+    /// A small memory, such as the brute force judges, in which nothing goes wrong.
+    pub fn small(random: &mut Random) -> Plan {
+        Plan {
+            transactions: random.pick(&[2, 3, 3, 4, 5]),
+            threads: random.pick(&[2, 2, 3]),
+            registers: random.pick(&[1, 1, 2, 3]),
+            events: 20 + random.below(20),
+            length: random.pick(&[3, 4]),
+            faults: Faults::default(),
+        }
+    }
+}
+
 /// What goes wrong, each in so many of a hundred cases.
 #[derive(Clone, Copy, Debug, Default)]
 pub struct Faults {

@@ -7,10 +7,11 @@ use outside::limits;
 use outside::marks::random_marking;
 use outside::random::Random;
 use outside::rounds;
-use outside::shapes::{columns_for, columns_of, is_judged_quickly, marking_size, output_for};
+use outside::shapes::{columns_for, columns_of, is_judged_quickly, list_for, marking_size, output_for};
 use outside::walk::{walk, Shape};
 use reference::event::{Columns, Event};
 use reference::log::Log;
+use reference::reads::store_reads;
 use reference::{history_file, record, worked};
 use std::sync::atomic::{AtomicU64, Ordering::Relaxed};
 
@@ -44,6 +45,7 @@ fn limits(coverage: &mut Coverage) {
         compare::write(&lent, count, &mut output, coverage);
         compare::counts(&lent, count, coverage);
         compare::check(&lent, count, &[4, 0, 2, 0, 1, 0], coverage);
+        compare::straighten(&lent, count, &[4, 0, 2, 0, 1, 0], &mut output, &mut vec![0xeeee; count], coverage);
         if is_judged_quickly(&events) {
             compare::scan(&lent, count, coverage);
             compare::find(&lent, count, count, &mut output, coverage);
@@ -56,7 +58,9 @@ fn limits(coverage: &mut Coverage) {
         compare::read(&file, &mut Columns::of(&events), coverage);
         let mut file = worked::h0_marking();
         file.resize(size, 0);
-        compare::check(&Columns::of(&events), events.len(), &file, coverage);
+        let lent = Columns::of(&events);
+        compare::check(&lent, events.len(), &file, coverage);
+        compare::straighten(&lent, events.len(), &file, &mut vec![0xee; size], &mut [0xeeee; 2], coverage);
     }
 }
 
@@ -89,6 +93,7 @@ fn file(random: &mut Random, events: &[Event], coverage: &mut Coverage) -> bool 
 
 fn columns(random: &mut Random, events: &[Event], coverage: &mut Coverage) {
     let marking = random_marking(random, events).to_bytes();
+    let marking = damage::file(random, marking);
     let events = damage::events(random, events.to_vec());
     let lent = columns_of(random, &events);
     let lent = damage::columns(random, lent);
@@ -103,7 +108,8 @@ fn columns(random: &mut Random, events: &[Event], coverage: &mut Coverage) {
     let mut output = output_for(random, 6 + 12 * events.len());
     compare::write(&lent, count, &mut output, coverage);
     compare::counts(&lent, count, coverage);
-    compare::check(&lent, count, &damage::file(random, marking), coverage);
+    compare::check(&lent, count, &marking, coverage);
+    straighten(random, &lent, count, &marking, coverage);
     if is_judged_quickly(&held(&lent, count)) {
         compare::scan(&lent, count, coverage);
     }
@@ -128,6 +134,15 @@ fn held(columns: &Columns, count: usize) -> Vec<Event> {
 fn marking(random: &mut Random, events: &[Event], coverage: &mut Coverage) -> bool {
     let sound = random_marking(random, events).to_bytes();
     let file = damage::file(random, sound.clone());
-    compare::check(&columns_of(random, events), events.len(), &file, coverage);
+    let lent = columns_of(random, events);
+    compare::check(&lent, events.len(), &file, coverage);
+    straighten(random, &lent, events.len(), &file, coverage);
     file != sound
+}
+
+/// With an output and a list that are perhaps too short, so that question 15 meets those before it.
+fn straighten(random: &mut Random, lent: &Columns, count: usize, file: &[u8], coverage: &mut Coverage) {
+    let mut output = output_for(random, file.len());
+    let mut list = list_for(random, store_reads(&held(lent, count)).count());
+    compare::straighten(lent, count, file, &mut output, &mut list, coverage);
 }

@@ -1,13 +1,17 @@
 //! Every readable history of a few events on two threads, one register and the values 0 and 1: judged as the brute force judges it. Of
-//! those that have store reads, every marking gets its verdict.
+//! those that have store reads, and of some longer ones, every marking gets its verdict and is straightened.
 
 use outside::compare;
 use outside::coverage::{judgements, Coverage, Entry};
+use outside::straight;
 use reference::event::*;
+use reference::justification::is_justification;
+use reference::log::Log;
 use reference::marking_file::{Marking, Point};
 use reference::orders::{all_orders, all_outcomes};
 use reference::questions::refused_in_columns;
 use reference::reads::{store_reads, transactions};
+use sendoshi::Answer;
 use std::thread;
 
 const MOST_EVENTS: usize = 7;
@@ -34,6 +38,21 @@ fn every_small_history_is_judged_alike() {
     met.require(Entry::Scan, &[0, 101]); // so few events are faulted by a read only
     met.require(Entry::Find, judgements(Entry::Find));
     met.require(Entry::Check, judgements(Entry::Check));
+    met.require(Entry::Straighten, judgements(Entry::Straighten));
+}
+
+/// Histories with more writers and more reads: a point may be right at one gap, at some or at all.
+#[test]
+fn every_marking_of_some_longer_histories_is_judged_alike() {
+    let begun = (0..4).fold(Log::new(), |log, thread| log.begin(thread));
+    let written = begun.write(0, 0, 1).write(1, 0, 2).write(1, 1, 5).commit(0).commit_called(1);
+    let read = written.read(2, 0, 1).read(2, 1, 0).read(3, 0, 2);
+    let mut met = Coverage::default();
+    [Log::h0(), Log::h7(), read].iter().for_each(|log| judge_markings(&log.events, &mut met));
+    println!("{met}");
+    met.allow();
+    met.require(Entry::Check, &[0, 201, 204, 205]);
+    met.require(Entry::Straighten, &[0, 201, 205]);
 }
 
 /// All readable histories of at most so many events.
@@ -80,12 +99,27 @@ fn judge(history: &[Event], coverage: &mut Coverage) {
     compare::scan(&columns, count, coverage);
     compare::find(&columns, count, count, &mut output, coverage);
     if store_reads(history).next().is_some() {
-        for places in all_outcomes(transactions(history)).flat_map(all_orders) {
-            for marking in all_gaps(history, Marking { places, points: vec![] }) {
-                compare::check(&columns, count, &marking.to_bytes(), coverage);
-            }
+        judge_markings(history, coverage);
+    }
+}
+
+/// Every order with every outcome and every gap.
+fn judge_markings(history: &[Event], coverage: &mut Coverage) {
+    let columns = Columns::of(history);
+    for places in all_outcomes(transactions(history)).flat_map(all_orders) {
+        for marking in all_gaps(history, Marking { places, points: vec![] }) {
+            compare::check(&columns, history.len(), &marking.to_bytes(), coverage);
+            straighten(history, &columns, &marking, coverage);
         }
     }
+}
+
+fn straighten(history: &[Event], columns: &Columns, marking: &Marking, coverage: &mut Coverage) {
+    let (mut output, mut list) = ([0xee; 128], [0xeeee; 8]);
+    let answer = compare::straighten(columns, history.len(), &marking.to_bytes(), &mut output, &mut list, coverage);
+    assert_eq!(answer.code == 0, is_justification(history, &marking.places), "a justification is straightened, and nothing else");
+    let answer = Answer { code: answer.code, place: answer.place };
+    straight::keeps_its_promises(columns, history, marking, answer, &output, &list);
 }
 
 /// The markings of an order with every gap for each store read.

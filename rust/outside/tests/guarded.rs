@@ -4,13 +4,13 @@
 use outside::damage;
 use outside::guarded::{Guarded, Side};
 use outside::limits;
-use outside::marks::random_marking;
+use outside::marks::marked_history;
 use outside::random::Random;
 use outside::rounds;
-use outside::shapes::{columns_for, columns_of, marking_size, output_for};
-use outside::walk::{walk, Shape};
+use outside::shapes::{columns_for, columns_of, list_for, marking_size, output_for};
 use reference::event::{Columns as Held, Event};
 use reference::history_file;
+use reference::reads::store_reads;
 use sendoshi::{calls, Answer, Columns, ColumnsMut};
 use std::os::unix::process::ExitStatusExt;
 use std::process::Command;
@@ -21,9 +21,8 @@ const SIDES: [Side; 2] = [Side::Before, Side::Behind];
 #[test]
 fn no_call_reaches_beyond_a_buffer() {
     rounds::run((rounds::rounds() / 20).max(1), |random, _| {
-        let shape = Shape::small(random);
-        let events = walk(random, shape);
-        let marking = random_marking(random, &events).to_bytes();
+        let (events, marking) = marked_history(random);
+        let marking = marking.to_bytes();
         all_calls(random, &events, &history_file::write(&events), &marking);
         let file = damage::file(random, history_file::write(&events));
         let marking = damage::file(random, marking);
@@ -61,6 +60,8 @@ fn all_calls(random: &mut Random, events: &[Event], file: &[u8], marking: &[u8])
     let lent = columns_for(random, count);
     let written = output_for(random, history_file::write(events).len());
     let found = output_for(random, marking_size(&events[..prefix]));
+    let straight = output_for(random, marking.len());
+    let moved = list_for(random, store_reads(events).count());
     for side in SIDES {
         read(side, file, &lent);
         let columns = GuardedColumns::new(&held, side);
@@ -71,6 +72,7 @@ fn all_calls(random: &mut Random, events: &[Event], file: &[u8], marking: &[u8])
         assert_eq!(calls::store_reads(columns.view(), count), calls::store_reads(view(&held), count));
         fill(side, &columns, &held, &written, |columns, output| calls::write(columns, count, output));
         fill(side, &columns, &held, &found, |columns, output| calls::find(columns, count, prefix, output));
+        straighten(side, &columns, &held, count, &marking_file, &straight, &moved);
         assert!(columns.hold(&held) && marking_file.slice() == marking, "a buffer that is only read has changed");
     }
 }
@@ -91,6 +93,16 @@ fn fill(side: Side, columns: &GuardedColumns, held: &Held, output: &[u8], call: 
     let mut plain = output.to_vec();
     assert_eq!(call(columns.view(), guarded.slice_mut()), call(view(held), &mut plain));
     assert_eq!(guarded.slice(), plain);
+}
+
+/// The straightener, which fills an output and a list.
+fn straighten(side: Side, columns: &GuardedColumns, held: &Held, count: usize, file: &Guarded<u8>, output: &[u8], list: &[u32]) {
+    let (mut guarded, mut guarded_list) = (Guarded::new(output, side), Guarded::new(list, side));
+    let (plain_file, mut plain, mut plain_list) = (file.slice().to_vec(), output.to_vec(), list.to_vec());
+    let expected = calls::straighten(view(held), count, &plain_file, &mut plain, &mut plain_list);
+    let answer = calls::straighten(columns.view(), count, file.slice(), guarded.slice_mut(), guarded_list.slice_mut());
+    assert_eq!(answer, expected);
+    assert_eq!((guarded.slice(), guarded_list.slice()), (&plain[..], &plain_list[..]));
 }
 
 fn view(held: &Held) -> Columns<'_> {

@@ -1,17 +1,20 @@
 //! Random small histories and their prefixes: what the library says of them is what the brute force says.
 
 use outside::compare;
-use outside::coverage::{judgements, Coverage, ENTRIES};
-use outside::marks::{changed, random_marking};
+use outside::coverage::{judgements, Coverage, Entry, ENTRIES};
+use outside::marks::{careless, changed, random_marking};
 use outside::random::Random;
 use outside::rounds;
-use outside::shapes::{columns_for, columns_of, marking_size, output_for};
+use outside::shapes::{columns_for, columns_of, list_for, marking_size, output_for};
 use outside::simulate::{simulate, Faults, Plan};
+use outside::straight;
 use outside::walk::{walk, Shape};
 use reference::entries::NONE;
 use reference::event::{Columns, Event};
 use reference::history_file;
+use reference::justification::is_justification;
 use reference::marking_file::Marking;
+use sendoshi::Answer;
 
 #[test]
 fn the_library_says_what_the_brute_force_says() {
@@ -36,6 +39,7 @@ fn the_library_says_what_the_brute_force_says() {
     // A few rounds, as where one seed is run again, need not meet everything.
     if rounds::rounds() >= 20_000 {
         ENTRIES.into_iter().for_each(|entry| met.require(entry, judgements(entry)));
+        met.require(Entry::Straighten, &[15]);
     }
 }
 
@@ -52,14 +56,7 @@ fn history(random: &mut Random) -> Vec<Event> {
         Faults { reads: 60, answers: 70, ..Faults::default() },
         Faults { reads: 20, commits: 100, answers: 20 },
     ];
-    let plan = Plan {
-        transactions: random.pick(&[2, 3, 3, 4, 5]),
-        threads: random.pick(&[2, 2, 3]),
-        registers: random.pick(&[1, 1, 2, 3]),
-        events: 20 + random.below(20),
-        length: random.pick(&[3, 4]),
-        faults: random.pick(&faults),
-    };
+    let plan = Plan { faults: random.pick(&faults), ..Plan::small(random) };
     simulate(random, plan)
 }
 
@@ -96,14 +93,34 @@ fn found(random: &mut Random, events: &[Event], columns: &Columns, prefix: usize
     Some(Marking::read(judged, file).expect("the finder's marking is readable"))
 }
 
-/// Verdicts on a random marking, and on markings that differ from another in one place.
+/// Verdicts on a random marking, on markings that differ from another in one place, and on a right order with careless read points;
+/// and what straightening makes of each.
 fn markings(random: &mut Random, judged: &[Event], columns: &Columns, lowest: Option<Marking>, coverage: &mut Coverage) {
     let guess = random_marking(random, judged);
-    compare::check(columns, judged.len(), &guess.to_bytes(), coverage);
-    let other = changed(random, guess);
-    compare::check(columns, judged.len(), &other.to_bytes(), coverage);
+    let mut all = vec![changed(random, guess.clone()), guess];
     if let Some(lowest) = lowest {
-        let near = changed(random, lowest);
-        compare::check(columns, judged.len(), &near.to_bytes(), coverage);
+        all.push(changed(random, lowest.clone()));
+        all.push(careless(random, lowest));
+    }
+    for marking in all {
+        compare::check(columns, judged.len(), &marking.to_bytes(), coverage);
+        straightened(random, judged, columns, &marking, coverage);
+    }
+}
+
+fn straightened(random: &mut Random, judged: &[Event], columns: &Columns, marking: &Marking, coverage: &mut Coverage) {
+    let file = marking.to_bytes();
+    let (mut output, mut list) = (output_for(random, file.len()), list_for(random, marking.points.len()));
+    let answer = compare::straighten(columns, judged.len(), &file, &mut output, &mut list, coverage);
+    let long_enough = output.len() >= file.len() && list.len() >= marking.points.len();
+    assert_eq!(answer.code != 15, long_enough, "question 15");
+    if long_enough {
+        assert_eq!(
+            answer.code == 0,
+            is_justification(judged, &marking.places),
+            "a justification is straightened, and nothing else"
+        );
+        let answer = Answer { code: answer.code, place: answer.place };
+        straight::keeps_its_promises(columns, judged, marking, answer, &output, &list);
     }
 }

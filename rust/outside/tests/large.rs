@@ -1,14 +1,17 @@
-//! Captures of up to 10 transactions and 2,048 events, too large for the brute force: the library against plain Rust.
+//! Captures of up to 2,048 events, with 10 transactions to judge or 64 to straighten, too large for the brute force: the library
+//! against plain Rust.
 
-use outside::marks::{changed, random_marking};
+use outside::coverage::{Coverage, Entry};
+use outside::marks::{careless, changed, in_effect, random_marking};
 use outside::random::Random;
 use outside::rounds;
 use outside::simulate::{simulate, Faults, Plan};
-use plain::{Scanned, Verdict};
+use outside::straight;
+use plain::{Scanned, Straightened, Verdict};
 use reference::event::{Columns as Held, Event};
 use reference::marking_file::Marking;
 use reference::{history_file, reads};
-use sendoshi::{Cause, Columns, History, Rule, Scan};
+use sendoshi::{calls, Cause, Columns, History, Rule, Scan};
 
 #[test]
 fn the_library_says_what_plain_rust_says() {
@@ -32,6 +35,52 @@ fn the_library_says_what_plain_rust_says() {
             verdicts(random, &history, &held, prefix, guess);
         }
     });
+}
+
+/// As many transactions as a history may have, and often as many events: the order in which they took effect, or nearly that, with
+/// careless read points.
+#[test]
+fn large_markings_are_straightened_as_in_plain_rust() {
+    let met = rounds::run((rounds::rounds() / 500).max(1), |random, coverage| {
+        let events = full_capture(random);
+        let order = in_effect(random, &events);
+        let order = if random.one_in(4) { changed(random, order) } else { order };
+        straightened(&events, &careless(random, order), coverage);
+    });
+    println!("{met}");
+    met.allow();
+    if rounds::rounds() >= 20_000 {
+        met.require(Entry::Straighten, &[0, 205]);
+    }
+}
+
+fn full_capture(random: &mut Random) -> Vec<Event> {
+    let faults = [Faults::default(), Faults::default(), Faults::default(), Faults { reads: 1, commits: 5, answers: 5 }];
+    let plan = Plan {
+        transactions: 64,
+        threads: 1 + random.below(16),
+        registers: random.pick(&[2, 8, 32]),
+        events: 2_048,
+        length: random.pick(&[10, 15, 20]),
+        faults: random.pick(&faults),
+    };
+    simulate(random, plan)
+}
+
+fn straightened(events: &[Event], marking: &Marking, coverage: &mut Coverage) {
+    let (held, file) = (Held::of(events), marking.to_bytes());
+    let (mut output, mut list) = (vec![0xee; file.len() + 10], vec![0xeeee; marking.points.len() + 1]);
+    let (mut other_output, mut other_list) = (output.clone(), list.clone());
+    let answer = calls::straighten(view(&held), events.len(), &file, &mut output, &mut list);
+    let other = plain::straighten(plain_view(&held), events.len(), &file, &mut other_output, &mut other_list).unwrap();
+    let expected = match other {
+        Straightened::Done { length, moved } => (0, moved * 65_536 + length),
+        Straightened::Broken(rule, event, transaction) => (201 + rule as u32 - 'A' as u32, event * 65_536 + transaction),
+    };
+    assert_eq!((answer.code, answer.place as usize), expected);
+    assert_eq!((&output, &list), (&other_output, &other_list));
+    straight::keeps_its_promises(&held, events, marking, answer, &output, &list);
+    coverage.note(Entry::Straighten, answer.code);
 }
 
 fn capture(random: &mut Random) -> Vec<Event> {

@@ -16,12 +16,17 @@ pub fn check(columns: Columns, count: usize, file: &[u8]) -> Result<Verdict, Ref
     columns.validate(count)?;
     let accesses = Accesses::of(columns, count);
     let marking = read_marking(file, &accesses)?;
-    let broken = outcomes(&accesses, &marking)
-        .or_else(|| real_time(&accesses, &marking))
-        .or_else(|| accesses.wrong_own_read.map(|at| ('C', at, usize::from(columns.transactions[at]))))
+    let broken = broken_order(columns, &accesses, &marking)
         .or_else(|| first_read(&accesses, &marking, 'D', overwritten))
         .or_else(|| first_read(&accesses, &marking, 'E', wrong_value));
     Ok(broken.map_or(Verdict::Accepted, |(rule, event, transaction)| Verdict::Broken(rule, event, transaction)))
+}
+
+/// The first of the rules A, B and C that is broken, which the read points have no part in.
+pub fn broken_order(columns: Columns, accesses: &Accesses, marking: &Marking) -> Option<(char, usize, usize)> {
+    outcomes(accesses, marking)
+        .or_else(|| real_time(accesses, marking))
+        .or_else(|| accesses.wrong_own_read.map(|at| ('C', at, usize::from(columns.transactions[at]))))
 }
 
 fn outcomes(accesses: &Accesses, marking: &Marking) -> Option<(char, usize, usize)> {
@@ -61,13 +66,15 @@ fn written(accesses: &Accesses, marking: &Marking, read: &StoreRead, transaction
     accesses.written[usize::from(transaction)][usize::from(read.register)]
 }
 
-fn overwritten(accesses: &Accesses, marking: &Marking, read: &StoreRead, gap: usize) -> bool {
+/// Rule D.
+pub fn overwritten(accesses: &Accesses, marking: &Marking, read: &StoreRead, gap: usize) -> bool {
     let reader = marking.place[usize::from(read.transaction)];
     let between = if gap <= reader { gap..reader } else { reader + 1..gap };
     marking.order[between].iter().any(|&t| written(accesses, marking, read, t).is_some())
 }
 
-fn wrong_value(accesses: &Accesses, marking: &Marking, read: &StoreRead, gap: usize) -> bool {
+/// Rule E.
+pub fn wrong_value(accesses: &Accesses, marking: &Marking, read: &StoreRead, gap: usize) -> bool {
     let before = marking.order[..gap].iter().rev();
     let last = before.filter_map(|&t| written(accesses, marking, read, t)).next();
     last.unwrap_or(0) != read.value

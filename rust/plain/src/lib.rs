@@ -1,6 +1,6 @@
-//! The library's job in plain safe Rust, as one would write it without proofs: one pass with small tables for the files and the
-//! checker, a depth-first search with early ends for the finder and the scan. The benchmarks compare the library with it, and the
-//! tests use it where histories are too large for the brute force of `reference`.
+//! The library's job in plain safe Rust, as one would write it without proofs: one pass with small tables for the files, the checker
+//! and the straightening, a depth-first search with early ends for the finder and the scan. The benchmarks compare the library with
+//! it, and the tests use it where histories are too large for the brute force of `reference`.
 //!
 //! Answers, refusals and what happens to lent buffers are the library's.
 
@@ -13,6 +13,7 @@ mod marking_file;
 mod progress;
 mod scan;
 mod search;
+mod straighten;
 mod tables;
 
 pub use check::{check, Verdict};
@@ -20,6 +21,7 @@ pub use columns::{Columns, Refusal};
 pub use find::find;
 pub use history_file::{read, write};
 pub use scan::{scan, Scanned};
+pub use straighten::{straighten, Straightened};
 
 use accesses::Accesses;
 

@@ -8,6 +8,7 @@ use crate::questions::refused_in_columns;
 use crate::reads;
 use crate::record::{refuse, Refusal};
 use crate::rules::{verdict, Rule, Verdict};
+use crate::straighten;
 
 /// A code and its place, as the library packs them into one number. A place that is too large for it is told as the largest.
 #[derive(Clone, Copy, Debug, PartialEq, Eq)]
@@ -95,8 +96,26 @@ pub fn check(columns: &Columns, count: usize, file: &[u8]) -> Answer {
         let marking = Marking::read(&events, file)?;
         Ok(match verdict(&events, &marking) {
             Verdict::Accepted => (0, 0),
-            Verdict::Broken { rule, event, transaction } => (code(rule), event * 65_536 + usize::from(transaction)),
+            Verdict::Broken { rule, event, transaction } => broken(rule, event, transaction),
         })
+    }))
+}
+
+/// Straightens the read points of a marking of the history, and lists the events of those that were moved.
+pub fn straighten(columns: &Columns, count: usize, file: &[u8], output: &mut [u8], list: &mut [u32]) -> Answer {
+    answer(history(columns, count).and_then(|events| {
+        let marking = Marking::read(&events, file)?;
+        if output.len() < file.len() || list.len() < reads::store_reads(&events).count() {
+            return refuse(15, count);
+        }
+        let straight = straighten::straighten(&events, &marking);
+        if let Verdict::Broken { rule, event, transaction } = verdict(&events, &straight) {
+            return Ok(broken(rule, event, transaction));
+        }
+        let (bytes, moved) = (straight.to_bytes(), straighten::moved(&events, &marking));
+        output[..bytes.len()].copy_from_slice(&bytes);
+        list[..moved.len()].copy_from_slice(&moved);
+        Ok((0, moved.len() * 65_536 + bytes.len()))
     }))
 }
 
@@ -110,14 +129,16 @@ pub fn store_reads(columns: &Columns, count: usize) -> Answer {
     answer(history(columns, count).map(|events| (0, reads::store_reads(&events).count())))
 }
 
-fn code(rule: Rule) -> u32 {
-    match rule {
+/// The code of a broken rule, and its event and transaction in one place.
+fn broken(rule: Rule, event: usize, transaction: u16) -> (u32, usize) {
+    let code = match rule {
         Rule::A => 201,
         Rule::B => 202,
         Rule::C => 203,
         Rule::D => 204,
         Rule::E => 205,
-    }
+    };
+    (code, event * 65_536 + usize::from(transaction))
 }
 
 /// Question 17.

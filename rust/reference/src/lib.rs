@@ -19,4 +19,5 @@ pub mod reads;
 pub mod record;
 pub mod report;
 pub mod rules;
+pub mod straighten;
 pub mod worked;

@@ -39,7 +39,7 @@ pub fn verdict(history: &[Event], marking: &Marking) -> Verdict {
     if let Some(p) = marking.points.iter().find(|p| is_overwritten(history, order, p)) {
         return at_read(history, Rule::D, p.event as usize);
     }
-    if let Some(p) = marking.points.iter().find(|p| history[p.event as usize].value != value_at(history, order, p)) {
+    if let Some(p) = marking.points.iter().find(|p| is_misread(history, order, p)) {
         return at_read(history, Rule::E, p.event as usize);
     }
     Verdict::Accepted
@@ -56,7 +56,7 @@ fn is_placed_too_early(history: &[Event], order: &[Place], transaction: u16, oth
 
 /// Rule D: is a writer of the register, other than the reader, placed between the point and the reader? Gap g lies after the
 /// first g places, so place q is behind it if g ≤ q.
-fn is_overwritten(history: &[Event], order: &[Place], point: &Point) -> bool {
+pub fn is_overwritten(history: &[Event], order: &[Place], point: &Point) -> bool {
     let Event { transaction, register, .. } = history[point.event as usize];
     let (gap, reader) = (usize::from(point.gap), place_of(order, transaction));
     (0..order.len()).any(|q| {
@@ -65,7 +65,12 @@ fn is_overwritten(history: &[Event], order: &[Place], point: &Point) -> bool {
     })
 }
 
-/// Rule E: the value of the last writer before the gap other than the reader, or 0.
+/// Rule E: is the value another one than that at the point?
+pub fn is_misread(history: &[Event], order: &[Place], point: &Point) -> bool {
+    history[point.event as usize].value != value_at(history, order, point)
+}
+
+/// The value of the last writer before the gap other than the reader, or 0.
 fn value_at(history: &[Event], order: &[Place], point: &Point) -> u32 {
     let Event { transaction, register, .. } = history[point.event as usize];
     let before = order[..usize::from(point.gap)].iter().rev().filter(|p| p.transaction != transaction);

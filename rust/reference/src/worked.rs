@@ -17,19 +17,36 @@ pub enum Call {
     /// The finder on the whole history.
     Find(Vec<Event>),
     Check(Vec<Event>, Vec<u8>),
+    /// The list is as long as the history.
+    Straighten(Vec<Event>, Vec<u8>),
 }
 
-/// A call with its answer, and with what it leaves in the output if the output is of interest.
+/// A call with its answer, and with what it writes to the output and to the list of moved events, where that is of interest. Nothing
+/// is written behind it.
 #[derive(Clone, Debug)]
 pub struct Worked {
     pub name: String,
     pub call: Call,
     pub answer: Answer,
     pub output: Option<Vec<u8>>,
+    pub moved: Option<Vec<u32>>,
+}
+
+impl Worked {
+    /// Do an output and a list that held zeros now hold what they should, and zeros behind it?
+    pub fn is_written(&self, output: &[u8], list: &[u32]) -> bool {
+        let output_is = self.output.as_ref().is_none_or(|bytes| begins_with_only(output, bytes));
+        let list_is = self.moved.as_ref().is_none_or(|events| begins_with_only(list, events));
+        output_is && list_is
+    }
+}
+
+fn begins_with_only<T: PartialEq + Default>(buffer: &[T], entries: &[T]) -> bool {
+    buffer.starts_with(entries) && buffer[entries.len()..].iter().all(|entry| *entry == T::default())
 }
 
 fn worked(name: &str, call: Call, code: u32, place: u32) -> Worked {
-    Worked { name: name.to_string(), call, answer: Answer { code, place }, output: None }
+    Worked { name: name.to_string(), call, answer: Answer { code, place }, output: None, moved: None }
 }
 
 /// A broken rule, packed as the library does.
@@ -39,6 +56,19 @@ fn broken(name: &str, call: Call, rule: char, event: u32, transaction: u32) -> W
 
 fn check(log: &Log, places: &[(u16, Outcome)], points: &[(u32, u16)]) -> Call {
     Call::Check(log.events.clone(), marking(places, points))
+}
+
+/// A marking that is straightened: what is written, and the events whose points are moved.
+fn straightened(name: &str, log: &Log, file: Vec<u8>, straight: Vec<u8>, moved: &[u32]) -> Worked {
+    let place = moved.len() as u32 * 65_536 + straight.len() as u32;
+    let example = worked(name, Call::Straighten(log.events.clone(), file), 0, place);
+    Worked { output: Some(straight), moved: Some(moved.to_vec()), ..example }
+}
+
+/// A marking whose points are of no help: nothing is written.
+fn unjustified(name: &str, log: &Log, file: Vec<u8>, rule: char, event: u32, transaction: u32) -> Worked {
+    let example = broken(name, Call::Straighten(log.events.clone(), file), rule, event, transaction);
+    Worked { output: Some(vec![]), moved: Some(vec![]), ..example }
 }
 
 fn scan(log: &Log) -> Call {
@@ -64,7 +94,7 @@ pub fn h0_marking() -> Vec<u8> {
 
 /// Every example.
 pub fn all() -> Vec<Worked> {
-    [starred(), limits(), sources()].concat()
+    [starred(), straightenings(), limits(), sources()].concat()
 }
 
 /// The starred histories of the paper, in its order.
@@ -97,6 +127,57 @@ fn starred() -> Vec<Worked> {
         broken("an order against real time", check(&stale, &[(1, Aborted), (0, Committed)], &[(7, 0)]), 'B', 5, 1),
         broken("a read of 0 after an own write of 5", check(&own, &[(0, Aborted)], &[]), 'C', 4, 0),
         worked("an own read that is wrong", scan(&own), 101, 4),
+    ]
+}
+
+/// The markings of the paper, and some more of its histories, with their read points straightened.
+fn straightenings() -> Vec<Worked> {
+    let (h0, h7) = (Log::h0(), Log::h7());
+    let reader_first = |points: &[(u32, u16)]| marking(&[(1, Aborted), (0, Committed)], points);
+    let writer_first = |points: &[(u32, u16)]| marking(&[(0, Committed), (1, Aborted)], points);
+    // Three writers of register 0 one after the other, and between them two readers.
+    let chain = Log::new().begin(0).write(0, 0, 1).commit(0).begin(0).read(1, 0, 1).read(1, 1, 0).commit(1);
+    let chain = chain.begin(0).write(2, 0, 2).commit(2).begin(0).read(3, 0, 2).commit(3).begin(0).write(4, 0, 3).commit(4);
+    let chain_points = |points: &[(u32, u16)]| marking(&[0, 1, 2, 3, 4].map(|t| (t, Committed)), points);
+    // T0 reads 0 and then writes 5: its point may stand behind it, since no other transaction writes.
+    let own_write = Log::new().begin(0).read(0, 0, 0).write(0, 0, 5).commit(0);
+    let own_write_point = marking(&[(0, Committed)], &[(2, 1)]);
+    let twice = Log::new().begin(0).write(0, 0, 1).write(0, 0, 2).commit(0).begin(0).read(1, 0, 2);
+    let stale = Log::new().begin(0).write(0, 0, 1).commit(0).begin(1).read(1, 0, 0);
+    let own = Log::new().begin(0).read(0, 1, 0).write(0, 0, 5).read(0, 0, 0);
+    let lost = Log::new().begin(0).write(0, 0, 5).aborted(0).begin(0).read(1, 0, 5);
+    vec![
+        straightened("head alone is straight", &Log::new(), marking(&[], &[]), marking(&[], &[]), &[]),
+        straightened("H0's marking is straight", &h0, h0_marking(), h0_marking(), &[]),
+        straightened("H0, event 9 at gap 1, stays", &h0, reader_first(&[(5, 0), (9, 1)]), reader_first(&[(5, 0), (9, 1)]), &[]),
+        straightened("H0, event 9 at gap 2, is moved", &h0, reader_first(&[(5, 0), (9, 2)]), h0_marking(), &[9]),
+        straightened("H0, both at gap 2, are moved", &h0, reader_first(&[(5, 2), (9, 2)]), h0_marking(), &[5, 9]),
+        unjustified("H0, T0 then T1: event 5 does not read 7", &h0, writer_first(&[(5, 0), (9, 0)]), 'E', 5, 1),
+        unjustified("H7, T0 then T1, both gaps 1, stays broken", &h7, writer_first(&[(5, 1), (9, 1)]), 'E', 5, 1),
+        unjustified("H7, event 5 at gap 0, is moved in vain", &h7, writer_first(&[(5, 0), (9, 1)]), 'E', 5, 1),
+        unjustified("H7, T1 then T0: event 9 reads 7 too early", &h7, reader_first(&[(5, 0), (9, 2)]), 'E', 9, 1),
+        // Event 7 reads T0's 1 at gap 1 or 2, before T2 writes 2; event 9, of a register that nobody writes, reads 0 anywhere;
+        // event 19 reads T2's 2 at gap 3 or 4.
+        straightened(
+            "a point too far ahead and one too far back",
+            &chain,
+            chain_points(&[(7, 5), (9, 5), (19, 0)]),
+            chain_points(&[(7, 1), (9, 5), (19, 3)]),
+            &[7, 19],
+        ),
+        straightened(
+            "points that stand well are kept",
+            &chain,
+            chain_points(&[(7, 2), (9, 0), (19, 4)]),
+            chain_points(&[(7, 2), (9, 0), (19, 4)]),
+            &[],
+        ),
+        straightened("the reader's own write moves no point", &own_write, own_write_point.clone(), own_write_point, &[]),
+        straightened("the last write of a writer counts", &twice, writer_first(&[(9, 0)]), writer_first(&[(9, 1)]), &[9]),
+        unjustified("an order against real time is not mended", &stale, reader_first(&[(7, 0)]), 'B', 5, 1),
+        unjustified("a wrong own read is not mended", &own, marking(&[(0, Aborted)], &[(2, 1)]), 'C', 6, 0),
+        unjustified("an outcome is not mended", &lost, writer_first(&[(6, 0)]), 'A', 3, 0),
+        worked("a marking without points", Call::Straighten(h0.events.clone(), reader_first(&[])), 29, 22),
     ]
 }
 

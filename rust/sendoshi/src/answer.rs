@@ -1,5 +1,6 @@
 //! The one number that every call answers with.
 
+use crate::judgement::Rule;
 use crate::question::{Place, Question, Refusal};
 
 /// A code and its place, taken apart.
@@ -9,7 +10,7 @@ pub struct Answer {
     pub place: u32,
 }
 
-/// What was asked for is done; the place is the count or the length.
+/// What was asked for is done; the place is the count or the length, or both in one number.
 pub const DONE: u32 = 0;
 /// The finder's answer where no order justifies the prefix.
 pub const NONE: u32 = 100;
@@ -26,7 +27,7 @@ impl Answer {
         Some(Refusal { question, place: place(self.place as usize) })
     }
 
-    /// The count or the length of a call that is done, or its refusal.
+    /// The place of a call that is done, or its refusal.
     ///
     /// # Panics
     ///
@@ -37,6 +38,18 @@ impl Answer {
             None if self.code == DONE => Ok(self.place as usize),
             None => self.unexpected(),
         }
+    }
+
+    /// The two numbers that share the place of a broken rule, its event and its transaction, or of a straightened marking, how many
+    /// points were moved and its length.
+    pub fn halves(self) -> (usize, usize) {
+        ((self.place >> 16) as usize, (self.place & 0xffff) as usize)
+    }
+
+    /// The rule that is broken, its event and its transaction, if the code stands for one.
+    pub(crate) fn broken(self) -> Option<(Rule, usize, u16)> {
+        let (event, transaction) = self.halves();
+        Some((Rule::from_code(self.code)?, event, transaction as u16))
     }
 
     pub(crate) fn unexpected(self) -> ! {

@@ -86,6 +86,22 @@ pub fn check(columns: Columns, count: usize, file: &[u8]) -> Answer {
     with_columns!(sendoshi_check, columns, count, file.as_ptr(), file.len())
 }
 
+/// Writes a marking file of the first `count` events with its careless read points moved to their readers, and lists the events of
+/// those moved. Code 0: the number moved and the length ([`Answer::halves`]); codes 201 to 203 and 205: the rule broken all the same.
+pub fn straighten(columns: Columns, count: usize, file: &[u8], output: &mut [u8], moved: &mut [u32]) -> Answer {
+    with_columns!(
+        sendoshi_straighten,
+        columns,
+        count,
+        file.as_ptr(),
+        file.len(),
+        output.as_mut_ptr(),
+        output.len(),
+        moved.as_mut_ptr(),
+        moved.len()
+    )
+}
+
 /// Counts the transactions begun in the first `count` events.
 pub fn transactions(columns: Columns, count: usize) -> Answer {
     with_columns!(sendoshi_transactions, columns, count)

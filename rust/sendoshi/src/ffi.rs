@@ -72,6 +72,24 @@ extern "C" {
         file_length: usize,
     ) -> u64;
 
+    pub fn sendoshi_straighten(
+        kinds: *const u16,
+        kinds_length: usize,
+        transactions: *const u16,
+        transactions_length: usize,
+        registers: *const u16,
+        registers_length: usize,
+        values: *const u32,
+        values_length: usize,
+        count: usize,
+        file: *const u8,
+        file_length: usize,
+        output: *mut u8,
+        output_length: usize,
+        moved: *mut u32,
+        moved_length: usize,
+    ) -> u64;
+
     pub fn sendoshi_transactions(
         kinds: *const u16,
         kinds_length: usize,

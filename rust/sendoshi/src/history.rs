@@ -2,7 +2,7 @@
 
 use crate::answer::NONE;
 use crate::calls::{self, Columns, ColumnsMut};
-use crate::judgement::{Cause, Rule, Scan, Verdict};
+use crate::judgement::{Cause, Scan, Straightening, Verdict};
 use crate::question::{Place, Refusal};
 
 /// No history has more events.
@@ -200,11 +200,49 @@ impl History {
     /// ```
     pub fn check(&self, marking: &[u8]) -> Result<Verdict, Refusal> {
         let answer = calls::check(self.columns(), self.len(), marking);
-        match Rule::from_code(answer.code) {
-            Some(rule) => Ok(Verdict::Broken { rule, event: (answer.place >> 16) as usize, transaction: answer.place as u16 }),
+        match answer.broken() {
+            Some((rule, event, transaction)) => Ok(Verdict::Broken { rule, event, transaction }),
             // The events have passed their questions, so what is refused is the file.
             None => answer.done(Place::Byte).map(|_| Verdict::Accepted),
         }
+    }
+
+    /// Straightens the read points of a marking file of the whole history: outcomes, order and every point that breaks neither rule
+    /// D nor rule E are kept, and each other point is moved to its reader's place. What is refused is what [`History::check`]
+    /// refuses.
+    ///
+    /// ```
+    /// use sendoshi::{Columns, History, Rule, Straightening, Verdict};
+    ///
+    /// // T0 writes 7 to register 3 and commits; T1 reads 0 there, before and after.
+    /// let history = History::from_columns(Columns {
+    ///     kinds: &[16, 19, 20, 16, 17, 18, 21, 22, 17, 18],
+    ///     transactions: &[0, 0, 0, 1, 1, 1, 0, 0, 1, 1],
+    ///     registers: &[0, 3, 0, 1, 3, 3, 0, 0, 3, 3],
+    ///     values: &[0, 7, 0, 0, 0, 0, 0, 0, 0, 0],
+    /// })?;
+    /// // T1, aborted, is placed before T0, but the point of event 9 stands at gap 2, behind T0's write.
+    /// let mut careless = history.lowest_marking(10)?.expect("H0 is opaque");
+    /// careless[40] = 2;
+    /// assert_eq!(history.check(&careless)?, Verdict::Broken { rule: Rule::D, event: 9, transaction: 1 });
+    ///
+    /// let Straightening::Straightened { marking, moved } = history.straighten(&careless)? else { panic!("the order is good") };
+    /// assert_eq!(moved, [9]);
+    /// assert_eq!(marking[40], 0); // gap 0: T1's place
+    /// assert_eq!(history.check(&marking)?, Verdict::Accepted);
+    /// # Ok::<(), sendoshi::Refusal>(())
+    /// ```
+    pub fn straighten(&self, marking: &[u8]) -> Result<Straightening, Refusal> {
+        // The result is as long as the marking, and a list with an entry for every event has one for every store read.
+        let (mut output, mut moved) = (vec![0; marking.len()], vec![0; self.len()]);
+        let answer = calls::straighten(self.columns(), self.len(), marking, &mut output, &mut moved);
+        if let Some((rule, event, transaction)) = answer.broken() {
+            return Ok(Straightening::Broken { rule, event, transaction });
+        }
+        answer.done(Place::Byte)?;
+        let (points, length) = answer.halves();
+        output.truncate(length);
+        Ok(Straightening::Straightened { marking: output, moved: moved[..points].iter().map(|&event| event as usize).collect() })
     }
 }
 

@@ -1,4 +1,4 @@
-//! What the scan and the checker answer.
+//! What the scan, the checker and the straightening of a marking answer.
 
 use std::fmt;
 
@@ -95,4 +95,18 @@ impl fmt::Display for Verdict {
             }
         }
     }
+}
+
+/// What comes of straightening a marking's read points.
+#[derive(Clone, Debug, PartialEq, Eq, Hash)]
+pub enum Straightening {
+    /// Outcomes and order are a justification. The straightened marking is accepted.
+    Straightened {
+        marking: Vec<u8>,
+        /// The events whose points were moved, rising.
+        moved: Vec<usize>,
+    },
+    /// Outcomes and order are no justification, wherever the points stand: the first rule that is broken with the points moved, which
+    /// is never D.
+    Broken { rule: Rule, event: usize, transaction: u16 },
 }

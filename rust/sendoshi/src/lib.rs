@@ -1,7 +1,8 @@
 //! Opacity of recorded transactional histories: a safe wrapper over the proved static library.
 //!
 //! A [`History`] is read from a file or taken from columns. It can be written back, scanned for the first prefix that no order of
-//! its transactions justifies, given its lowest marking, and compared with a marking from elsewhere.
+//! its transactions justifies, given its lowest marking, and compared with a marking from elsewhere, whose read points it can
+//! straighten.
 //!
 //! ```
 //! use sendoshi::History;
@@ -43,5 +44,5 @@ mod question;
 pub use answer::Answer;
 pub use calls::{Columns, ColumnsMut};
 pub use history::History;
-pub use judgement::{Cause, Rule, Scan, Verdict};
+pub use judgement::{Cause, Rule, Scan, Straightening, Verdict};
 pub use question::{Place, Question, Refusal};

@@ -49,7 +49,7 @@ questions! {
     12 RegisterNumber "the register's number is not below 32"
     13 EventNotDue "the event does not fit the transaction's pending call"
     14 ColumnTooShort "a column is too short for the events of the file"
-    15 OutputTooShort "the output is too short for the file"
+    15 OutputTooShort "the output is too short for the file, or the list for the points that may be moved"
     16 StrayField "a field that the kind does not have is not 0, or a returned read names another register than its call"
     17 CountTooLarge "a column is shorter than the count"
     18 PrefixTooLong "the prefix is longer than the history"

@@ -1,6 +1,6 @@
 //! The wrapper's own promises: what it takes, how it refuses and how its answers read.
 
-use sendoshi::{Columns, History, Place, Question, Refusal, Rule, Scan, Verdict};
+use sendoshi::{Columns, History, Place, Question, Refusal, Rule, Scan, Straightening, Verdict};
 use std::error::Error;
 
 const KINDS: [u16; 10] = [16, 19, 20, 16, 17, 18, 21, 22, 17, 18];
@@ -38,6 +38,40 @@ fn a_broken_rule_names_event_and_transaction() {
     let verdict = history.check(&marking).unwrap();
     assert_eq!(verdict, Verdict::Broken { rule: Rule::D, event: 9, transaction: 1 });
     assert_eq!(verdict.to_string(), "marking rule D event 9 transaction 1");
+}
+
+#[test]
+fn a_careless_point_is_moved_to_its_reader() {
+    let history = h0();
+    let lowest = history.lowest_marking(10).unwrap().unwrap();
+    let mut careless = lowest.clone();
+    careless[40] = 2; // event 9 at gap 2
+    let straightened = |moved| Ok(Straightening::Straightened { marking: lowest.clone(), moved });
+    assert_eq!(history.straighten(&careless), straightened(vec![9]));
+    assert_eq!(history.straighten(&lowest), straightened(vec![]));
+}
+
+/// T1, aborted, read 0 before T0 wrote 7: behind T0 it has no place, wherever its points are.
+#[test]
+fn a_bad_order_is_not_straightened() {
+    let history = h0();
+    let mut marking = history.lowest_marking(10).unwrap().unwrap();
+    marking[10..14].copy_from_slice(&[0, 0, 1, 0]);
+    marking[18..22].copy_from_slice(&[1, 0, 0, 0]);
+    assert_eq!(history.check(&marking), Ok(Verdict::Broken { rule: Rule::D, event: 5, transaction: 1 }));
+    assert_eq!(history.straighten(&marking), Ok(Straightening::Broken { rule: Rule::E, event: 5, transaction: 1 }));
+    marking[12] = 0; // T0 aborted, which committed
+    assert_eq!(history.straighten(&marking), Ok(Straightening::Broken { rule: Rule::A, event: 7, transaction: 0 }));
+}
+
+#[test]
+fn what_the_checker_refuses_is_not_straightened() {
+    let history = h0();
+    let mut marking = history.lowest_marking(10).unwrap().unwrap();
+    assert_eq!(history.straighten(&marking[..32]), Err(refusal(Question::PointMissing, Place::Byte(32))));
+    assert_eq!(history.straighten(&[]), Err(refusal(Question::MarkingHead, Place::Byte(0))));
+    marking[40] = 3; // a gap behind more places than there are
+    assert_eq!(history.straighten(&marking), Err(refusal(Question::GapTooLarge, Place::Byte(32))));
 }
 
 #[test]

@@ -1,8 +1,9 @@
-//! Reading, writing and checking.
+//! Reading, writing, checking and straightening.
 
-use crate::inputs::{serial, simulated};
+use crate::inputs::{careless, serial, serial_reads, simulated};
 use crate::sides::Capture;
 use crate::table;
+use reference::event::Event;
 use reference::log::Log;
 
 pub fn print() {
@@ -18,5 +19,15 @@ pub fn print() {
     let reads = (marking.len() - 6 - 8 * 64) / 10;
     let what = format!("check a marking of 64 transactions and {reads} read points, {} bytes", marking.len());
     table::row(&what, &Capture::new(&events).check(&marking));
+    // Reads of registers that nobody wrote are right at every gap; those of the one that all write are right at one or two.
+    straighten(&events, &careless(&events, &marking));
+    let (events, marking) = serial_reads(64, 2_048, 1);
+    straighten(&events, &careless(&events, &marking));
     table::end();
+}
+
+fn straighten(events: &[Event], marking: &[u8]) {
+    let reads = (marking.len() - 6 - 8 * 64) / 10;
+    let (moved, measured) = Capture::new(events).straighten(marking);
+    table::row(&format!("straighten a marking of that size, {moved} of {reads} read points moved"), &measured);
 }

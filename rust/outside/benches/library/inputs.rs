@@ -27,6 +27,11 @@ pub fn late_fault(mut log: Vec<Event>) -> Vec<Event> {
 /// So many transactions one after the other, all committed, with so many events or one less; and the marking in that order. Each
 /// reads what the one before it wrote to register 0, and registers that nobody wrote, for which every place is looked through.
 pub fn serial(begins: usize, events: usize) -> (Vec<Event>, Vec<u8>) {
+    serial_reads(begins, events, 32)
+}
+
+/// The same with reads of so many registers only.
+pub fn serial_reads(begins: usize, events: usize, registers: u16) -> (Vec<Event>, Vec<u8>) {
     let reads = (events - 5 * begins) / 2; // a begin, a write and a commit take five events
     let mut log = Log::new();
     let mut points = Vec::new();
@@ -34,7 +39,7 @@ pub fn serial(begins: usize, events: usize) -> (Vec<Event>, Vec<u8>) {
         let transaction = t as u16;
         log = log.begin(0);
         for read in 0..reads * (t + 1) / begins - reads * t / begins {
-            let register = read as u16 % 32;
+            let register = read as u16 % registers;
             let value = if register == 0 { t as u32 } else { 0 };
             log = log.read(transaction, register, value);
             points.push((log.events.len() as u32 - 1, transaction));
@@ -43,6 +48,17 @@ pub fn serial(begins: usize, events: usize) -> (Vec<Event>, Vec<u8>) {
     }
     let places: Vec<(u16, Outcome)> = (0..begins as u16).map(|t| (t, Outcome::Committed)).collect();
     (log.events, marking(&places, &points))
+}
+
+/// A marking of the same outcomes and order, in which each read point stands at a random gap.
+pub fn careless(events: &[Event], marking: &[u8]) -> Vec<u8> {
+    let mut random = Random::new(1);
+    let gaps = transactions(events) + 1;
+    let mut careless = marking.to_vec();
+    for point in careless[6 + 8 * transactions(events)..].chunks_mut(10) {
+        point[8..].copy_from_slice(&(random.below(gaps) as u16).to_le_bytes());
+    }
+    careless
 }
 
 /// So many transactions that have written one register and called commit, and a read of a value that none of them wrote.

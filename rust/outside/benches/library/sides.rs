@@ -1,7 +1,7 @@
 //! One capture with its buffers, and each job done by the library and by plain Rust.
 
 use crate::measure::{measure, Measured};
-use plain::{Scanned, Verdict};
+use plain::{Scanned, Straightened, Verdict};
 use reference::event::{Columns as Held, Event};
 use reference::history_file;
 use sendoshi::{calls, Columns, ColumnsMut};
@@ -91,6 +91,27 @@ impl Capture {
         assert_eq!(library().code, 0);
         assert_eq!(plain(), Ok(Verdict::Accepted));
         measure(library, plain)
+    }
+
+    /// The straightening of a marking whose order is a justification, and how many of its points are moved.
+    pub fn straighten(&self, marking: &[u8]) -> (usize, Measured) {
+        let (mut output, mut list) = (self.output.clone(), vec![0; self.count]);
+        let (mut other, mut other_list) = (self.output.clone(), vec![0; self.count]);
+        let library = |output: &mut [u8], list: &mut [u32]| {
+            let answer = calls::straighten(black_box(self.library()), self.count, black_box(marking), output, list);
+            (answer.code == 0).then_some(answer.halves())
+        };
+        let plain = |output: &mut [u8], list: &mut [u32]| {
+            let result = plain::straighten(black_box(self.plain()), self.count, black_box(marking), output, list);
+            match result {
+                Ok(Straightened::Done { length, moved }) => Some((moved, length)),
+                _ => None,
+            }
+        };
+        let (moved, length) = plain(&mut other, &mut other_list).expect("an order that is a justification");
+        assert_eq!(library(&mut output, &mut list), Some((moved, length)));
+        assert_eq!((&output, &list), (&other, &other_list));
+        (moved, measure(|| library(&mut output, &mut list), || plain(&mut other, &mut other_list)))
     }
 }
 
