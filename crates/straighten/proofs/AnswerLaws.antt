@@ -151,7 +151,7 @@ module _ (start : ℕ → ℕ) (c : Columns) (n : ℕ) (file output list : List 
   tells = columns (columnsAnswer c n) refl
     where
       rules : (m : Marking) → Passes c n file output list m → (v : Verdict) → verdict start (history c n) (straightened start (history c n) m) ≡ v
-          → TellsOf (settled (straightened start (history c n) m) (movedEvents start (history c n) m) output list v)
+          → TellsOf (settled (markingBytes (straightened start (history c n) m)) (movedEvents start (history c n) m) output list v)
       rules m p Accepted v = record { marking = m; passes = p; accepted = v; size = refl; count = refl; bytes = refl; entries = refl }
       rules m p (Breaks q i t) v = ((m, p, v), refl, refl)
 

@@ -31,7 +31,7 @@ use Rattle.marking_writer.specs.Points.{pointsTo}
 use Rattle.marking_writer.proofs.PointLaws.{points-are}
 use Rattle.straighten.specs.declared.Straightening.the-variants.{Straightened, Broken, Refused}
 use Rattle.straighten.specs.Straight.{straightened, movedEvents}
-use Rattle.straighten.specs.Answer.{gives, judged, roomy, afterFile}
+use Rattle.straighten.specs.Answer.{gives, settled, judged, roomy, afterFile}
 use Rattle.straighten.specs.Tables.{Room, pointsIn, bytesIn}
 use Rattle.straighten.proofs.MoveLaws.{arrays-readable}
 
@@ -65,17 +65,12 @@ module _ {c : Columns} {n : ℕ} {link : List ℕ} {reads : List Bool} {order ou
 
 -- ---- the answer
 
-module _ (start : ℕ → ℕ) (h : List Event) (m m′ : Marking) (output list : List ℕ) (straight : m′ ≡ straightened start h m) (v : Verdict) (says : v ≡ verdict start h m′) where
-  pub settled-broken : (r : Rule) (e t : ℕ) → v ≡ Breaks r e t → gives (Broken r e t) output list ≡ judged start h m output list
-  unfolding judged
-  settled-broken r e t b = let w : verdict start h (straightened start h m) ≡ Breaks r e t = ap (verdict start h) (sym straight) ∙ sym says ∙ b in rw w
-
-  pub settled-done : v ≡ Accepted → (bytes moved output′ list′ : List ℕ) (k l : ℕ) → bytes ≡ markingBytes m′ → moved ≡ movedEvents start h m
-      → output′ ≡ over bytes output → list′ ≡ over moved list → k ≡ length bytes → l ≡ length moved → gives (Straightened k l) output′ list′ ≡ judged start h m output list
-  unfolding judged
-  settled-done a bytes moved output′ list′ k l eb em eo el ek en =
-      let w : verdict start h (straightened start h m) ≡ Accepted = ap (verdict start h) (sym straight) ∙ sym says ∙ a in
-      rw (w, eo, el, ek, en, eb, em, straight)
+-- what was settled by the parts is what is judged
+pub settled-judged : (start : ℕ → ℕ) (h : List Event) (m m′ : Marking) (output list bytes moved : List ℕ) (v : Verdict) → m′ ≡ straightened start h m
+    → v ≡ verdict start h m′ → bytes ≡ markingBytes m′ → moved ≡ movedEvents start h m → settled bytes moved output list v ≡ judged start h m output list
+unfolding judged
+settled-judged start h m m′ output list bytes moved v straight says eb em =
+    λ i. settled ((eb ∙ ap markingBytes straight) i) (em i) output list ((says ∙ ap (verdict start h) straight) i)
 
 module _ (start : ℕ → ℕ) (h : List Event) (n : ℕ) (file output list : List ℕ) (m : Marking) (holds : fileRead (known h) file ≡ content m)
     (room : Bool) (asked : room ≡ (leb (length file) (length output) and leb (length (storeReads h)) (length list))) where

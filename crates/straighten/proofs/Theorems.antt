@@ -213,7 +213,7 @@ module _ (start : ℕ → ℕ) (h : List Event) (n : ℕ) (file output list befo
   result-same (Refuses q e) = refl
   result-same Readable = content-same (fileRead (known h) file)
     where
-      rules-same : (m : Marking) (moved : List ℕ) (v : Verdict) → settled m moved output list v .result ≡ settled m moved before marks v .result
+      rules-same : (bytes moved : List ℕ) (v : Verdict) → settled bytes moved output list v .result ≡ settled bytes moved before marks v .result
       rules-same m moved Accepted = refl
       rules-same m moved (Breaks q i t) = refl
 

@@ -4,6 +4,7 @@
 // succeeds exactly if outcomes and order justify the history, and that the checker accepts what it
 // writes (proofs/Theorems). Time is that of two checks.
 ghost use mathlib.Core.Path.{_≡_};
+ghost use Prim.Native.Nat.{_≤_};
 ghost use lib.Dec.{leb};
 ghost use lib.ListN.{length};
 ghost use Rattle.events.specs.Lists.{_and_};
@@ -13,8 +14,8 @@ ghost use Rattle.opacity.specs.Counts.{HoldsReadable};
 ghost use Rattle.opacity.specs.Justification.{zeros};
 ghost use Rattle.rules.specs.Judge.{Given as Judgeable, content};
 ghost use Rattle.marking.specs.File.{known, fileRead};
-ghost use Rattle.straighten.specs.Answer.{gives, judged, afterFile, straightenedAnswer};
-ghost use Rattle.straighten.specs.Tables.{Room};
+ghost use Rattle.straighten.specs.Answer.{gives, settled, judged, afterFile, straightenedAnswer};
+ghost use Rattle.straighten.specs.Tables.{Room, listed, bytesIn};
 
 pub mod moves;
 pub mod write;
@@ -55,9 +56,46 @@ pub enum Straightening {
     },
 }
 
-// Moves the points of a readable marking and judges what comes out. Only where no rule is broken are
-// output and list written, for which there is room.
+// What is written, by the verdict: only where no rule is broken the marking in the arrays, and the
+// moved events. There is room for both.
 fn settle(
+    verdict: Verdict,
+    order: &[u16; 64],
+    outcomes: &[u8; 64],
+    begun: usize,
+    reads: &[bool; 2048],
+    gaps: &[u16; 2048],
+    moves: &[bool; 2048],
+    count: usize,
+    output: &mut [u8],
+    moved: &mut [u32],
+) -> Straightening
+    requires { ⌜ (begun ≤ 64) × (count ≤ 2048) ⌝ }
+    requires { ⌜ length (bytesIn (now order) (now outcomes) begun (now reads) (now gaps) count) ≤ length (now output) ⌝ }
+    requires { ⌜ length (listed (now moves) count) ≤ length (now moved) ⌝ }
+    ensures { λ r. ⌜ gives r (now (output .exit)) (now (moved .exit)) ≡ settled (bytesIn (now (order .entry)) (now (outcomes .entry)) begun (now (reads .entry)) (now (gaps .entry)) count) (listed (now (moves .entry)) count) (now (output .entry)) (now (moved .entry)) verdict ⌝ }
+{
+    if let Verdict::Broken {
+        rule,
+        event,
+        transaction,
+    } = verdict {
+        return Straightening::Broken {
+            rule,
+            event,
+            transaction,
+        };
+    }
+    let length = write_marking(order, outcomes, begun, reads, gaps, count, output);
+    let number = list_moved(moves, count, moved);
+    Straightening::Straightened {
+        length,
+        moved: number,
+    }
+}
+
+// Moves the points of a readable marking, judges what comes out, and settles.
+fn straighten_points(
     kinds: &[u16],
     transactions: &[u16],
     registers: &[u16],
@@ -104,23 +142,18 @@ fn settle(
         outcomes,
         &points,
     );
-    if let Verdict::Broken {
-        rule,
-        event,
-        transaction,
-    } = verdict {
-        return Straightening::Broken {
-            rule,
-            event,
-            transaction,
-        };
-    }
-    let length = write_marking(order, outcomes, begun, reads, &points, count, output);
-    let number = list_moved(&moves, count, moved);
-    Straightening::Straightened {
-        length,
-        moved: number,
-    }
+    settle(
+        verdict,
+        order,
+        outcomes,
+        begun,
+        reads,
+        &points,
+        &moves,
+        count,
+        output,
+        moved,
+    )
 }
 
 // Question 15: is the output as long as the marking, and has the list an entry for every store read?
@@ -167,7 +200,7 @@ fn straighten_file(
     let order = reading.order;
     let outcomes = reading.outcomes;
     let gaps = reading.gaps;
-    settle(
+    straighten_points(
         kinds,
         transactions,
         registers,

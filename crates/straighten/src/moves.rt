@@ -59,7 +59,7 @@ fn breaks(
     if !free {
         return true;
     }
-    !holds_at(
+    let right = holds_at(
         Rule::E,
         kinds,
         transactions,
@@ -72,7 +72,8 @@ fn breaks(
         reads,
         gaps,
         i,
-    )
+    );
+    !right
 }
 
 // The events whose points break D or E.
@@ -125,9 +126,10 @@ fn gap_at(
     requires { ⌜ (i < 2048) × (i < length (now transactions)) × (getD (now transactions) i 0 < 64) ⌝ }
     ensures { λ r. ⌜ r ≡ gapBy (now (transactions .entry)) (now (place .entry)) (now (moves .entry)) (now (gaps .entry)) i ⌝ }
 {
+    let t = wide(transactions[i]);
+    let reader = place[t];
     if moves[i] {
-        let t = wide(transactions[i]);
-        return place[t];
+        return reader;
     }
     gaps[i]
 }

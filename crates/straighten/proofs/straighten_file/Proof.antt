@@ -74,8 +74,8 @@ returns-2 c =
     let asked = room .ensures ∙ ap (λ (p : ℕ). leb (length (start .args .file .now)) (length (now (start .args .output))) and leb p (length (now (start .args .moved)))) (c .before .before .store-reads2 .ensures) in
     after-short zeros (history cs (start .args .count)) (start .args .count) (start .args .file .now) (now (start .args .output)) (now (start .args .moved)) (inArrays (history cs (start .args .count)) (reading .result .order) (reading .result .outcomes) (reading .result .gaps)) holds (room .result) asked (not-true _ (c .if2 .taken))
 
-settle-requires : tie.Need-settle-requires
-settle-requires c κs =
+straighten-points-requires : tie.Need-straighten-points-requires
+straighten-points-requires c κs =
     let start = c .before .before .before .before .before .before .before .before .before .before .before .before .before .before .before .before .before .before .before .before .before .before .before .before .before .before .before .before in
     let cs = columns (start .args .kinds .now) (start .args .transactions .now) (start .args .registers .now) (start .args .values .now) in
     let begun = c .before .before .before .before .before .before .before .before .before .before .before .before .before .before .before .before .before .before .before .before .transactions-begun in
@@ -109,7 +109,7 @@ returns-3 c =
     let holds = reading-content cs (start .args .count) (begun .result) (linked .result) (tabled .result) (begun .ensures) (linked .ensures) (tabled .ensures) (reading .result) kept (start .args .file .now) (reading .ensures .0) whole in
     let room = c .before .before .before .before .before .before .before .before .before .before .before .before .before .before .before .before .has-room in
     let asked = room .ensures ∙ ap (λ (p : ℕ). leb (length (start .args .file .now)) (length (now (start .args .output))) and leb p (length (now (start .args .moved)))) (c .before .before .before .before .before .before .before .before .before .before .before .before .before .before .before .before .before .store-reads2 .ensures) in
-    c .before .before .before .before .settle .ensures ∙ after-room zeros (history cs (start .args .count)) (start .args .count) (start .args .file .now) (now (start .args .output)) (now (start .args .moved)) (inArrays (history cs (start .args .count)) (reading .result .order) (reading .result .outcomes) (reading .result .gaps)) holds (room .result) asked (not-false _ (c .before .before .before .before .before .before .before .before .before .before .before .before .before .before .before .if2 .left))
+    c .before .before .before .before .straighten-points .ensures ∙ after-room zeros (history cs (start .args .count)) (start .args .count) (start .args .file .now) (now (start .args .output)) (now (start .args .moved)) (inArrays (history cs (start .args .count)) (reading .result .order) (reading .result .outcomes) (reading .result .gaps)) holds (room .result) asked (not-false _ (c .before .before .before .before .before .before .before .before .before .before .before .before .before .before .before .if2 .left))
 
 pub straighten-file-spec : {M : Type 1} → statement M
 straighten-file-spec =
@@ -123,7 +123,7 @@ straighten-file-spec =
     store-reads-requires-2
     has-room-requires
     returns-2
-    settle-requires
+    straighten-points-requires
     same-length
     same-length-2
     returns-3)
