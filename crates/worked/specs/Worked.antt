@@ -1,5 +1,5 @@
--- The worked histories: the starred ones of the paper ("Histories to try"), some that catch what those do not, and seven of the source
--- document 001, as one list with what the definitions must say of each.
+-- The worked histories: the starred ones of the paper ("Histories to try"), some that catch what those do not, markings with their points
+-- straightened, and seven of the source document 001, as one list with what the definitions must say of each.
 -- Assumes nothing.
 use Prim.Native.Nat.{ℕ}
 use mathlib.Core.Bool.{Bool, true, false}
@@ -17,12 +17,13 @@ use Rattle.opacity.specs.declared.verdict.Verdict.the-variants.{Accepted, Broke
 use Rattle.opacity.specs.declared.verdict.Scanned.{Scanned}
 use Rattle.opacity.specs.declared.verdict.Scanned.the-variants.{Opaque, Faulted}
 use Rattle.opacity.specs.Transactions.{storeReads}
-use Rattle.opacity.specs.Justification.{Place, isOrder}
+use Rattle.opacity.specs.Justification.{Place, isOrder, zeros}
 use Rattle.opacity.specs.Lowest.{place, lowestOf}
 use Rattle.opacity.specs.Marking.{Point, Marking, marked, markingBytes, verdict, verdictNumbers, outcomeNumber}
 use Rattle.opacity.specs.Scan.{scan, scannedNumbers}
 use Rattle.opacity.specs.Serial.{runsRight}
 use Rattle.opacity.specs.Counts.{counts}
+use Rattle.straighten.specs.Straight.{straightened, movedEvents}
 
 -- ---- histories
 
@@ -104,14 +105,16 @@ two : List Place → ℕ → ℕ → Marking
 unfolding point marking
 two J a b = marking J (point 5 a ∷ point 9 b ∷ [])
 
--- ---- what is said of a history: the scan's answer; its lowest marking, and that marking's file; the verdict on a marking; whether an order
--- run one at a time gives every read its value; the counts of the report
+-- ---- what is said of a history: the scan's answer; its lowest marking, and that marking's file; the verdict on a marking; a marking with its
+-- points straightened, the events moved, and the verdict then; whether an order run one at a time gives every read its value; the counts of
+-- the report
 
 pub data Claim : Type 0 where
   scanned : Scanned → Claim
   lowestIs : Marking → Claim
   fileIs : List ℕ → Claim
   checked : Marking → Verdict → Claim
+  straight : Marking → Marking → List ℕ → Verdict → Claim
   runs : List Place → Bool → Claim
   counted : ℕ → ℕ → ℕ → Claim
 
@@ -134,10 +137,6 @@ equal [] (y ∷ ys) = false
 equal (x ∷ xs) [] = false
 equal (x ∷ xs) (y ∷ ys) = eqb x y and equal xs ys
 
--- the start values: 0 everywhere
-abbrev zeros : ℕ → ℕ
-zeros r = 0
-
 -- what a found order says, and false where none is found
 found : List Event → (Marking → Bool) → Option (List Place) → Bool
 found h test none = false
@@ -157,6 +156,11 @@ holds h (scanned a) = equal (scannedNumbers (scan zeros h)) (scannedNumbers a)
 holds h (lowestIs m) = found h (λ n. equal (markingNumbers n) (markingNumbers m)) (lowestOf zeros h)
 holds h (fileIs s) = found h (λ n. equal (markingBytes n) s) (lowestOf zeros h)
 holds h (checked m v) = readableFor h m and equal (verdictNumbers (verdict zeros h m)) (verdictNumbers v)
+holds h (straight m n moved v) =
+    readableFor h m
+    and equal (markingNumbers (straightened zeros h m)) (markingNumbers n)
+    and equal (movedEvents zeros h m) moved
+    and equal (verdictNumbers (verdict zeros h (straightened zeros h m))) (verdictNumbers v)
 holds h (runs J b) = eqb (outcomeNumber (runsRight zeros h J)) (outcomeNumber b)
 holds h (counted e t r) = equal (counts h .events ∷ counts h .transactions ∷ counts h .reads ∷ []) (e ∷ t ∷ r ∷ [])
 
@@ -247,6 +251,22 @@ further =
     ∷ says (then (begin 0 ∷ write 0 0 5 ∷ read 0 0 0 ∷ [])) (runs (place 0 false ∷ []) false)
     ∷ []
 
+-- read points straightened
+straightenings : List Case
+unfolding says h0 two point marking late early begin beginOn read write callCommit commit abort then readerWrites
+straightenings =
+    -- H0: event 9 at gap 2 is moved to its reader; at gap 1, where no rule is broken, it stays; both at gap 2 are moved
+    says (h0 0) (straight (two late 0 2) (two late 0 0) (9 ∷ []) Accepted)
+    ∷ says (h0 0) (straight (two late 0 1) (two late 0 1) [] Accepted)
+    ∷ says (h0 0) (straight (two late 2 2) (two late 0 0) (5 ∷ 9 ∷ []) Accepted)
+    -- the points of an order that is no justification: A is broken before and after, and E stays at event 5 of H7 wherever its point is
+    ∷ says (h0 0) (straight (two (place 1 true ∷ place 0 true ∷ []) 0 2) (two (place 1 true ∷ place 0 true ∷ []) 0 0) (9 ∷ []) (Broken A 9 1))
+    ∷ says (h0 7) (straight (two early 1 1) (two early 1 1) (5 ∷ []) (Broken E 5 1))
+    ∷ says (h0 7) (straight (two early 0 1) (two early 1 1) (5 ∷ []) (Broken E 5 1))
+    -- a point behind its reader, with the reader the only writer there
+    ∷ says readerWrites (straight (marking (place 0 true ∷ []) (point 2 1 ∷ [])) (marking (place 0 true ∷ []) (point 2 1 ∷ [])) [] Accepted)
+    ∷ []
+
 -- worked examples of document 001, named by their place there; x is register 0. Transactions are numbered by their begins, on the threads
 -- that the document gives them.
 printed : List Case
@@ -280,5 +300,5 @@ printed =
     ∷ []
 
 unfoldable pub worked : List Case
-unfolding starred further printed
-worked = starred ++ (further ++ printed)
+unfolding starred further straightenings printed
+worked = starred ++ (further ++ (straightenings ++ printed))
