@@ -5,72 +5,25 @@ use native.Mathlib.Nat.{not-suc-le-zero, le-refl, le-step}
 use native.Mathlib.Numerals.{add-one}
 use native.Mathlib.Omega.{arith}
 use mathlib.Core.Path.{_≡_, refl, sym, ap, _∙_, subst}
-use mathlib.Core.Logic.{⊎-elim}
 use mathlib.Core.Bool.{Bool, true, false, not, cond}
 use mathlib.Core.List.{List}
 use mathlib.Core.Option.{Option, none, some, Option·getD}
-use lib.Dec.{eqb, ltb}
-use lib.ListN.{getD, set, replicate, length-set, length-replicate}
-use lib.Seq.{getD-set-same, getD-set-other}
-use borrow.Author.Tests.{eqb-true, eq-eqb, ne-eqb, eqb-false, lt-ltb, le-ltb, ltb-true, ltb-false}
+use lib.Dec.{eqb}
+use lib.ListN.{getD}
+use borrow.Author.Tests.{eqb-true, eq-eqb, ne-eqb, eqb-false}
 use Rattle.events.specs.declared.event.Event.{Event}
 use Rattle.events.specs.Lists.{_and_, _implies_, orElse, isNone, latest}
 use Rattle.events.specs.Events.{eventAt, isRead, isWrite, by}
 use Rattle.events.specs.Columns.{Columns, entry, history}
-use Rattle.events.proofs.ListLaws.{below-cases, latest-snoc}
+use Rattle.events.proofs.ListLaws.{latest-snoc}
 use Rattle.events.proofs.ColumnLaws.{history-at}
 use Rattle.opacity.specs.Transactions.{lastWrite, ownWrite, isOwnRead, isStoreRead, ownRight, isValue}
 use Rattle.opacity.proofs.Prefixes.{own-write-at}
 use Rattle.links.specs.declared.tables.Fact.the-variants.{LastWrite}
 use Rattle.opacity.specs.Counts.{ofKind}
 use Rattle.links.specs.Tables.{lastOne, slot}
-use Rattle.links.specs.Writes.{Links, following, writeFrom, Linked, plusOne, ownBy, storeReadBy, agrees, ownRightBy, Reads}
-
--- ---- filling
-
-pub links-start : (kinds transactions : List ℕ) → Links kinds transactions 0 (replicate 2048 0)
-links-start kinds transactions = record { size = length-replicate {A = ℕ} 2048 0; holds = λ i l. absurd (not-suc-le-zero l) }
-
-pub links-more : (kinds transactions : List ℕ) (i v : ℕ) (link : List ℕ) → i < 2048 → v ≡ slot LastWrite kinds transactions (getD transactions i 0) i
-    → Links kinds transactions i link → Links kinds transactions (i + 1) (set link i v)
-links-more kinds transactions i v link b q h =
-    record { size = length-set link i v ∙ h .size; holds = λ k l. ⊎-elim (same k) (other k) (below-cases (rw (add-one i) at l)) }
-  where
-    same : (k : ℕ) → k ≡ i → getD (set link i v) k 0 ≡ slot LastWrite kinds transactions (getD transactions k 0) k
-    same k e = rw (e, getD-set-same link i v 0 (rw (h .size) b)) q
-
-    other : (k : ℕ) → k < i → getD (set link i v) k 0 ≡ slot LastWrite kinds transactions (getD transactions k 0) k
-    other k l = rw (getD-set-other link i k v 0 (λ w. omega arith)) (h .holds k l)
-
-module _ (kinds registers values link : List ℕ) where
-  pub reads-start : Reads kinds registers values link 0 (replicate 2048 false)
-  unfolding _and_
-  reads-start = record { size = length-replicate {A = Bool} 2048 false; holds = λ i. none i ∙ sym (rw (le-ltb i 0 (omega arith))) }
-    where
-      none : (i : ℕ) → getD (replicate 2048 false) i false ≡ false
-      none i = all 2048 i
-        where
-          all : (n i : ℕ) → getD (replicate n false) i false ≡ false
-          all zero i = refl
-          all (suc n) zero = refl
-          all (suc n) (suc i) = all n i
-
-  pub reads-more : (i : ℕ) (v : Bool) (table : List Bool) → i < 2048 → v ≡ storeReadBy kinds registers values link i
-      → Reads kinds registers values link i table → Reads kinds registers values link (i + 1) (set table i v)
-  unfolding _and_
-  reads-more i v table b q h = record { size = length-set table i v ∙ h .size; holds = λ k. go k (eqb k i) refl }
-    where
-      go : (k : ℕ) (d : Bool) → eqb k i ≡ d → getD (set table i v) k false ≡ (ltb k (i + 1) and storeReadBy kinds registers values link k)
-      go k true e =
-          let w : k ≡ i = eqb-true k i e in
-          rw (w, getD-set-same table i v false (rw (h .size) b), lt-ltb i (i + 1) (omega arith)) q
-      go k false e =
-          let ne : k ≡ i → ⊥ = eqb-false k i e in
-          rw (getD-set-other table i k v false ne) (h .holds k ∙ ap (λ (x : Bool). x and storeReadBy kinds registers values link k) (moved (ltb k i) refl))
-        where
-          moved : (x : Bool) → ltb k i ≡ x → x ≡ ltb k (i + 1)
-          moved true f = sym (lt-ltb k (i + 1) (omega (arith, ltb-true k i f)))
-          moved false f = sym (le-ltb k (i + 1) (omega (arith, ltb-false k i f, eqb-false k i e)))
+use Rattle.links.proofs.FilledLaws.{filled-at}
+use Rattle.links.specs.Writes.{Links, following, writeFrom, Linked, plusOne, ownBy, storeReadBy, agrees, ownRightBy}
 
 -- ---- answers as numbers
 
@@ -163,7 +116,7 @@ module _ (c : Columns) (t : ℕ) where
 
 -- the links of a history lead backwards
 pub links-back : (c : Columns) (n : ℕ) (link : List ℕ) → Links (c .kinds) (c .transactions) n link → (i : ℕ) → i < n → getD link i 0 ≤ i
-links-back c n link h i l = rw (h .holds i l) (back-le c (getD (c .transactions) i 0) i)
+links-back c n link h i l = rw (filled-at h i l) (back-le c (getD (c .transactions) i 0) i)
 
 pub head-le : (c : Columns) (t m : ℕ) → slot LastWrite (c .kinds) (c .transactions) t m ≤ m
 head-le c t m = back-le c t m
@@ -212,7 +165,7 @@ module _ (c : Columns) (n r : ℕ) (link : List ℕ) (h : Links (c .kinds) (c .t
       here (suc x) d p ih = found (eqb (getD (c .registers) m 0) r)
         where
           linked : getD link m 0 ≡ slot LastWrite (c .kinds) (c .transactions) t m
-          linked = h .holds m l ∙ ap (λ (u : ℕ). slot LastWrite (c .kinds) (c .transactions) u m) (eqb-true _ _ p)
+          linked = filled-at h m l ∙ ap (λ (u : ℕ). slot LastWrite (c .kinds) (c .transactions) u m) (eqb-true _ _ p)
 
           found : (b : Bool) → cond b (some (getD (c .values) m 0)) (following (c .registers) (c .values) link r x (getD link m 0))
               ≡ orElse (cond b (some (getD (c .values) m 0)) none) (lastWrite (history c m) t r)
@@ -235,7 +188,7 @@ module _ (c : Columns) (n r : ℕ) (link : List ℕ) (h : Links (c .kinds) (c .t
 module _ (c : Columns) (n : ℕ) (link : List ℕ) (h : Links (c .kinds) (c .transactions) n link) (i : ℕ) (l : i < n) where
   own-table : ownBy (c .registers) (c .values) link i ≡ ownWrite (history c n) i
   own-table =
-      rw (h .holds i l) (follow-write c n (getD (c .registers) i 0) link h (getD (c .transactions) i 0) i _ (omega arith) (le-refl _))
+      rw (filled-at h i l) (follow-write c n (getD (c .registers) i 0) link h (getD (c .transactions) i 0) i _ (omega arith) (le-refl _))
       ∙ sym (own-write-at c n i l)
 
   read-at : isRead (eventAt (history c n) i) ≡ isRead (ofKind (getD (c .kinds) i 0))

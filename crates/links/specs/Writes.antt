@@ -1,22 +1,20 @@
 -- The writes of each transaction, linked backwards, and what is found by following the links.
 -- Assumes nothing.
 use Prim.Native.Nat.{ℕ, zero, suc, _+_, _≤_, _<_}
-use mathlib.Core.Path.{_≡_}
 use mathlib.Core.Bool.{Bool, true, false, cond}
 use mathlib.Core.List.{List}
 use mathlib.Core.Option.{Option, none, some}
-use lib.Dec.{eqb, ltb}
+use lib.Dec.{eqb}
 use lib.ListN.{length, getD}
 use Rattle.events.specs.Lists.{_and_, _implies_, isNone}
 use Rattle.events.specs.Events.{isRead}
 use Rattle.links.specs.declared.tables.Fact.the-variants.{LastWrite}
 use Rattle.opacity.specs.Counts.{ofKind}
-use Rattle.links.specs.Tables.{slot}
+use Rattle.links.specs.Tables.{Filled, slot}
 
 -- each entry holds one past the last write of its event's transaction before that event, 0 for none
-pub record Links (kinds transactions : List ℕ) (n : ℕ) (link : List ℕ) : Type 0 where
-  pub size : length link ≡ 2048
-  pub holds : (i : ℕ) → i < n → getD link i 0 ≡ slot LastWrite kinds transactions (getD transactions i 0) i
+abbrev pub Links : List ℕ → List ℕ → ℕ → List ℕ → Type 0
+Links kinds transactions n link = Filled 2048 0 (λ i. slot LastWrite kinds transactions (getD transactions i 0) i) n link
 
 -- the value of the first write to r that is met from j back, j being one past a write and 0 past the last
 unfoldable pub following : List ℕ → List ℕ → List ℕ → ℕ → ℕ → ℕ → Option ℕ
@@ -58,6 +56,5 @@ unfoldable pub ownRightBy : List ℕ → List ℕ → List ℕ → List ℕ → 
 ownRightBy kinds registers values link i = isRead (ofKind (getD kinds i 0)) implies agrees (getD values i 0) (ownBy registers values link i)
 
 -- which of the first n events are store reads; the table says no to all others
-pub record Reads (kinds registers values link : List ℕ) (n : ℕ) (table : List Bool) : Type 0 where
-  pub size : length table ≡ 2048
-  pub holds : (i : ℕ) → getD table i false ≡ (ltb i n and storeReadBy kinds registers values link i)
+abbrev pub Reads : List ℕ → List ℕ → List ℕ → List ℕ → ℕ → List Bool → Type 0
+Reads kinds registers values link n table = Filled 2048 false (storeReadBy kinds registers values link) n table

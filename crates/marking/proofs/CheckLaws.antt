@@ -9,7 +9,6 @@ use mathlib.Core.Bool.{Bool, true, false, not, cond, true≢false, false≢true}
 use mathlib.Core.List.{List, [], _∷_, _++_, map, map-append}
 use lib.Dec.{eqb}
 use lib.ListN.{length, getD, List·getD-eq-default}
-use borrow.Author.Tests.{lt-ltb, le-ltb}
 use Rattle.events.specs.declared.event.Event.{Event}
 use Rattle.events.specs.Lists.{_and_, keep, push, range}
 use Rattle.events.specs.Events.{eventAt, noEvent, begins, isRead}
@@ -23,6 +22,7 @@ use Rattle.opacity.proofs.Bounds.{at-most-64}
 use Rattle.opacity.specs.Transactions.{isStoreRead, storeReads}
 use Rattle.opacity.specs.Marking.{Point}
 use Rattle.links.specs.Writes.{Links, Reads}
+use Rattle.links.proofs.FilledLaws.{filled-at, filled-beyond}
 use Rattle.links.proofs.WriteLaws.{store-read-table}
 use Rattle.rules.specs.Judge.{content as inArrays, Ground, Given}
 use Rattle.marking.specs.declared.read.Reading.{Reading}
@@ -86,15 +86,13 @@ beyond-history h i l = let q : eventAt h i ≡ noEvent = List·getD-eq-default h
 module _ (c : Columns) (n b : ℕ) (link : List ℕ) (reads : List Bool) (count : b ≡ begins (history c n)) (links : Links (c .kinds) (c .transactions) n link)
     (tabled : Reads (c .kinds) (c .registers) (c .values) link n reads) where
   pub none-beyond : (i : ℕ) → n ≤ i → getD reads i false ≡ false
-  unfolding _and_
-  none-beyond i l = tabled .holds i ∙ rw (le-ltb i n l)
+  none-beyond = filled-beyond tabled
 
   pub reads-same : (i : ℕ) → getD reads i false ≡ isStoreRead (history c n) i
-  unfolding _and_
   reads-same i =
       elim (decLe n i) [
         | yes l ↦ none-beyond i l ∙ sym (beyond-history (history c n) i (rw (history-length c n) l))
-        | no u ↦ (let l = lt-of-not-le u in tabled .holds i ∙ rw (lt-ltb i n l) (store-read-table c n link links i l))
+        | no u ↦ (let l = lt-of-not-le u in filled-at tabled i l ∙ store-read-table c n link links i l)
       ]
 
   pub known-same : knownBy reads n b ≡ known (history c n)

@@ -8,9 +8,9 @@ use mathlib.Core.List.{List, _∷_}
 use mathlib.Core.Option.{Option, none, some, Option·getD}
 use lib.Dec.{eqb, ltb}
 use lib.ListN.{getD, take, drop}
-use borrow.Author.Tests.{lt-ltb, ltb-true}
+use borrow.Author.Tests.{ltb-true}
 use Rattle.events.specs.declared.event.Event.{Event}
-use Rattle.events.specs.Lists.{_and_, _implies_, isNone, first, latest}
+use Rattle.events.specs.Lists.{_implies_, isNone, first, latest}
 use Rattle.events.specs.Events.{eventAt, begins}
 use Rattle.events.specs.Columns.{Columns, history}
 use Rattle.events.proofs.ListLaws.{First, first-some}
@@ -26,6 +26,7 @@ use Rattle.opacity.proofs.Finder.{gap-marked, before-le}
 use Rattle.links.specs.declared.tables.Fact.the-variants.{LastEvent, LastWrite, LastBegin, FirstBegin, FirstEnd, Standing}
 use Rattle.links.specs.Tables.{Slots, Tabled, slot, earlier}
 use Rattle.links.specs.Writes.{Linked, ownRightBy}
+use Rattle.links.proofs.FilledLaws.{filled-at}
 use Rattle.links.proofs.TableLaws.{precedes-table, status-table, standingOf, last-event, first-begin}
 use Rattle.links.proofs.WriteLaws.{links-back, head-le, store-read-table, own-right-table}
 use Rattle.rules.specs.Orders.{placesOf, Inverse, Apart, writerAt, Writers, broken, allowsBy, outcomeBy, pairBy, realTimeBy}
@@ -87,8 +88,7 @@ module _ {c : Columns} {n : ℕ} {link : List ℕ} {reads : List Bool} {order ou
       }
 
   read-same : (i : ℕ) → i < n → getD reads i false ≡ isStoreRead (history c n) i
-  unfolding _and_
-  read-same i l = y .tabled .holds i ∙ rw (lt-ltb i n l) (store-read-table c n link (y .links) i l)
+  read-same i l = filled-at (y .tabled) i l ∙ store-read-table c n link (y .links) i l
 
   pub gap-same : (i : ℕ) → i < n → isStoreRead (history c n) i ≡ true → gapOf (content (history c n) order outcomes gaps .points) i ≡ getD gaps i 0
   unfolding content
@@ -203,8 +203,8 @@ module _ {c : Columns} {n : ℕ} {link : List ℕ} {reads : List Bool} {order ou
     pub all-apart : Apart order k
     all-apart = subst (Apart order) (sym ek) apart
 
-    writers-all : {last writers : List ℕ} → Writers order outcomes last k writers → Writers order outcomes last (begunIn c n) writers
-    writers-all {last} {writers} w = subst (λ (x : ℕ). Writers order outcomes last x writers) ek w
+    writers-all : (last : List ℕ) {writers : List ℕ} → Writers order outcomes last k writers → Writers order outcomes last (begunIn c n) writers
+    writers-all last {writers} w = subst (λ (x : ℕ). Writers order outcomes last x writers) ek w
 
     module _ {place : List ℕ} (inverse : Inverse order k place) where
       v : Inverse order (begunIn c n) place
@@ -212,7 +212,7 @@ module _ {c : Columns} {n : ℕ} {link : List ℕ} {reads : List Bool} {order ou
 
       pub all-walkable : {last writers : List ℕ} → Slots LastWrite (c .kinds) (c .transactions) n last → Writers order outcomes last k writers
           → Walkable (c .transactions) (c .registers) (c .values) n link writers place reads gaps
-      all-walkable {last} {writers} lasts table = walkable place last writers v lasts (writers-all table)
+      all-walkable {last} {writers} lasts table = walkable place last writers v lasts (writers-all last table)
 
       -- the place of the reader of event i
       pub reader-same : (i : ℕ) → i < n → getD place (getD (c .transactions) i 0) 0 ≡ placeOf (eventAt (history c n) i .transaction) (orderIn c n order outcomes)
@@ -224,11 +224,11 @@ module _ {c : Columns} {n : ℕ} {link : List ℕ} {reads : List Bool} {order ou
       module _ {last writers : List ℕ} (lasts : Slots LastWrite (c .kinds) (c .transactions) n last) (table : Writers order outcomes last k writers) (start : ℕ → ℕ) (i : ℕ) (l : i < n) where
         pub d-same : readRuleBy start c link writers place reads gaps D i ≡ ruleHolds start (history c n) (content (history c n) order outcomes gaps) D i
         unfolding readRuleBy ruleHolds content
-        d-same = no-writer-same place last writers v lasts (writers-all table) i l
+        d-same = no-writer-same place last writers v lasts (writers-all last table) i l
 
         pub e-same : readRuleBy start c link writers place reads gaps E i ≡ ruleHolds start (history c n) (content (history c n) order outcomes gaps) E i
         unfolding readRuleBy ruleHolds content
-        e-same = value-same place last writers v lasts (writers-all table) i l start
+        e-same = value-same place last writers v lasts (writers-all last table) i l start
 
       module _ (start : ℕ → ℕ) {standing : List ℕ} (s : Slots Standing (c .kinds) (c .transactions) n standing)
           {t : ℕ} (et : t ≡ broken (outcomeBy standing place outcomes) k) where
@@ -271,7 +271,7 @@ module _ {c : Columns} {n : ℕ} {link : List ℕ} {reads : List Bool} {order ou
           unfolding verdict content broke
           verdict-reads l {last} {writers} lasts table =
               rw (none-a, sym agrees-b ∙ none-of (realTimeBy ended began place (begunIn c n)) (begunIn c n) u etb (omega arith), history-length c n)
-              (reads-same place last writers v lasts (writers-all table) start)
+              (reads-same place last writers v lasts (writers-all last table) start)
 
 -- the rules of reads from the k-th on
 rules-left : (k : ℕ) → k < 3 → drop k readRules ≡ readRule k ∷ drop (suc k) readRules

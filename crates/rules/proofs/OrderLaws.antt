@@ -7,19 +7,19 @@ use native.Mathlib.Numerals.{add-one}
 use native.Mathlib.Omega.{arith}
 use mathlib.Core.Path.{_≡_, refl, sym, ap, _∙_, subst}
 use mathlib.Core.Logic.{⊎-elim}
-use mathlib.Core.Bool.{Bool, true, false, cond}
+use mathlib.Core.Bool.{Bool, true, false}
 use mathlib.Core.List.{List, [], _∷_, _++_}
 use lib.Dec.{eqb, ltb}
 use lib.ListN.{length, getD, take, drop, set, replicate, length-set, length-replicate, length-append}
 use lib.Seq.{getD-set-same, getD-set-other, split-at, getD-take, getD-at, take-append-le, take-all}
 use borrow.Author.Tests.{eqb-true, eq-eqb, ne-eqb, eqb-false, lt-ltb, ltb-true, ltb-false, le-ltb}
-use Rattle.events.specs.Lists.{_and_, _or_, any, all}
+use Rattle.events.specs.Lists.{_or_, any, all}
 use Rattle.events.proofs.ListLaws.{and-l, and-r, every-e, below-cases}
 use Rattle.events.proofs.QuestionLaws.{any-index}
 use Rattle.opacity.specs.Justification.{Place, isOf, placed, stop, before, outcome, distinct, isOrder}
 use Rattle.opacity.specs.Marking.{placeOf}
 use Rattle.opacity.proofs.Orders.{Fresh, before-here, distinct-at, outcome-here}
-use Rattle.rules.specs.Orders.{placesOf, placeAt, Inverse, Apart, writerAt, Writers}
+use Rattle.rules.specs.Orders.{placesOf, placeAt, Inverse, Apart}
 
 pub places-length : (order outcomes : List ℕ) (k : ℕ) → length (placesOf order outcomes k) ≡ k
 unfolding placesOf
@@ -167,23 +167,3 @@ inverse-more order place b k t v a l e q h =
     other : (j : ℕ) → j < k → getD (set place t v) (getD order j 0) 0 ≡ j
     other j m =
         getD-set-other place t (getD order j 0) v 0 (λ d. let z = a .distinct j k (omega arith) l (d ∙ e) in omega arith) ∙ h .holds j m
-
--- ---- the table of the last writes by place
-
-module _ (order outcomes last : List ℕ) where
-  pub writers-start : Writers order outcomes last 0 (replicate 64 0)
-  writers-start = record { size = length-replicate {A = ℕ} 64 0; holds = λ k. blank 64 k ∙ sym (rw (le-ltb k 0 (omega arith))) }
-
-  pub writers-more : (i v : ℕ) (table : List ℕ) → i < 64 → v ≡ writerAt order outcomes last i → Writers order outcomes last i table → Writers order outcomes last (i + 1) (set table i v)
-  writers-more i v table b q h = record { size = length-set table i v ∙ h .size; holds = λ k. go k (eqb k i) refl }
-    where
-      go : (k : ℕ) (d : Bool) → eqb k i ≡ d → getD (set table i v) k 0 ≡ cond (ltb k (i + 1)) (writerAt order outcomes last k) 0
-      go k true e =
-          let w : k ≡ i = eqb-true k i e in
-          rw (w, getD-set-same table i v 0 (rw (h .size) b), lt-ltb i (i + 1) (omega arith)) q
-      go k false e =
-          rw (getD-set-other table i k v 0 (eqb-false k i e)) (h .holds k ∙ ap (λ (x : Bool). cond x (writerAt order outcomes last k) 0) (moved (ltb k i) refl))
-        where
-          moved : (x : Bool) → ltb k i ≡ x → x ≡ ltb k (i + 1)
-          moved true f = sym (lt-ltb k (i + 1) (omega (arith, ltb-true k i f)))
-          moved false f = sym (le-ltb k (i + 1) (omega (arith, ltb-false k i f, eqb-false k i e)))

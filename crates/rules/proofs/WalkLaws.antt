@@ -11,7 +11,7 @@ use mathlib.Core.Option.{Option, none}
 use lib.Dec.{eqb}
 use lib.ListN.{take, drop, getD}
 use lib.Seq.{drop-append-le, drop-length}
-use borrow.Author.Tests.{le-leb, lt-leb, lt-ltb}
+use borrow.Author.Tests.{le-leb, lt-leb}
 use Rattle.events.specs.declared.event.Event.{Event}
 use Rattle.events.specs.Lists.{orElse, latest, keep, push}
 use Rattle.events.specs.Columns.{Columns, history}
@@ -21,6 +21,7 @@ use Rattle.opacity.specs.Justification.{Place, isOf, written, isOrder}
 use Rattle.opacity.specs.Marking.{others, between, placeOf}
 use Rattle.links.specs.declared.tables.Fact.the-variants.{LastWrite}
 use Rattle.links.specs.Tables.{Slots}
+use Rattle.links.proofs.FilledLaws.{filled-at}
 use Rattle.links.specs.Writes.{writeFrom, plusOne, Links, Linked}
 use Rattle.links.proofs.WriteLaws.{Followed, follow-start, follow-none, follow-found, follow-next, write-from, following-none}
 use Rattle.rules.specs.Orders.{placesOf, placeAt, Writers}
@@ -120,7 +121,7 @@ module _ (c : Columns) (n : ℕ) (link last : List ℕ) (order outcomes writers 
   unfolding writtenBut written
   at-place k l =
       ap (λ (x : Bool). writeFrom (c .registers) (c .values) link r (cond x 0 (getD writers k 0))) (sym (own-place order outcomes b ordered t k known l))
-      ∙ go (isOf t (placeAt order outcomes k)) (eqb (getD outcomes k 0) 1) (table .holds k ∙ rw (lt-ltb k b l))
+      ∙ go (isOf t (placeAt order outcomes k)) (eqb (getD outcomes k 0) 1) (filled-at table k l)
     where
       go : (x y : Bool) → getD writers k 0 ≡ cond y (getD last (getD order k 0) 0) 0
           → writeFrom (c .registers) (c .values) link r (cond x 0 (getD writers k 0)) ≡ cond x none (cond y (lastWrite (history c n) (getD order k 0) r) none)

@@ -9,7 +9,7 @@ use lib.Dec.{eqb, ltb}
 use lib.ListN.{length, getD}
 use Rattle.events.specs.Lists.{_implies_, first, every}
 use Rattle.opacity.specs.Justification.{Place}
-use Rattle.links.specs.Tables.{earlier}
+use Rattle.links.specs.Tables.{Filled, earlier}
 
 abbrev pub placeAt : List ℕ → List ℕ → ℕ → Place
 placeAt order outcomes k = record { transaction = getD order k 0; committed = eqb (getD outcomes k 0) 1 }
@@ -36,9 +36,8 @@ abbrev pub writerAt : List ℕ → List ℕ → List ℕ → ℕ → ℕ
 writerAt order outcomes last k = cond (eqb (getD outcomes k 0) 1) (getD last (getD order k 0) 0) 0
 
 -- the same as a table of the first b places, 0 past them
-pub record Writers (order outcomes last : List ℕ) (b : ℕ) (table : List ℕ) : Type 0 where
-  pub size : length table ≡ 64
-  pub holds : (k : ℕ) → getD table k 0 ≡ cond (ltb k b) (writerAt order outcomes last k) 0
+abbrev pub Writers : List ℕ → List ℕ → List ℕ → ℕ → List ℕ → Type 0
+Writers order outcomes last b table = Filled 64 0 (writerAt order outcomes last) b table
 
 -- the first number below n that fails, or n
 unfoldable pub broken : (ℕ → Bool) → ℕ → ℕ

@@ -18,7 +18,8 @@ use Rattle.events.proofs.ListLaws.{and-l, and-r, and-i, keep-append, clash}
 use Rattle.events.proofs.ColumnLaws.{history-length}
 use Rattle.opacity.specs.Transactions.{isStoreRead, storeReads}
 use Rattle.opacity.specs.Marking.{Marking, ReadableFor, gapOf, placeOf}
-use Rattle.links.specs.Tables.{Slots}
+use Rattle.links.specs.Tables.{Filled, Slots}
+use Rattle.links.proofs.FilledLaws.{filled-at}
 use Rattle.links.specs.declared.tables.Fact.the-variants.{LastWrite}
 use Rattle.rules.specs.Orders.{Inverse, Writers}
 use Rattle.rules.specs.Judge.{content, Given, readRuleBy}
@@ -26,7 +27,7 @@ use Rattle.rules.proofs.JudgeLaws.{place-le, gap-same, reader-same, d-same, e-s
 use Rattle.marking.proofs.CheckLaws.{beyond-history}
 use Rattle.marking.proofs.ReadBack.{keep-passes}
 use Rattle.straighten.specs.Straight.{straightened, movedEvents}
-use Rattle.straighten.specs.Tables.{Filled, breaksBy, gapBy, listed}
+use Rattle.straighten.specs.Tables.{breaksBy, gapBy, listed}
 use Rattle.straighten.proofs.PointLaws.{pointWith, events-with, map-same}
 use Rattle.straighten.proofs.StraightLaws.{keptAt, gapAfter, straight-points, moved-exactly}
 
@@ -69,10 +70,10 @@ module _ {c : Columns} {n : ℕ} {link : List ℕ} {reads : List Bool} {order ou
 
   module _ {k : ℕ} (ek : k ≡ begins (history c n)) {place : List ℕ} (inverse : Inverse order k place) {last writers : List ℕ}
       (lasts : Slots LastWrite (c .kinds) (c .transactions) n last) (table : Writers order outcomes last k writers) (start : ℕ → ℕ)
-      {moves : List Bool} (moving : Filled false (breaksBy (readRuleBy start c link writers place reads gaps)) n moves)
-      {straight : List ℕ} (straightening : Filled 0 (gapBy (c .transactions) place moves gaps) n straight) where
+      {moves : List Bool} (moving : Filled 2048 false (breaksBy (readRuleBy start c link writers place reads gaps)) n moves)
+      {straight : List ℕ} (straightening : Filled 2048 0 (gapBy (c .transactions) place moves gaps) n straight) where
     moved-same : (i : ℕ) → i < n → getD moves i false ≡ not (keptAt start h m i)
-    moved-same i l = moving .tells i l ∙ ap₂ (λ (a b : Bool). not (a and b)) (d-same y ek inverse lasts table start i l) (e-same y ek inverse lasts table start i l)
+    moved-same i l = filled-at moving i l ∙ ap₂ (λ (a b : Bool). not (a and b)) (d-same y ek inverse lasts table start i l) (e-same y ek inverse lasts table start i l)
 
     -- the events that the table lists are those that the definition moves
     pub listed-same : listed moves n ≡ movedEvents start h m
@@ -85,7 +86,7 @@ module _ {c : Columns} {n : ℕ} {link : List ℕ} {reads : List Bool} {order ou
     unfolding content
     gap-after i s =
         let l = read-inside i s in
-        straightening .tells i l
+        filled-at straightening i l
         ∙ (rw (moved-same i l) (go (keptAt start h m i) l))
       where
         go : (b : Bool) → i < n → cond (not b) (getD place (getD (c .transactions) i 0) 0) (getD gaps i 0) ≡ cond b (gapOf (m .points) i) (placeOf (eventAt h i .transaction) (m .places))
@@ -109,7 +110,7 @@ module _ {c : Columns} {n : ℕ} {link : List ℕ} {reads : List Bool} {order ou
           links = y .links;
           tabled = y .tabled;
           ordered = y .ordered;
-          gaps-fit = λ i l s. rw (straightening .tells i l) (go i l s (getD moves i false));
+          gaps-fit = λ i l s. rw (filled-at straightening i l) (go i l s (getD moves i false));
         }
       where
         go : (i : ℕ) → i < n → isStoreRead h i ≡ true → (b : Bool) → cond b (getD place (getD (c .transactions) i 0) 0) (getD gaps i 0) ≤ begins h

@@ -10,14 +10,12 @@ use lib.ListN.{length, getD, length-map}
 use borrow.Author.Tests.{leb-true}
 use Rattle.events.specs.declared.event.Event.{Event}
 use Rattle.events.specs.Lists.{_and_}
-use Rattle.events.specs.Bytes.{Bytes, over}
+use Rattle.events.specs.Bytes.{Bytes}
 use Rattle.events.specs.Columns.{Columns, history}
 use Rattle.events.specs.Events.{begins}
 use Rattle.events.proofs.ListLaws.{and-l, and-r}
 use Rattle.events.proofs.ColumnLaws.{history-length}
-use Rattle.opacity.specs.declared.verdict.Rule.{Rule}
 use Rattle.opacity.specs.declared.verdict.Verdict.{Verdict}
-use Rattle.opacity.specs.declared.verdict.Verdict.the-variants.{Accepted, Broken as Breaks}
 use Rattle.opacity.specs.Counts.{HoldsReadable}
 use Rattle.opacity.specs.Transactions.{isStoreRead, storeReads}
 use Rattle.opacity.specs.Marking.{Marking, ReadableFor, markingBytes, verdict}
@@ -29,7 +27,7 @@ use Rattle.marking.proofs.CheckLaws.{ground, reads-same}
 use Rattle.marking.proofs.WriteBack.{content-bytes}
 use Rattle.marking_writer.specs.Points.{pointsTo}
 use Rattle.marking_writer.proofs.PointLaws.{points-are}
-use Rattle.straighten.specs.declared.Straightening.the-variants.{Straightened, Broken, Refused}
+use Rattle.straighten.specs.declared.Straightening.the-variants.{Refused}
 use Rattle.straighten.specs.Straight.{straightened, movedEvents}
 use Rattle.straighten.specs.Answer.{gives, settled, judged, roomy, afterFile}
 use Rattle.straighten.specs.Tables.{Room, pointsIn, bytesIn}

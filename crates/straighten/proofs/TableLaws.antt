@@ -1,14 +1,12 @@
--- Tables that are filled from the front, and what is put into output and list one event more at a time.
+-- Two tests one after the other, and what is put into output and list one event more at a time.
 -- Assumes nothing.
-use Prim.Native.Nat.{ℕ, suc, _+_, _*_, _≤_, _<_}
+use Prim.Native.Nat.{ℕ, suc, _+_, _*_, _≤_}
 use native.Mathlib.Omega.{arith}
 use mathlib.Core.Path.{_≡_, refl, sym, ap, _∙_}
 use mathlib.Core.Bool.{Bool, true, false, not}
 use mathlib.Core.List.{List, [], _∷_, _++_, append-assoc, append-nil}
-use lib.Dec.{eqb}
-use lib.ListN.{length, getD, take, drop, set, length-append, length-set}
-use lib.Seq.{sets-eq, getD-set-same, getD-set-other}
-use borrow.Author.Tests.{eqb-true, eqb-false}
+use lib.ListN.{length, getD, take, drop, set, length-append}
+use lib.Seq.{sets-eq}
 use Rattle.events.specs.Bytes.{placed}
 use Rattle.events.specs.Lists.{_and_, push, keep, range}
 use Rattle.events.proofs.ListLaws.{keep-append}
@@ -16,23 +14,7 @@ use Rattle.opacity.specs.Marking.{placeBytes, flat}
 use Rattle.opacity.proofs.MarkingBytes.{flat-append, flat-length}
 use Rattle.rules.specs.Orders.{placeAt, placesOf}
 use Rattle.rules.proofs.OrderLaws.{places-length}
-use Rattle.straighten.specs.Tables.{Filled, listed, pointsIn, bytesIn}
-
--- ---- a table, one entry more
-
-pub filled-none : {A : Type 0} (d : A) (f : ℕ → A) (table : List A) → length table ≡ 2048 → Filled d f 0 table
-filled-none d f table e = record { size = e; tells = λ i l. absurd (omega arith) }
-
-pub filled-more : {A : Type 0} (d : A) (f : ℕ → A) (i : ℕ) (v : A) (table : List A) → i < 2048 → v ≡ f i → Filled d f i table → Filled d f (i + 1) (set table i v)
-filled-more d f i v table b q h = record { size = length-set table i v ∙ h .size; tells = λ k l. go k l (eqb k i) refl }
-  where
-    go : (k : ℕ) → k < i + 1 → (x : Bool) → eqb k i ≡ x → getD (set table i v) k d ≡ f k
-    go k l true e =
-        let w : k ≡ i = eqb-true k i e in
-        rw (w, getD-set-same table i v d (rw (h .size) b)) q
-    go k l false e =
-        let ne : k ≡ i → ⊥ = eqb-false k i e in
-        getD-set-other table i k v d ne ∙ h .tells k (omega arith)
+use Rattle.straighten.specs.Tables.{listed, pointsIn, bytesIn}
 
 -- ---- two tests, one after the other
 

@@ -1,7 +1,6 @@
 -- The tables by which points are moved, and the marking that stands in arrays, as bytes.
 -- Assumes nothing.
-use Prim.Native.Nat.{ℕ, _+_, _*_, _≤_, _<_}
-use mathlib.Core.Path.{_≡_}
+use Prim.Native.Nat.{ℕ, _+_, _*_, _≤_}
 use mathlib.Core.Bool.{Bool, false, not, cond}
 use mathlib.Core.List.{List, _++_}
 use lib.ListN.{length, getD}
@@ -14,11 +13,6 @@ use Rattle.opacity.specs.Transactions.{storeReads}
 use Rattle.opacity.specs.Marking.{markingHead, placeBytes, flat}
 use Rattle.rules.specs.Orders.{placesOf}
 use Rattle.marking_writer.specs.Points.{pointsTo}
-
--- a table by event, of which the first n entries are given by f
-pub record Filled {A : Type 0} (d : A) (f : ℕ → A) (n : ℕ) (table : List A) : Type 0 where
-  pub size : length table ≡ 2048
-  pub tells : (i : ℕ) → i < n → getD table i d ≡ f i
 
 -- whether the point of an event breaks D or E
 abbrev pub breaksBy : (Rule → ℕ → Bool) → ℕ → Bool

@@ -6,10 +6,11 @@ ghost use lib.ListN.{length, getD};
 ghost use Rattle.events.specs.Columns.{columns, history};
 ghost use Rattle.events.specs.Events.{begins};
 ghost use Rattle.opacity.specs.Justification.{zeros};
+ghost use Rattle.links.specs.Tables.{Filled};
 ghost use Rattle.rules.specs.Walks.{Walkable};
 ghost use Rattle.rules.specs.Judge.{Given, readRuleBy, content};
 ghost use Rattle.straighten.specs.Straight.{straightened, movedEvents};
-ghost use Rattle.straighten.specs.Tables.{Filled, breaksBy, gapBy, listed};
+ghost use Rattle.straighten.specs.Tables.{breaksBy, gapBy, listed};
 use links::tables::Fact;
 use links::tables::table;
 use links::tables::wide;
@@ -91,7 +92,7 @@ pub fn moves_of(
 ) -> [bool; 2048]
     requires { ⌜ Walkable (now transactions) (now registers) (now values) count (now link) (now writers) (now place) (now reads) (now gaps) ⌝ }
     requires { ⌜ count ≤ length (now kinds) ⌝ }
-    ensures { λ r. ⌜ Filled false (breaksBy (readRuleBy zeros (columns (now (kinds .entry)) (now (transactions .entry)) (now (registers .entry)) (now (values .entry))) (now (link .entry)) (now (writers .entry)) (now (place .entry)) (now (reads .entry)) (now (gaps .entry)))) count r ⌝ }
+    ensures { λ r. ⌜ Filled 2048 false (breaksBy (readRuleBy zeros (columns (now (kinds .entry)) (now (transactions .entry)) (now (registers .entry)) (now (values .entry))) (now (link .entry)) (now (writers .entry)) (now (place .entry)) (now (reads .entry)) (now (gaps .entry)))) count r ⌝ }
 {
     let mut moves = [false; 2048];
     let mut i: usize = 0;
@@ -144,7 +145,7 @@ pub fn gaps_of(
 ) -> [u16; 2048]
     requires { ⌜ (count ≤ 2048) × (count ≤ length (now transactions)) ⌝ }
     requires { ⌜ ((i : ℕ) → i < count → getD (now transactions) i 0 < 64) ⌝ }
-    ensures { λ r. ⌜ Filled 0 (gapBy (now (transactions .entry)) (now (place .entry)) (now (moves .entry)) (now (gaps .entry))) count r ⌝ }
+    ensures { λ r. ⌜ Filled 2048 0 (gapBy (now (transactions .entry)) (now (place .entry)) (now (moves .entry)) (now (gaps .entry))) count r ⌝ }
 {
     let mut straight = [0u16; 2048];
     let mut i: usize = 0;

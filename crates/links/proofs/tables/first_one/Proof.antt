@@ -1,6 +1,5 @@
 -- `links::tables::first_one` meets its contract.
 -- Assumes nothing.
-use Prim.Native.Nat.{_-_}
 use borrow.Author.Tests.{eq-eqb, ne-eqb}
 use Rattle.links.specs.Tables.{firstOne}
 use borrow.Author.Needs.{needs}

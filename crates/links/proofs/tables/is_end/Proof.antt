@@ -1,6 +1,5 @@
 -- `links::tables::is_end` meets its contract.
 -- Assumes nothing.
-use Prim.Native.Nat.{_-_}
 use borrow.Author.Tests.{eq-eqb, ne-eqb}
 use Rattle.events.specs.Lists.{_or_}
 use Rattle.events.specs.Events.{isEnd, isCommit, isAbort}

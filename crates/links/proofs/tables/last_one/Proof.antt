@@ -1,6 +1,5 @@
 -- `links::tables::last_one` meets its contract.
 -- Assumes nothing.
-use Prim.Native.Nat.{_-_}
 use Rattle.links.specs.Tables.{lastOne}
 use borrow.Author.Needs.{needs}
 use Rattle.links.proofs.tables.last_one.Statement.{statement}

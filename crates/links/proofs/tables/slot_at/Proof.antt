@@ -1,6 +1,5 @@
 -- `links::tables::slot_at` meets its contract.
 -- Assumes nothing.
-use Prim.Native.Nat.{_-_}
 use mathlib.Core.Path.{_∙_}
 use Rattle.events.specs.Events.{isWrite, isBegin}
 use Rattle.links.specs.Tables.{lastOne}

@@ -1,6 +1,5 @@
 -- `links::tables::standing_of` meets its contract.
 -- Assumes nothing.
-use Prim.Native.Nat.{_-_}
 use borrow.Author.Tests.{ne-eqb}
 use Rattle.events.specs.Events.{isCommit, isAbort, asksCommit}
 use Rattle.links.specs.Tables.{rank, standing}

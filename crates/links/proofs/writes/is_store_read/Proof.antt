@@ -1,7 +1,7 @@
 -- `links::writes::is_store_read` meets its contract.
 -- Assumes nothing.
 use Rattle.links.specs.Writes.{ownBy, storeReadBy}
-use Prim.Native.Nat.{_-_, _<_}
+use Prim.Native.Nat.{_<_}
 use mathlib.Core.Path.{sym}
 use native.Mathlib.Omega.{arith}
 use borrow.Author.Tests.{eq-eqb, ne-eqb}

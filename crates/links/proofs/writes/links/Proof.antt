@@ -3,11 +3,12 @@
 use Prim.Native.Nat.{ℕ, _-_, _≤_, _<_}
 use mathlib.Core.Path.{_≡_, ap, _∙_, subst}
 use native.Mathlib.Omega.{arith}
+use lib.ListN.{getD}
 use Rattle.links.specs.declared.tables.Fact.the-variants.{LastWrite}
 use Rattle.links.specs.Tables.{slot, Slots}
 use Rattle.links.specs.Writes.{Links}
 use Rattle.links.proofs.TableLaws.{slots-start, slots-more}
-use Rattle.links.proofs.WriteLaws.{links-start, links-more}
+use Rattle.links.proofs.FilledLaws.{filled-none, filled-more}
 use borrow.Author.Needs.{needs}
 use Rattle.links.proofs.writes.links.Statement.{statement}
 use Rattle.links.proofs.writes.links.Tie as tie
@@ -19,7 +20,7 @@ abbrev μ-loop : tie.MeasureT-loop
 μ-loop kinds transactions count last₀ link₀ i₀ last link i = count - i
 
 loop-holds : tie.Need-loop-holds Inv-loop μ-loop
-loop-holds c = (omega arith, slots-start _ _ _, links-start _ _)
+loop-holds c = (omega arith, slots-start _ _ _, filled-none _ _ _)
 
 mul-wide : tie.Need-mul-wide Inv-loop μ-loop
 mul-wide c = search needs
@@ -74,7 +75,7 @@ loop-again c =
     let l : c .before .before .wide .result < 64 = omega (arith, c .before .before .wide .ensures, c .before .before .before .before .before .before .before .before .pre .low (c .before .before .before .before .before .loop .i) (omega arith)) in
     let b : c .before .before .before .before .before .loop .i < 2048 = omega (arith, c .before .before .before .before .before .before .before .before .pre .few) in
     let q = c .before .before .before .before .before .loop .inv .1 .holds _ l ∙ ap (λ (x : ℕ). slot LastWrite (c .before .before .before .before .before .before .before .before .args .kinds .now) (c .before .before .before .before .before .before .before .before .args .transactions .now) x (c .before .before .before .before .before .loop .i)) (c .before .before .wide .ensures) in
-    (omega arith, slots-more LastWrite _ _ (c .before .before .before .before .before .loop .i) _ _ (c .before .before .before .before .before .loop .last) (c .before .before .wide .ensures) l (c .slot-at .ensures) (c .before .before .before .before .before .loop .inv .1), links-more _ _ (c .before .before .before .before .before .loop .i) _ (c .before .before .before .before .before .loop .link) b q (c .before .before .before .before .before .loop .inv .2))
+    (omega arith, slots-more LastWrite _ _ (c .before .before .before .before .before .loop .i) _ _ (c .before .before .before .before .before .loop .last) (c .before .before .wide .ensures) l (c .slot-at .ensures) (c .before .before .before .before .before .loop .inv .1), filled-more _ _ (λ i. slot LastWrite (c .before .before .before .before .before .before .before .before .args .kinds .now) (c .before .before .before .before .before .before .before .before .args .transactions .now) (getD (c .before .before .before .before .before .before .before .before .args .transactions .now) i 0) i) (c .before .before .before .before .before .loop .i) _ (c .before .before .before .before .before .loop .link) b q (c .before .before .before .before .before .loop .inv .2))
 
 returns : tie.Need-returns Inv-loop μ-loop
 returns c =

@@ -4,7 +4,7 @@ use Prim.Native.Nat.{ℕ, _-_, _≤_}
 use mathlib.Core.Path.{_≡_, subst}
 use native.Mathlib.Omega.{arith}
 use Rattle.links.specs.Writes.{Reads}
-use Rattle.links.proofs.WriteLaws.{reads-start, reads-more}
+use Rattle.links.proofs.FilledLaws.{filled-none, filled-more}
 use borrow.Author.Needs.{needs}
 use Rattle.links.proofs.writes.store_reads.Statement.{statement}
 use Rattle.links.proofs.writes.store_reads.Tie as tie
@@ -16,7 +16,7 @@ abbrev μ-loop : tie.MeasureT-loop
 μ-loop kinds registers values link count reads₀ i₀ reads i = count - i
 
 loop-holds : tie.Need-loop-holds Inv-loop μ-loop
-loop-holds c = (omega arith, reads-start _ _ _ _)
+loop-holds c = (omega arith, filled-none _ _ _)
 
 is-store-read-requires : tie.Need-is-store-read-requires Inv-loop μ-loop
 is-store-read-requires c κs = (c .before .before .before .before .before .pre .0, (omega arith, c .before .before .before .before .before .pre .1))
@@ -31,7 +31,7 @@ loop-less : tie.Need-loop-less Inv-loop μ-loop
 loop-less c = search needs
 
 loop-again : tie.Need-loop-again Inv-loop μ-loop
-loop-again c = (omega arith, reads-more _ _ _ _ (c .before .before .loop .i) _ (c .before .before .loop .reads) (omega (arith, c .before .before .before .before .before .before .pre .0 .few)) (c .is-store-read .ensures) (c .before .before .loop .inv .1))
+loop-again c = (omega arith, filled-more _ _ _ (c .before .before .loop .i) _ (c .before .before .loop .reads) (omega (arith, c .before .before .before .before .before .before .pre .0 .few)) (c .is-store-read .ensures) (c .before .before .loop .inv .1))
 
 returns : tie.Need-returns Inv-loop μ-loop
 returns c =

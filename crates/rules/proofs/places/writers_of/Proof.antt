@@ -4,7 +4,7 @@ use Prim.Native.Nat.{ℕ, _-_, _≤_, _<_}
 use mathlib.Core.Path.{_≡_, subst}
 use native.Mathlib.Omega.{arith}
 use Rattle.rules.specs.Orders.{Writers}
-use Rattle.rules.proofs.OrderLaws.{writers-start, writers-more}
+use Rattle.links.proofs.FilledLaws.{filled-none, filled-more}
 use borrow.Author.Needs.{needs}
 use Rattle.rules.proofs.places.writers_of.Statement.{statement}
 use Rattle.rules.proofs.places.writers_of.Tie as tie
@@ -16,7 +16,7 @@ abbrev μ-loop : tie.MeasureT-loop
 μ-loop order outcomes last begun writers₀ k₀ writers k = begun - k
 
 loop-holds : tie.Need-loop-holds Inv-loop μ-loop
-loop-holds c = (omega arith, writers-start _ _ _)
+loop-holds c = (omega arith, filled-none _ _ _)
 
 writer-at-requires : tie.Need-writer-at-requires Inv-loop μ-loop
 writer-at-requires c κs = (omega (arith, c .before .before .pre .few), c .before .before .pre .low (c .before .loop .k) (omega arith))
@@ -34,7 +34,7 @@ loop-less : tie.Need-loop-less Inv-loop μ-loop
 loop-less c = search needs
 
 loop-again : tie.Need-loop-again Inv-loop μ-loop
-loop-again c = (omega arith, writers-more _ _ _ (c .before .before .loop .k) _ (c .before .before .loop .writers) (omega (arith, c .before .before .before .pre .few)) (c .writer-at .ensures) (c .before .before .loop .inv .1))
+loop-again c = (omega arith, filled-more _ _ _ (c .before .before .loop .k) _ (c .before .before .loop .writers) (omega (arith, c .before .before .before .pre .few)) (c .writer-at .ensures) (c .before .before .loop .inv .1))
 
 returns : tie.Need-returns Inv-loop μ-loop
 returns c =

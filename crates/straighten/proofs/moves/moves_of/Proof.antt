@@ -2,27 +2,27 @@
 -- Assumes nothing.
 use Prim.Native.Nat.{ℕ, _-_, _≤_}
 use mathlib.Core.Path.{_≡_, subst}
-use mathlib.Core.Bool.{Bool, false}
+use mathlib.Core.Bool.{false}
 use native.Mathlib.Omega.{arith}
 use denote.Ref.{now}
-use lib.ListN.{length-replicate}
 use Rattle.events.specs.Columns.{columns}
 use Rattle.opacity.specs.Justification.{zeros}
 use Rattle.rules.specs.Judge.{readRuleBy}
-use Rattle.straighten.specs.Tables.{Filled, breaksBy}
-use Rattle.straighten.proofs.TableLaws.{filled-none, filled-more}
+use Rattle.straighten.specs.Tables.{breaksBy}
+use Rattle.links.specs.Tables.{Filled}
+use Rattle.links.proofs.FilledLaws.{filled-none, filled-more}
 use borrow.Author.Needs.{needs}
 use Rattle.straighten.proofs.moves.moves_of.Statement.{statement}
 use Rattle.straighten.proofs.moves.moves_of.Tie as tie
 
 abbrev Inv-loop : tie.InvT-loop
-Inv-loop kinds transactions registers values count link writers place reads gaps moves₀ i₀ moves i = (i ≤ count) × Filled false (breaksBy (readRuleBy zeros (columns kinds transactions registers values) link writers place reads gaps)) i moves
+Inv-loop kinds transactions registers values count link writers place reads gaps moves₀ i₀ moves i = (i ≤ count) × Filled 2048 false (breaksBy (readRuleBy zeros (columns kinds transactions registers values) link writers place reads gaps)) i moves
 
 abbrev μ-loop : tie.MeasureT-loop
 μ-loop kinds transactions registers values count link writers place reads gaps moves₀ i₀ moves i = count - i
 
 loop-holds : tie.Need-loop-holds Inv-loop μ-loop
-loop-holds c = (omega arith, filled-none _ _ _ (length-replicate {A = Bool} 2048 false))
+loop-holds c = (omega arith, filled-none _ _ _)
 
 breaks-requires : tie.Need-breaks-requires Inv-loop μ-loop
 breaks-requires c κs = (c .before .before .before .before .before .before .pre .0, (omega arith, c .before .before .before .before .before .before .pre .1))
@@ -37,13 +37,13 @@ loop-less : tie.Need-loop-less Inv-loop μ-loop
 loop-less c = search needs
 
 loop-again : tie.Need-loop-again Inv-loop μ-loop
-loop-again c = (omega arith, filled-more _ _ (c .before .before .loop .i) _ (c .before .before .loop .moves) (omega (arith, c .before .before .before .before .before .before .before .pre .0 .linked .few)) (c .breaks .ensures) (c .before .before .loop .inv .1))
+loop-again c = (omega arith, filled-more _ _ _ (c .before .before .loop .i) _ (c .before .before .loop .moves) (omega (arith, c .before .before .before .before .before .before .before .pre .0 .linked .few)) (c .breaks .ensures) (c .before .before .loop .inv .1))
 
 returns : tie.Need-returns Inv-loop μ-loop
 returns c =
     let start = c .before .before .before .before .before .before in
     let e : c .before .loop .i ≡ start .args .count = omega arith in
-    subst (λ (k : ℕ). Filled false (breaksBy (readRuleBy zeros (columns (start .args .kinds .now) (start .args .transactions .now) (start .args .registers .now) (start .args .values .now)) (start .args .link .now) (start .args .writers .now) (start .args .place .now) (start .args .reads .now) (start .args .gaps .now))) k (c .before .loop .moves)) e (c .before .loop .inv .1)
+    subst (λ (k : ℕ). Filled 2048 false (breaksBy (readRuleBy zeros (columns (start .args .kinds .now) (start .args .transactions .now) (start .args .registers .now) (start .args .values .now)) (start .args .link .now) (start .args .writers .now) (start .args .place .now) (start .args .reads .now) (start .args .gaps .now))) k (c .before .loop .moves)) e (c .before .loop .inv .1)
 
 pub moves-of-spec : {M : Type 1} → statement M
 moves-of-spec =
