@@ -1,25 +1,30 @@
--- What the answers of scan and checker hold, for every columns, count and file: a cause is 1 to 4, and the event and the transaction of a
--- broken rule are those of a readable history.
+-- What the answers of scan, checker and straightening hold, for every columns, count, file and lent buffer: a cause is 1 to 4, the event and
+-- the transaction of a broken rule are those of a readable history, and the length of a straightened marking and the number moved are those
+-- of one whose store reads are at most 2,048.
 -- Assumes nothing.
-use mathlib.Core.Path.{_≡_, refl, sym, _∙_}
-use Prim.Native.Nat.{ℕ, _<_}
+use mathlib.Core.Path.{_≡_, refl, sym, ap, _∙_}
+use Prim.Native.Nat.{ℕ, _≤_, _<_}
 use native.Mathlib.Omega.{arith}
 use mathlib.Core.Bool.{Bool, true, false, cond}
-use mathlib.Core.List.{List}
+use mathlib.Core.List.{List, map}
+use lib.ListN.{length, length-map}
 use Rattle.events.specs.declared.event.Event.{Event}
 use Rattle.events.specs.declared.columns.Checked.{Checked}
-use Rattle.events.specs.Events.{isRead, isCommit, isAbort}
+use Rattle.events.specs.Events.{begins, isRead, isCommit, isAbort}
 use Rattle.events.specs.Columns.{Columns, history}
 use Rattle.events.specs.Questions.{readable, columnsAnswer}
 use Rattle.events.proofs.ReadableLaws.{columns-readable, readable-most}
 use Rattle.opacity.specs.declared.verdict.Rule.{Rule}
 use Rattle.opacity.specs.declared.verdict.Verdict.{Verdict}
 use Rattle.opacity.specs.declared.verdict.Scanned.{Scanned}
-use Rattle.opacity.specs.Marking.{Marking, verdict, putTo, namedEvent, namedTransaction}
+use Rattle.opacity.specs.Transactions.{storeReads}
+use Rattle.opacity.specs.Marking.{Marking, ReadableFor, markingBytes, verdict, putTo, namedEvent, namedTransaction}
 use Rattle.opacity.specs.Scan.{cause}
 use Rattle.opacity.proofs.Bounds.{at-most-64, transaction-low}
 use Rattle.opacity.proofs.Meanings.{last-event-means, begin-of-means}
-use Rattle.opacity.proofs.Theorems.{broken-iff-first}
+use Rattle.opacity.proofs.MarkingBytes.{marking-length}
+use Rattle.opacity.proofs.Theorems.{broken-iff-first, places-are-n}
+use Rattle.finder.proofs.PointLaws.{reads-low}
 use Rattle.scan.specs.declared.Judgement.{Judgement}
 use Rattle.scan.specs.Answer.{scanAnswer}
 use Rattle.scan.proofs.AnswerLaws.{scanned-e}
@@ -28,7 +33,13 @@ use Rattle.opacity.specs.Justification.{zeros}
 use Rattle.marking.specs.declared.check.Judged.{Judged}
 use Rattle.marking.specs.File.{known, FileRead, content, refused, fileRead}
 use Rattle.marking.specs.Answer.{ruled, afterColumns, answerFrom, verdictAnswer}
-use Rattle.exports.specs.Codes.{Cause, Named, ScanKnown, CheckKnown}
+use Rattle.marking.proofs.ContentLaws.{content-readable}
+use Rattle.straighten.specs.declared.Straightening.{Straightening}
+use Rattle.straighten.specs.Straight.{straightened}
+use Rattle.straighten.specs.Answer.{Given, gives, straightenedAnswer}
+use Rattle.straighten.proofs.StraightLaws.{straight-length, moved-few}
+use Rattle.straighten.proofs.AnswerLaws.{told}
+use Rattle.exports.specs.Codes.{Cause, Named, Halves, ScanKnown, CheckKnown, StraightenKnown}
 
 -- ---- the scan
 
@@ -89,3 +100,43 @@ broken-named c count file = broken-bounds zeros c count file
 
 pub check-known : (c : Columns) (count : ℕ) (file : List ℕ) (j : Judged) → j ≡ verdictAnswer c count file → CheckKnown j
 check-known c count file j x v a q e t b = broken-named c count file q e t (sym x ∙ a ∙ (λ i. Judged.Ruled (b i)))
+
+-- ---- the straightening
+
+-- the bytes of a content that is readable for the history: 6, 8 for each of its transactions and 10 for each of its store reads
+bytes-low : (h : List Event) (m : Marking) → readable h ≡ true → ReadableFor h m → length (markingBytes m) ≤ 20998
+bytes-low h m r f =
+    let p = places-are-n (begins h) (m .places) (f .order) in
+    let q = length-map (m .points) (λ p. p .event) in
+    let s : length (map (λ p. p .event) (m .points)) ≡ length (storeReads h) = ap length (f .reads) in
+    omega (arith, marking-length m, p, q, s, at-most-64 h r, reads-low h r)
+
+module _ (c : Columns) (count : ℕ) (file output list : List ℕ) where
+  pub straightened-bounds : (n k : ℕ) → straightenedAnswer c count file output list .result ≡ Straightening.Straightened n k → (n ≤ 20998) × (k ≤ 2048)
+  unfolding straightenedAnswer
+  straightened-bounds n k x =
+      let d = told zeros c count file output list (Straightening.Straightened n k) x in
+      let m = d .marking in
+      let h = history c count in
+      let r = columns-readable c count (d .passes .fine) .1 in
+      let f = content-readable h file m r (d .passes .holds) in (
+        omega (arith, d .size, straight-length zeros h m, bytes-low h m r f),
+        omega (arith, d .count, moved-few zeros h m f, reads-low h r),
+      )
+
+  pub straighten-named : (q : Rule) (e t : ℕ) → straightenedAnswer c count file output list .result ≡ Straightening.Broken q e t → Named e t
+  unfolding straightenedAnswer
+  straighten-named q e t x =
+      let w = told zeros c count file output list (Straightening.Broken q e t) x .0 in
+      verdict-within (history c count) (columns-readable c count (w .1 .fine) .1) zeros (straightened zeros (history c count) (w .0)) q e t (w .2)
+
+  -- both stand in one place
+  pub straightened-halves : (n k : ℕ) → straightenedAnswer c count file output list .result ≡ Straightening.Straightened n k → Halves k n
+  straightened-halves n k x =
+      let b = straightened-bounds n k x in
+      record { upper = omega (arith, b .1); lower = omega (arith, b .0) }
+
+  pub straighten-known : (a : Straightening) (o l : List ℕ) → gives a o l ≡ straightenedAnswer c count file output list → StraightenKnown a
+  straighten-known a o l x =
+      let r : a ≡ straightenedAnswer c count file output list .result = ap (λ (g : Given). g .result) x in
+      record { straight = λ n k b. straightened-halves n k (sym r ∙ b); broken = λ q e t b. straighten-named q e t (sym r ∙ b) }

@@ -2,10 +2,12 @@
 -- Assumes nothing.
 use mathlib.Core.Path.{_≡_, ap, _∙_}
 use mathlib.Core.Logic.{_↔_}
-use Prim.Native.Nat.{ℕ, _/_, _%_, _≤_, _<_, min}
+use Prim.Native.Nat.{ℕ, _+_, _/_, _%_, _≤_, _<_, min}
 use native.Mathlib.Nat.{min-le-right, min-eq-left, min-eq-right, le-of-lt}
 use native.Mathlib.Omega.{arith}
-use Rattle.exports.specs.Codes.{most, packed, brokenPlace, Named, codeOf, placeOf, eventOf, transactionOf}
+use Rattle.opacity.specs.declared.verdict.Rule.{Rule}
+use Rattle.opacity.specs.Marking.{ruleNumber}
+use Rattle.exports.specs.Codes.{most, packed, halves, brokenPlace, brokenCode, Named, Halves, codeOf, placeOf, upperOf, lowerOf, eventOf, transactionOf}
 
 module _ (code place : ℕ) where
   pub code-back : codeOf (packed code place) ≡ code
@@ -26,19 +28,33 @@ module _ (code place : ℕ) where
   pub place-saturated : most < place → placeOf (packed code place) ≡ most
   place-saturated l = place-told ∙ min-eq-right (le-of-lt l)
 
--- the place of a broken rule holds its event and its transaction
-module _ (code e t : ℕ) (n : Named e t) where
-  place-fits : brokenPlace e t ≤ most
-  unfolding brokenPlace
-  place-fits = omega (arith, n .event, n .transaction)
+-- a place that holds two numbers gives both back
+module _ (code high low : ℕ) (b : Halves high low) where
+  halves-fit : halves high low ≤ most
+  unfolding halves
+  halves-fit = omega (arith, b .upper, b .lower)
 
-  its-place : placeOf (packed code (brokenPlace e t)) ≡ brokenPlace e t
-  its-place = place-back code (brokenPlace e t) .1 place-fits
+  its-place : placeOf (packed code (halves high low)) ≡ halves high low
+  its-place = place-back code (halves high low) .1 halves-fit
 
-  pub event-back : eventOf (packed code (brokenPlace e t)) ≡ e
-  unfolding brokenPlace
-  event-back = ap (λ (x : ℕ). x / 65536) its-place ∙ omega (arith, n .transaction)
+  pub upper-back : upperOf (packed code (halves high low)) ≡ high
+  unfolding halves
+  upper-back = ap (λ (x : ℕ). x / 65536) its-place ∙ omega (arith, b .lower)
 
-  pub transaction-back : transactionOf (packed code (brokenPlace e t)) ≡ t
-  unfolding brokenPlace
-  transaction-back = ap (λ (x : ℕ). x % 65536) its-place ∙ omega (arith, n .transaction)
+  pub lower-back : lowerOf (packed code (halves high low)) ≡ low
+  unfolding halves
+  lower-back = ap (λ (x : ℕ). x % 65536) its-place ∙ omega (arith, b .lower)
+
+pub named-halves : (e t : ℕ) → Named e t → Halves e t
+named-halves e t n = record { upper = omega (arith, n .event); lower = omega (arith, n .transaction) }
+
+-- the number of a broken rule tells the rule, its event and its transaction
+module _ (r : Rule) (e t : ℕ) (n : Named e t) (number : ℕ) (its : number ≡ brokenCode r e t) where
+  pub rule-told : codeOf number ≡ 200 + ruleNumber r
+  rule-told = ap codeOf its ∙ code-back (200 + ruleNumber r) (brokenPlace e t)
+
+  pub event-told : eventOf number ≡ e
+  event-told = ap eventOf its ∙ upper-back (200 + ruleNumber r) e t (named-halves e t n)
+
+  pub transaction-told : transactionOf number ≡ t
+  transaction-told = ap transactionOf its ∙ lower-back (200 + ruleNumber r) e t (named-halves e t n)

@@ -1,8 +1,8 @@
 -- Each answer comes back out of its number: a refusal whose question is below 100, and a place of at most 2^32 − 1.
 -- Assumes nothing.
-use mathlib.Core.Path.{_≡_, refl, sym, ap, _∙_}
+use mathlib.Core.Path.{_≡_, refl}
 use mathlib.Core.Logic.{⊎-elim}
-use Prim.Native.Nat.{ℕ, _+_, _-_, _≤_, _<_}
+use Prim.Native.Nat.{ℕ, _+_, _-_, _≤_}
 use native.Mathlib.Omega.{arith}
 use mathlib.Core.Bool.{true, false}
 use lib.Dec.{eqb, ltb}
@@ -17,10 +17,11 @@ use Rattle.opacity.specs.Marking.{ruleNumber}
 use Rattle.scan.specs.declared.Judgement.{Judgement}
 use Rattle.marking.specs.declared.check.Judged.{Judged}
 use Rattle.counts.specs.declared.Counting.{Counting}
-use Rattle.exports.specs.Codes.{most, packed, brokenPlace, Cause, Named, codeOf, placeOf}
-use Rattle.exports.specs.Decoded.{readingOf, writingOf, foundOf, judgementOf, ruleOf, judgedOf, countingOf}
+use Rattle.straighten.specs.declared.Straightening.{Straightening}
+use Rattle.exports.specs.Codes.{most, packed, brokenCode, straightPlace, Cause, Named, Halves, codeOf, placeOf, eventOf, transactionOf}
+use Rattle.exports.specs.Decoded.{readingOf, writingOf, foundOf, judgementOf, ruleOf, byCode, judgedOf, straighteningOf, countingOf}
 use Rattle.exports.specs.Classes.{Class, classOf}
-use Rattle.exports.proofs.CodeLaws.{code-back, place-back, event-back, transaction-back}
+use Rattle.exports.proofs.CodeLaws.{code-back, place-back, upper-back, lower-back, rule-told, event-told, transaction-told}
 use Rattle.exports.proofs.Numbers.{Within}
 use Rattle.exports.proofs.Files.{MarkingNumber}
 
@@ -55,8 +56,45 @@ unfolding judgementOf
 opaque-back = rw (code-back 0 0)
 
 pub accepted-back : judgedOf (packed 0 0) ≡ Judged.Ruled Verdict.Accepted
-unfolding judgedOf
+unfolding judgedOf byCode
 accepted-back = rw (code-back 0 0)
+
+pub straightened-back : (n k : ℕ) → Halves k n → straighteningOf (packed 0 (straightPlace n k)) ≡ Straightening.Straightened n k
+unfolding straighteningOf byCode
+straightened-back n k b = rw (code-back 0 (straightPlace n k), upper-back 0 k n b, lower-back 0 k n b)
+
+-- ---- an answer about a marking, by its code
+
+module _ {A : Type 0} (done broken event byte : A) where
+  by-broken : (r : Rule) → byCode done broken event byte (200 + ruleNumber r) ≡ broken
+  unfolding byCode
+  by-broken Rule.A = refl
+  by-broken Rule.B = refl
+  by-broken Rule.C = refl
+  by-broken Rule.D = refl
+  by-broken Rule.E = refl
+
+  by-event : (q : ℕ) → Within 3 20 q → byCode done broken event byte q ≡ event
+  unfolding byCode
+  by-event q w =
+      let l = w .least in
+      let m = w .most in
+      let a : eqb q 0 ≡ false = ne-eqb q 0 (λ z. omega arith) in
+      let b : ltb 200 q ≡ false = le-ltb 200 q (omega arith) in
+      let d : ltb q 21 ≡ true = lt-ltb q 21 (omega arith) in
+      rw (a, b, le-ltb q 3 l, d)
+
+  by-byte : (q : ℕ) → MarkingNumber q → byCode done broken event byte q ≡ byte
+  unfolding byCode
+  by-byte q w =
+      let l = w .least in
+      let m = w .most in
+      let a : eqb q 0 ≡ false = ne-eqb q 0 (λ z. omega arith) in
+      let b : ltb 200 q ≡ false = le-ltb 200 q (omega arith) in
+      ⊎-elim
+      (λ i. let d : ltb q 3 ≡ true = lt-ltb q 3 (omega arith) in rw (a, b, d))
+      (λ i. let d : ltb q 3 ≡ false = le-ltb q 3 (omega arith) in rw (a, b, d, le-ltb q 21 i))
+      (w .apart)
 
 -- ---- refused
 
@@ -72,9 +110,6 @@ module _ {q e : ℕ} (w : Within 1 99 q) (l : e ≤ most) where
 
   not-faulted : ltb 100 q ≡ false
   not-faulted = let a = w .most in le-ltb 100 q (omega arith)
-
-  not-broken : ltb 200 q ≡ false
-  not-broken = let a = w .most in le-ltb 200 q (omega arith)
 
   pub unread-back : readingOf (packed q e) ≡ Reading.Refused q e
   unfolding readingOf
@@ -96,26 +131,26 @@ module _ {q e : ℕ} (w : Within 1 99 q) (l : e ≤ most) where
   unfolding judgementOf
   unjudged-back = rw (code-back q e, at, not-done, not-faulted)
 
-  pub history-back : 3 ≤ q → q < 21 → judgedOf (packed q e) ≡ Judged.HistoryRefused q e
-  unfolding judgedOf
-  history-back a b = rw (code-back q e, at, not-done, not-broken, le-ltb q 3 a, lt-ltb q 21 b)
+-- a question of the events and of the buffers, and one of the marking
+module _ (q e : ℕ) (l : e ≤ most) where
+  place-is : placeOf (packed q e) ≡ e
+  place-is = place-back q e .1 l
 
-  pub marking-low-back : q ≤ 2 → judgedOf (packed q e) ≡ Judged.MarkingRefused q e
+  pub history-back : Within 3 20 q → judgedOf (packed q e) ≡ Judged.HistoryRefused q e
   unfolding judgedOf
-  marking-low-back a = let b : ltb q 3 ≡ true = lt-ltb q 3 (omega arith) in rw (code-back q e, at, not-done, not-broken, b)
+  history-back w = rw (code-back q e, place-is) (by-event _ _ _ _ q w)
 
-  pub marking-high-back : 21 ≤ q → judgedOf (packed q e) ≡ Judged.MarkingRefused q e
+  pub unstraightened-back : Within 3 20 q → straighteningOf (packed q e) ≡ Straightening.Refused q e
+  unfolding straighteningOf
+  unstraightened-back w = rw (code-back q e, place-is) (by-event _ _ _ _ q w)
+
+  pub marking-refused-back : MarkingNumber q → judgedOf (packed q e) ≡ Judged.MarkingRefused q e
   unfolding judgedOf
-  marking-high-back a =
-      let b : ltb q 3 ≡ false = le-ltb q 3 (omega arith) in
-      rw (code-back q e, at, not-done, not-broken, b, le-ltb q 21 a)
+  marking-refused-back m = rw (code-back q e, place-is) (by-byte _ _ _ _ q m)
 
-pub marking-refused-back : (q e : ℕ) → MarkingNumber q → e ≤ most → judgedOf (packed q e) ≡ Judged.MarkingRefused q e
-marking-refused-back q e m l =
-    let a = m .least in
-    let b = m .most in
-    let w : Within 1 99 q = record { least = omega arith; most = omega arith } in
-    ⊎-elim (marking-low-back w l) (marking-high-back w l) (m .apart)
+  pub straighten-marking-back : MarkingNumber q → straighteningOf (packed q e) ≡ Straightening.MarkingRefused q e
+  unfolding straighteningOf
+  straighten-marking-back m = rw (code-back q e, place-is) (by-byte _ _ _ _ q m)
 
 -- ---- faulted, and a broken rule
 
@@ -135,23 +170,23 @@ rule-back Rule.C = refl
 rule-back Rule.D = refl
 rule-back Rule.E = refl
 
-rule-positive : (r : Rule) → 1 ≤ ruleNumber r
-rule-positive Rule.A = omega arith
-rule-positive Rule.B = omega arith
-rule-positive Rule.C = omega arith
-rule-positive Rule.D = omega arith
-rule-positive Rule.E = omega arith
+module _ (r : Rule) (e t : ℕ) (n : Named e t) where
+  rule-is : codeOf (brokenCode r e t) ≡ 200 + ruleNumber r
+  rule-is = rule-told r e t n _ refl
 
-pub broken-back : (r : Rule) (e t : ℕ) → Named e t → judgedOf (packed (200 + ruleNumber r) (brokenPlace e t)) ≡ Judged.Ruled (Verdict.Broken r e t)
-unfolding judgedOf
-broken-back r e t n = go (200 + ruleNumber r) refl (rule-positive r)
-  where
-    go : (k : ℕ) → 200 + ruleNumber r ≡ k → 1 ≤ ruleNumber r → judgedOf (packed k (brokenPlace e t)) ≡ Judged.Ruled (Verdict.Broken r e t)
-    go k w l =
-        let a : eqb k 0 ≡ false = ne-eqb k 0 (λ z. omega arith) in
-        let b : ltb 200 k ≡ true = lt-ltb 200 k (omega arith) in
-        let f : ruleOf k ≡ r = ap ruleOf (sym w) ∙ rule-back r in
-        rw (code-back k (brokenPlace e t), a, b, event-back k e t n, transaction-back k e t n, f)
+  event-is : eventOf (brokenCode r e t) ≡ e
+  event-is = event-told r e t n _ refl
+
+  transaction-is : transactionOf (brokenCode r e t) ≡ t
+  transaction-is = transaction-told r e t n _ refl
+
+  pub broken-back : judgedOf (brokenCode r e t) ≡ Judged.Ruled (Verdict.Broken r e t)
+  unfolding judgedOf
+  broken-back = rw (rule-is, event-is, transaction-is, rule-back r) (by-broken _ _ _ _ r)
+
+  pub straighten-broken-back : straighteningOf (brokenCode r e t) ≡ Straightening.Broken r e t
+  unfolding straighteningOf
+  straighten-broken-back = rw (rule-is, event-is, transaction-is, rule-back r) (by-broken _ _ _ _ r)
 
 -- ---- what the code alone says
 

@@ -1,7 +1,7 @@
 -- What the answers of the functions called tell of a refusal and of what is done: the question is one of the paper's, and the place is
 -- that of something that was read, or the count of 17 or 18.
 -- Assumes nothing.
-use mathlib.Core.Path.{_≡_, refl, ap, ap₂, _∙_}
+use mathlib.Core.Path.{_≡_, refl, sym, ap, ap₂, _∙_}
 use mathlib.Core.Logic.{inl, ⊎-elim}
 use Prim.Native.Nat.{ℕ, _≤_, _<_}
 use native.Mathlib.Omega.{arith}
@@ -41,6 +41,9 @@ use Rattle.marking.specs.Answer.{ruled, afterColumns, answerFrom, verdictAnswer
 use Rattle.marking.proofs.Theorems.{history-refused}
 use Rattle.counts.specs.declared.Counting.{Counting}
 use Rattle.counts.specs.Answer.{counted}
+use Rattle.straighten.specs.declared.Straightening.{Straightening}
+use Rattle.straighten.specs.Answer.{straightenedAnswer}
+use Rattle.straighten.proofs.AnswerLaws.{told}
 use Rattle.exports.specs.Codes.{most}
 use Rattle.exports.proofs.Numbers.{Within, CountRefused, Refusal, events-number, columns-number, first-number, late-number, then-cases, widen}
 use Rattle.exports.proofs.Files.{history-number, read-limits, MarkingNumber, marking-number}
@@ -55,6 +58,12 @@ place-fits {count = count} {e = e} l r = ⊎-elim (λ a. omega arith) (λ a. ome
 -- a place of 2^32 or more is the count, and 17 or 18 refuses it
 pub beyond : {low high count q e : ℕ} → Refusal low high count q e → most < e → CountRefused count q e
 beyond r l = ⊎-elim (λ a. absurd (omega arith)) (λ a. a) (r .place)
+
+-- where 18 is not asked, 17 refuses it
+pub beyond-17 : {low count q e : ℕ} → Refusal low 17 count q e → most < e → (q ≡ 17) × (e ≡ count)
+beyond-17 r l =
+    let b = beyond r l in
+    (⊎-elim (λ a. a) (λ a. absurd (omega (arith, r .number .most))) (b .question), b .event)
 
 pub read-refusal : (file : List ℕ) (c : Columns) (q b : ℕ) → readAnswer file c .result ≡ Reading.Refused q b → Within 1 99 q × (b ≤ most)
 unfolding readAnswer
@@ -77,6 +86,12 @@ read-refusal file c q b x = go (historyOf file) refl x
         let r = history-number file p at w in
         (record { least = omega (arith, r .0 .least); most = omega (arith, r .0 .most) }, omega (arith, r .1))
 
+-- 15, whose event is the count of a readable history
+short-refusal : (c : Columns) (count q e : ℕ) → columnsAnswer c count ≡ Checked.Readable → q ≡ 15 → e ≡ count → Refusal 4 17 count q e
+short-refusal c count q e w a b =
+    let l = readable-most (history c count) (columns-readable c count w .1) in
+    record { number = record { least = omega arith; most = omega arith }; place = inl (omega (arith, history-length c count)) }
+
 pub write-refusal : (c : Columns) (count : ℕ) (output : List ℕ) (q e : ℕ) → writtenAnswer c count output .result ≡ Writing.Refused q e → Refusal 4 17 count q e
 unfolding writtenAnswer
 write-refusal c count output q e x = go (columnsAnswer c count) refl x
@@ -87,8 +102,7 @@ write-refusal c count output q e x = go (columnsAnswer c count) refl x
     room w false k =
         let a : 15 ≡ q = cc in
         let b : count ≡ e = cc in
-        let l = readable-most (history c count) (columns-readable c count w .1) in
-        record { number = record { least = omega arith; most = omega arith }; place = inl (omega (arith, history-length c count)) }
+        short-refusal c count q e w (sym a) (sym b)
 
     go : (v : Checked) → columnsAnswer c count ≡ v → written c count output v .result ≡ Writing.Refused q e → Refusal 4 17 count q e
     go Checked.Readable w k = room w (leb (length (fileOf (history c count))) (length output)) k
@@ -156,6 +170,21 @@ check-marking c count file q b x = go (columnsAnswer c count) x
     go : (y : Checked) → afterColumns zeros (history c count) file y ≡ Judged.MarkingRefused q b → MarkingNumber q × (b ≤ 32768)
     go Checked.Readable k = read (fileRead (known (history c count)) file) refl k
     go (Checked.Refused p i) k = let z : _≡_ {A = ℕ} 0 1 = cc in absurd (omega arith)
+
+pub straighten-refusal : (c : Columns) (count : ℕ) (file output list : List ℕ) (q e : ℕ)
+    → straightenedAnswer c count file output list .result ≡ Straightening.Refused q e → Refusal 4 17 count q e
+unfolding straightenedAnswer
+straighten-refusal c count file output list q e x =
+    ⊎-elim
+    (λ a. columns-number c count q e a)
+    (λ b. short-refusal c count q e (b .0 .fine) (b .1) (b .2))
+    (told zeros c count file output list (Straightening.Refused q e) x .0)
+
+pub straighten-marking : (c : Columns) (count : ℕ) (file output list : List ℕ) (q b : ℕ)
+    → straightenedAnswer c count file output list .result ≡ Straightening.MarkingRefused q b → MarkingNumber q × (b ≤ 32768)
+unfolding straightenedAnswer
+straighten-marking c count file output list q b x =
+    marking-number (known (history c count)) file q b (told zeros c count file output list (Straightening.MarkingRefused q b) x .0 .1)
 
 pub count-refusal : (c : Columns) (count n q e : ℕ) → counted (columnsAnswer c count) n ≡ Counting.Refused q e → Refusal 4 17 count q e
 count-refusal c count n q e x = go (columnsAnswer c count) refl x

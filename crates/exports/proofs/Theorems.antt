@@ -3,12 +3,14 @@
 -- result. Nothing is asked of the contents of a buffer. Where a theorem has `count ≤ most`, a larger count, which 17 or 18 refuses, is told
 -- as 2^32 − 1; the last section says that no other place is.
 -- Assumes nothing.
-use mathlib.Core.Path.{_≡_, refl, ap, _∙_}
+use mathlib.Core.Path.{_≡_, refl, sym, ap, ap₂, _∙_}
 use Prim.Native.Nat.{ℕ, _+_, _≤_, _<_}
 use native.Mathlib.Omega.{arith}
 use mathlib.Core.Bool.{true}
 use mathlib.Core.List.{List}
-use lib.ListN.{length}
+use lib.ListN.{length, drop}
+use lib.Seq.{drop-at}
+use Rattle.events.specs.Bytes.{over}
 use Rattle.events.specs.Events.{begins}
 use Rattle.events.specs.Columns.{Columns, history}
 use Rattle.events.specs.Questions.{readable, columnsAnswer}
@@ -16,7 +18,8 @@ use Rattle.events.proofs.ReadableLaws.{readable-most}
 use Rattle.opacity.specs.declared.verdict.Rule.{Rule}
 use Rattle.opacity.specs.declared.verdict.Verdict.{Verdict}
 use Rattle.opacity.specs.declared.verdict.Scanned.{Scanned}
-use Rattle.opacity.specs.Marking.{ruleNumber}
+use Rattle.opacity.specs.Justification.{zeros}
+use Rattle.opacity.specs.Marking.{markingBytes, ruleNumber}
 use Rattle.opacity.specs.Transactions.{storeReads}
 use Rattle.opacity.proofs.Bounds.{at-most-64}
 use Rattle.reader.specs.declared.Reading.{Reading}
@@ -38,16 +41,21 @@ use Rattle.marking.specs.Answer.{verdictAnswer}
 use Rattle.counts.specs.declared.Counting.{Counting}
 use Rattle.counts.specs.Answer.{counted, transactionsAnswer, storeReadsAnswer, number as countNumber, value as countValue}
 use Rattle.opacity.specs.Counts.{counts}
-use Rattle.exports.specs.Codes.{most, packed, brokenPlace, readCode, writtenCode, foundCode, scannedCode, scanCode, verdictCode, checkCode, countCode, codeOf, eventOf, transactionOf}
-use Rattle.exports.specs.Calls.{readCall, writeCall, findCall, scanCall, checkCall, transactionsCall, storeReadsCall}
-use Rattle.exports.specs.Decoded.{readingOf, writingOf, foundOf, judgementOf, judgedOf, countingOf}
-use Rattle.exports.specs.Classes.{classOf, readClass, writtenClass, foundClass, scanClass, checkClass, countClass}
-use Rattle.exports.proofs.Bounds.{faulted-cause, broken-named}
-use Rattle.exports.proofs.CodeLaws.{code-back, event-back, transaction-back}
-use Rattle.exports.proofs.Numbers.{Within, CountRefused}
+use Rattle.straighten.specs.declared.Straightening.{Straightening}
+use Rattle.straighten.specs.Straight.{straightened, movedEvents}
+use Rattle.straighten.specs.Answer.{straightenedAnswer}
+use Rattle.straighten.proofs.AnswerLaws.{told}
+use Rattle.straighten.proofs.Theorems.{untouched, never-broken-D}
+use Rattle.exports.specs.Codes.{most, packed, brokenPlace, brokenCode, straightPlace, readCode, writtenCode, foundCode, scannedCode, scanCode, verdictCode, checkCode, countCode, straightenCode, Named, codeOf, eventOf, transactionOf, lengthOf, movedOf}
+use Rattle.exports.specs.Calls.{readCall, writeCall, findCall, scanCall, checkCall, straightenCall, transactionsCall, storeReadsCall}
+use Rattle.exports.specs.Decoded.{readingOf, writingOf, foundOf, judgementOf, judgedOf, straighteningOf, countingOf}
+use Rattle.exports.specs.Classes.{classOf, readClass, writtenClass, foundClass, scanClass, checkClass, straightenClass, countClass}
+use Rattle.exports.proofs.Bounds.{faulted-cause, broken-named, straightened-halves, straighten-named}
+use Rattle.exports.proofs.CodeLaws.{code-back, upper-back, lower-back, rule-told, event-told, transaction-told}
+use Rattle.exports.proofs.Numbers.{Within, CountRefused, widen}
 use Rattle.exports.proofs.Files.{read-limits}
-use Rattle.exports.proofs.Decode.{read-back, unread-back, written-back, unwritten-back, marking-back, none-back, unfound-back, opaque-back, faulted-back, unjudged-back, accepted-back, broken-back, history-back, marking-refused-back, counted-back, uncounted-back, class-done, class-refused, class-none, class-faulted, class-broken}
-use Rattle.exports.proofs.Refusals.{below-100, place-fits, beyond, read-refusal, write-refusal, find-refusal, marking-fits, scan-refusal, faulted-fits, check-history, check-marking, count-refusal, count-readable}
+use Rattle.exports.proofs.Decode.{read-back, unread-back, written-back, unwritten-back, marking-back, none-back, unfound-back, opaque-back, faulted-back, unjudged-back, accepted-back, broken-back, history-back, marking-refused-back, straightened-back, straighten-broken-back, unstraightened-back, straighten-marking-back, counted-back, uncounted-back, class-done, class-refused, class-none, class-faulted, class-broken}
+use Rattle.exports.proofs.Refusals.{below-100, place-fits, beyond, beyond-17, read-refusal, write-refusal, find-refusal, marking-fits, scan-refusal, faulted-fits, check-history, check-marking, straighten-refusal, straighten-marking, count-refusal, count-readable}
 
 -- ---- read
 
@@ -111,29 +119,99 @@ judged-back c count file l = go (verdictAnswer c count file) refl
     go : (r : Judged) → verdictAnswer c count file ≡ r → judgedOf (checkCode r) ≡ r
     go (Judged.Ruled Verdict.Accepted) w = accepted-back
     go (Judged.Ruled (Verdict.Broken r e t)) w = broken-back r e t (broken-named c count file r e t w)
-    go (Judged.HistoryRefused q e) w =
-        let r = check-history c count file q e w in
-        let a = r .number .least in
-        let b = r .number .most in
-        history-back (below-100 (omega arith) (omega arith) r) (place-fits l r) (omega arith) (omega arith)
-    go (Judged.MarkingRefused q b) w =
-        let r = check-marking c count file q b w in
-        marking-refused-back q b (r .0) (omega (arith, r .1))
+    go (Judged.HistoryRefused q e) w = let r = check-history c count file q e w in history-back q e (place-fits l r) (widen (omega arith) (omega arith) r .number)
+    go (Judged.MarkingRefused q b) w = let r = check-marking c count file q b w in marking-refused-back q b (omega (arith, r .1)) (r .0)
 
 -- A broken rule, for every columns, count and file: the code names the rule, and the place its event and its transaction.
 module _ (c : Columns) (count : ℕ) (file : List ℕ) (r : Rule) (e t : ℕ) (broken : verdictAnswer c count file ≡ Judged.Ruled (Verdict.Broken r e t)) where
-  its-number : checkCall c count file ≡ packed (200 + ruleNumber r) (brokenPlace e t)
+  its-number : checkCall c count file ≡ brokenCode r e t
   unfolding checkCall checkCode verdictCode
   its-number = ap checkCode broken
 
+  its-names : Named e t
+  its-names = broken-named c count file r e t broken
+
   pub broken-code : codeOf (checkCall c count file) ≡ 200 + ruleNumber r
-  broken-code = ap codeOf its-number ∙ code-back (200 + ruleNumber r) (brokenPlace e t)
+  broken-code = rule-told r e t its-names _ its-number
 
   pub broken-event : eventOf (checkCall c count file) ≡ e
-  broken-event = ap eventOf its-number ∙ event-back (200 + ruleNumber r) e t (broken-named c count file r e t broken)
+  broken-event = event-told r e t its-names _ its-number
 
   pub broken-transaction : transactionOf (checkCall c count file) ≡ t
-  broken-transaction = ap transactionOf its-number ∙ transaction-back (200 + ruleNumber r) e t (broken-named c count file r e t broken)
+  broken-transaction = transaction-told r e t its-names _ its-number
+
+-- ---- straighten
+
+module _ (c : Columns) (count : ℕ) (file output list : List ℕ) where
+  -- the answer, and the number that tells it
+  abbrev pub answer : Straightening
+  answer = straightenedAnswer c count file output list .result
+
+  abbrev pub number : ℕ
+  number = straightenCall c count file output list .number
+
+  pub straightening-back : count ≤ most → straighteningOf number ≡ answer
+  unfolding straightenCall straightenCode
+  straightening-back l = go answer refl
+    where
+      go : (r : Straightening) → answer ≡ r → straighteningOf (straightenCode r) ≡ r
+      go (Straightening.Straightened n k) w = straightened-back n k (straightened-halves c count file output list n k w)
+      go (Straightening.Broken r e t) w = straighten-broken-back r e t (straighten-named c count file output list r e t w)
+      go (Straightening.Refused q e) w =
+          let r = straighten-refusal c count file output list q e w in
+          unstraightened-back q e (place-fits l r) (widen (omega arith) (omega arith) r .number)
+      go (Straightening.MarkingRefused q b) w =
+          let r = straighten-marking c count file output list q b w in
+          straighten-marking-back q b (omega (arith, r .1)) (r .0)
+
+  -- A straightened marking, for every columns, count, file, output and list: the code is 0, and the place has its length and the number moved.
+  module _ (n k : ℕ) (done : answer ≡ Straightening.Straightened n k) where
+    straight-number : number ≡ packed 0 (straightPlace n k)
+    unfolding straightenCall straightenCode
+    straight-number = ap straightenCode done
+
+    pub straightened-code : codeOf number ≡ 0
+    straightened-code = ap codeOf straight-number ∙ code-back 0 (straightPlace n k)
+
+    pub straightened-length : lengthOf number ≡ n
+    straightened-length = ap lengthOf straight-number ∙ lower-back 0 k n (straightened-halves c count file output list n k done)
+
+    pub straightened-moved : movedOf number ≡ k
+    straightened-moved = ap movedOf straight-number ∙ upper-back 0 k n (straightened-halves c count file output list n k done)
+
+  -- A broken rule: as of the checker.
+  module _ (r : Rule) (e t : ℕ) (broken : answer ≡ Straightening.Broken r e t) where
+    rule-number : number ≡ brokenCode r e t
+    unfolding straightenCall straightenCode
+    rule-number = ap straightenCode broken
+
+    rule-names : Named e t
+    rule-names = straighten-named c count file output list r e t broken
+
+    pub straighten-broken-code : codeOf number ≡ 200 + ruleNumber r
+    straighten-broken-code = rule-told r e t rule-names _ rule-number
+
+    pub straighten-broken-event : eventOf number ≡ e
+    straighten-broken-event = event-told r e t rule-names _ rule-number
+
+    pub straighten-broken-transaction : transactionOf number ≡ t
+    straighten-broken-transaction = transaction-told r e t rule-names _ rule-number
+
+  -- Code 0 is told of a straightened marking alone.
+  pub straightened-result : codeOf number ≡ 0 → answer ≡ Straightening.Straightened (lengthOf number) (movedOf number)
+  unfolding straightenCall straightenCode
+  straightened-result x = go answer refl
+    where
+      go : (r : Straightening) → answer ≡ r → answer ≡ Straightening.Straightened (lengthOf number) (movedOf number)
+      go (Straightening.Straightened n k) w =
+          w ∙ ap₂ (λ (a b : ℕ). Straightening.Straightened a b) (sym (straightened-length n k w)) (sym (straightened-moved n k w))
+      go (Straightening.Broken r e t) w = absurd (omega (arith, x, straighten-broken-code r e t w))
+      go (Straightening.Refused q e) w =
+          let z : codeOf number ≡ q = ap (λ (r : Straightening). codeOf (straightenCode r)) w ∙ code-back q e in
+          absurd (omega (arith, x, straighten-refusal c count file output list q e w .number .least))
+      go (Straightening.MarkingRefused q b) w =
+          let z : codeOf number ≡ q = ap (λ (r : Straightening). codeOf (straightenCode r)) w ∙ code-back q b in
+          absurd (omega (arith, x, straighten-marking c count file output list q b w .0 .least))
 
 -- ---- the two counts
 
@@ -223,6 +301,38 @@ check-class c count file = go (verdictAnswer c count file) refl
         let m = check-marking c count file q b w .0 in
         class-refused q b (record { least = m .least; most = omega (arith, m .most) })
 
+pub straighten-class : (c : Columns) (count : ℕ) (file output list : List ℕ)
+    → classOf (codeOf (straightenCall c count file output list .number)) ≡ straightenClass (straightenedAnswer c count file output list .result)
+unfolding straightenCall straightenCode
+straighten-class c count file output list = go (straightenedAnswer c count file output list .result) refl
+  where
+    go : (r : Straightening) → straightenedAnswer c count file output list .result ≡ r → classOf (codeOf (straightenCode r)) ≡ straightenClass r
+    go (Straightening.Straightened n k) w = class-done (straightPlace n k)
+    go (Straightening.Broken r e t) w = class-broken r (brokenPlace e t)
+    go (Straightening.Refused q e) w = class-refused q e (below-100 (omega arith) (omega arith) (straighten-refusal c count file output list q e w))
+    go (Straightening.MarkingRefused q b) w =
+        let m = straighten-marking c count file output list q b w .0 in
+        class-refused q b (record { least = m .least; most = omega (arith, m .most) })
+
+-- 204 never comes of straighten: a point at its reader's place breaks no rule D.
+pub straighten-never-204 : (c : Columns) (count : ℕ) (file output list : List ℕ) → codeOf (straightenCall c count file output list .number) ≡ 204 → ⊥
+unfolding straightenCall straightenCode straightenedAnswer
+straighten-never-204 c count file output list x = go (straightenedAnswer c count file output list .result) refl x
+  where
+    go : (r : Straightening) → straightenedAnswer c count file output list .result ≡ r → codeOf (straightenCode r) ≡ 204 → ⊥
+    go (Straightening.Straightened n k) w z = omega (arith, code-back 0 (straightPlace n k))
+    go (Straightening.Broken Rule.A e t) w z = omega (arith, code-back 201 (brokenPlace e t))
+    go (Straightening.Broken Rule.B e t) w z = omega (arith, code-back 202 (brokenPlace e t))
+    go (Straightening.Broken Rule.C e t) w z = omega (arith, code-back 203 (brokenPlace e t))
+    go (Straightening.Broken Rule.D e t) w z =
+        let m = told zeros c count file output list (Straightening.Broken Rule.D e t) w .0 in
+        never-broken-D zeros c count file output list (m .0) (m .1) e t w
+    go (Straightening.Broken Rule.E e t) w z = omega (arith, code-back 205 (brokenPlace e t))
+    go (Straightening.Refused q e) w z =
+        let r : Within 1 99 q = below-100 (omega arith) (omega arith) (straighten-refusal c count file output list q e w) in
+        omega (arith, code-back q e, r .most)
+    go (Straightening.MarkingRefused q b) w z = omega (arith, code-back q b, straighten-marking c count file output list q b w .0 .most)
+
 count-class : (c : Columns) (count n : ℕ) → classOf (codeOf (countCode (counted (columnsAnswer c count) n))) ≡ countClass (counted (columnsAnswer c count) n)
 unfolding countCode countNumber countValue
 count-class c count n = go (counted (columnsAnswer c count) n) refl
@@ -267,8 +377,30 @@ find-keeps c count prefix output n = go (foundAnswer c count prefix output .resu
     go Found.None w f = none-unchanged c count prefix output w
     go (Found.Refused q e) w f = refused-unchanged c count prefix output q e w
 
--- ---- which places are told as 2^32 − 1: the count of 17 or 18, and no other. (A file's byte is at most 32,768: `read-refusal` and
--- `check-marking`.)
+pub straighten-keeps : (c : Columns) (count : ℕ) (file output list : List ℕ) → (codeOf (straightenCall c count file output list .number) ≡ 0 → ⊥)
+    → (straightenCall c count file output list .output ≡ output) × (straightenCall c count file output list .list ≡ list)
+unfolding straightenCall straightenedAnswer
+straighten-keeps c count file output list f = untouched zeros c count file output list (λ n k w. f (straightened-code c count file output list n k w))
+
+-- a buffer that begins with a run goes on as it was
+drop-over : (xs buffer : List ℕ) (k : ℕ) → length xs ≡ k → drop k (over xs buffer) ≡ drop k buffer
+drop-over xs buffer k e = drop-at xs (drop (length xs) buffer) k e ∙ ap (λ (i : ℕ). drop i buffer) e
+
+-- A straightened marking leaves the output behind its length, and the list behind the number moved, as they were.
+pub straighten-behind : (c : Columns) (count : ℕ) (file output list : List ℕ) (n k : ℕ) → codeOf (straightenCall c count file output list .number) ≡ 0
+    → lengthOf (straightenCall c count file output list .number) ≡ n → movedOf (straightenCall c count file output list .number) ≡ k
+    → (drop n (straightenCall c count file output list .output) ≡ drop n output) × (drop k (straightenCall c count file output list .list) ≡ drop k list)
+unfolding straightenCall straightenedAnswer
+straighten-behind c count file output list n k x a b =
+    let w = straightened-result c count file output list x ∙ ap₂ (λ (i j : ℕ). Straightening.Straightened i j) a b in
+    let d = told zeros c count file output list (Straightening.Straightened n k) w in
+    let m = straightened zeros (history c count) (d .marking) in (
+      ap (drop n) (d .bytes) ∙ drop-over (markingBytes m) output n (d .size),
+      ap (drop k) (d .entries) ∙ drop-over (movedEvents zeros (history c count) (d .marking)) list k (d .count),
+    )
+
+-- ---- which places are told as 2^32 − 1: the count of 17 or 18, and no other. (A file's byte is at most 32,768: `read-refusal`,
+-- `check-marking` and `straighten-marking`.)
 
 pub write-beyond : (c : Columns) (count : ℕ) (output : List ℕ) (q e : ℕ) → writtenAnswer c count output .result ≡ Writing.Refused q e → most < e → CountRefused count q e
 write-beyond c count output q e x = beyond (write-refusal c count output q e x)
@@ -282,6 +414,10 @@ scan-beyond c count q e x = beyond (scan-refusal c count q e x)
 
 pub check-beyond : (c : Columns) (count : ℕ) (file : List ℕ) (q e : ℕ) → verdictAnswer c count file ≡ Judged.HistoryRefused q e → most < e → CountRefused count q e
 check-beyond c count file q e x = beyond (check-history c count file q e x)
+
+pub straighten-beyond : (c : Columns) (count : ℕ) (file output list : List ℕ) (q e : ℕ)
+    → straightenedAnswer c count file output list .result ≡ Straightening.Refused q e → most < e → (q ≡ 17) × (e ≡ count)
+straighten-beyond c count file output list q e x = beyond-17 (straighten-refusal c count file output list q e x)
 
 pub transactions-beyond : (c : Columns) (count q e : ℕ) → transactionsAnswer c count ≡ Counting.Refused q e → most < e → CountRefused count q e
 unfolding transactionsAnswer counts

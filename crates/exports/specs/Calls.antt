@@ -9,9 +9,10 @@ use Rattle.finder.specs.Answer.{Given, foundAnswer}
 use Rattle.scan.specs.Answer.{scanAnswer}
 use Rattle.marking.specs.Answer.{verdictAnswer}
 use Rattle.counts.specs.Answer.{transactionsAnswer, storeReadsAnswer}
-use Rattle.exports.specs.Codes.{readCode, writtenCode, foundCode, scanCode, checkCode, countCode}
+use Rattle.straighten.specs.Answer.{Given as Straight, straightenedAnswer}
+use Rattle.exports.specs.Codes.{readCode, writtenCode, foundCode, scanCode, checkCode, countCode, straightenCode}
 
--- A call that is lent columns to fill, and one that is lent an output.
+-- A call that is lent columns to fill, one that is lent an output, and one that is lent an output and a list.
 pub record FilledColumns : Type 0 where
   pub number : ℕ
   pub columns : Columns
@@ -26,6 +27,14 @@ pub record FilledOutput : Type 0 where
 abbrev pub put : ℕ → List ℕ → FilledOutput
 put n o = record { number = n; output = o }
 
+pub record FilledBoth : Type 0 where
+  pub number : ℕ
+  pub output : List ℕ
+  pub list : List ℕ
+
+abbrev pub putBoth : ℕ → List ℕ → List ℕ → FilledBoth
+putBoth n o l = record { number = n; output = o; list = l }
+
 abbrev pub readTold : ReadAnswer → FilledColumns
 readTold a = filled (readCode (a .result)) (a .columns)
 
@@ -34,6 +43,9 @@ writtenTold a = put (writtenCode (a .result)) (a .output)
 
 abbrev pub foundTold : Given → FilledOutput
 foundTold a = put (foundCode (a .result)) (a .output)
+
+abbrev pub straightenTold : Straight → FilledBoth
+straightenTold a = putBoth (straightenCode (a .result)) (a .output) (a .list)
 
 unfoldable pub readCall : List ℕ → Columns → FilledColumns
 readCall file c = readTold (readAnswer file c)
@@ -49,6 +61,9 @@ scanCall c count = scanCode (scanAnswer c count)
 
 unfoldable pub checkCall : Columns → ℕ → List ℕ → ℕ
 checkCall c count file = checkCode (verdictAnswer c count file)
+
+unfoldable pub straightenCall : Columns → ℕ → List ℕ → List ℕ → List ℕ → FilledBoth
+straightenCall c count file output list = straightenTold (straightenedAnswer c count file output list)
 
 unfoldable pub transactionsCall : Columns → ℕ → ℕ
 transactionsCall c count = countCode (transactionsAnswer c count)

@@ -11,6 +11,7 @@ use Rattle.opacity.specs.declared.verdict.Scanned.{Scanned}
 use Rattle.scan.specs.declared.Judgement.{Judgement}
 use Rattle.marking.specs.declared.check.Judged.{Judged}
 use Rattle.counts.specs.declared.Counting.{Counting}
+use Rattle.straighten.specs.declared.Straightening.{Straightening}
 
 pub data Class : Type 0 where
   done : Class
@@ -54,6 +55,12 @@ checkClass (Judged.Ruled Verdict.Accepted) = done
 checkClass (Judged.Ruled (Verdict.Broken r e t)) = broken
 checkClass (Judged.HistoryRefused q e) = refused
 checkClass (Judged.MarkingRefused q byte) = refused
+
+abbrev pub straightenClass : Straightening → Class
+straightenClass (Straightening.Straightened n k) = done
+straightenClass (Straightening.Broken r e t) = broken
+straightenClass (Straightening.Refused q e) = refused
+straightenClass (Straightening.MarkingRefused q byte) = refused
 
 abbrev pub countClass : Counting → Class
 countClass (Counting.Counted n) = done

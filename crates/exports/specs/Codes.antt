@@ -16,6 +16,7 @@ use Rattle.scan.specs.declared.Judgement.{Judgement}
 use Rattle.marking.specs.declared.check.Judged.{Judged}
 use Rattle.counts.specs.declared.Counting.{Counting}
 use Rattle.counts.specs.Answer.{number as countNumber, value as countValue}
+use Rattle.straighten.specs.declared.Straightening.{Straightening}
 
 -- the largest place that is told, 2^32 − 1: a larger one is told as this
 abbrev pub most : ℕ
@@ -24,6 +25,10 @@ most = 4294967295
 -- code × 2^32 + place
 unfoldable pub packed : ℕ → ℕ → ℕ
 packed code place = code * 4294967296 + min place most
+
+-- a place that holds two numbers: event and transaction of a broken rule, number moved and length of a straightened marking
+unfoldable pub halves : ℕ → ℕ → ℕ
+halves high low = high * 65536 + low
 
 -- of the answers with one number and one value: the event count or the byte, the length or the event
 unfoldable pub readCode : Reading → ℕ
@@ -47,18 +52,32 @@ scanCode (Judgement.Scanned s) = scannedCode s
 scanCode (Judgement.Refused q e) = packed q e
 
 -- the place of a broken rule: event × 65,536 + transaction
-unfoldable pub brokenPlace : ℕ → ℕ → ℕ
-brokenPlace e t = e * 65536 + t
+abbrev pub brokenPlace : ℕ → ℕ → ℕ
+brokenPlace e t = halves e t
+
+abbrev pub brokenCode : Rule → ℕ → ℕ → ℕ
+brokenCode r e t = packed (200 + ruleNumber r) (brokenPlace e t)
 
 unfoldable pub verdictCode : Verdict → ℕ
 verdictCode Verdict.Accepted = packed 0 0
-verdictCode (Verdict.Broken r e t) = packed (200 + ruleNumber r) (brokenPlace e t)
+verdictCode (Verdict.Broken r e t) = brokenCode r e t
 
 -- the event of the history's question, the byte of the marking's
 unfoldable pub checkCode : Judged → ℕ
 checkCode (Judged.Ruled v) = verdictCode v
 checkCode (Judged.HistoryRefused q e) = packed q e
 checkCode (Judged.MarkingRefused q byte) = packed q byte
+
+-- the place of a straightened marking: the number moved × 65,536 + the length
+abbrev pub straightPlace : ℕ → ℕ → ℕ
+straightPlace n k = halves k n
+
+-- else the broken rule, the event of the question about history or buffers, or the byte of the marking's
+unfoldable pub straightenCode : Straightening → ℕ
+straightenCode (Straightening.Straightened n k) = packed 0 (straightPlace n k)
+straightenCode (Straightening.Broken r e t) = brokenCode r e t
+straightenCode (Straightening.Refused q e) = packed q e
+straightenCode (Straightening.MarkingRefused q byte) = packed q byte
 
 -- the number counted, or the event
 unfoldable pub countCode : Counting → ℕ
@@ -88,6 +107,16 @@ ScanKnown j = (s : Scanned) → j ≡ Judgement.Scanned s → CauseKnown s
 abbrev pub CheckKnown : Judged → Type 0
 CheckKnown j = (v : Verdict) → j ≡ Judged.Ruled v → NamesKnown v
 
+-- two numbers that one place holds
+pub record Halves (high low : ℕ) : Type 0 where
+  pub upper : high < 65536
+  pub lower : low < 65536
+
+-- the length and the number moved stand in one place, and so do the names of a broken rule
+pub record StraightenKnown (a : Straightening) : Type 0 where
+  pub straight : (n k : ℕ) → a ≡ Straightening.Straightened n k → Halves k n
+  pub broken : (r : Rule) (e t : ℕ) → a ≡ Straightening.Broken r e t → Named e t
+
 -- ---- from a number back to what it tells, as a caller does it (include/sendoshi.h)
 
 abbrev pub codeOf : ℕ → ℕ
@@ -96,9 +125,23 @@ codeOf n = n / 4294967296
 abbrev pub placeOf : ℕ → ℕ
 placeOf n = n % 4294967296
 
+-- the two numbers in a place
+abbrev pub upperOf : ℕ → ℕ
+upperOf n = placeOf n / 65536
+
+abbrev pub lowerOf : ℕ → ℕ
+lowerOf n = placeOf n % 65536
+
 -- of a broken rule's number
 abbrev pub eventOf : ℕ → ℕ
-eventOf n = placeOf n / 65536
+eventOf n = upperOf n
 
 abbrev pub transactionOf : ℕ → ℕ
-transactionOf n = placeOf n % 65536
+transactionOf n = lowerOf n
+
+-- of a straightened marking's number
+abbrev pub movedOf : ℕ → ℕ
+movedOf n = upperOf n
+
+abbrev pub lengthOf : ℕ → ℕ
+lengthOf n = lowerOf n

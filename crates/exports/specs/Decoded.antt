@@ -12,7 +12,8 @@ use Rattle.opacity.specs.declared.verdict.Scanned.{Scanned}
 use Rattle.scan.specs.declared.Judgement.{Judgement}
 use Rattle.marking.specs.declared.check.Judged.{Judged}
 use Rattle.counts.specs.declared.Counting.{Counting}
-use Rattle.exports.specs.Codes.{codeOf, placeOf, eventOf, transactionOf}
+use Rattle.straighten.specs.declared.Straightening.{Straightening}
+use Rattle.exports.specs.Codes.{codeOf, placeOf, eventOf, transactionOf, lengthOf, movedOf}
 
 unfoldable pub readingOf : ℕ → Reading
 readingOf n = cond (eqb (codeOf n) 0) (Reading.Read (placeOf n)) (Reading.Refused (codeOf n) (placeOf n))
@@ -40,14 +41,33 @@ ruleOf code =
     (cond (eqb code 204) Rule.D
     Rule.E)))
 
--- 4 to 17 are asked of the events, 1, 2 and 21 to 29 of the marking
+-- An answer about a marking by its code, from what it is in each case: 4 to 17 are asked of the events and the buffers, 1, 2 and 21 to 29 of
+-- the marking.
+unfoldable pub byCode : {A : Type 0} (done broken event byte : A) → ℕ → A
+byCode done broken event byte code =
+    cond (eqb code 0) done
+    (cond (ltb 200 code) broken
+    (cond (ltb code 3) byte
+    (cond (ltb code 21) event
+    byte)))
+
 unfoldable pub judgedOf : ℕ → Judged
 judgedOf n =
-    cond (eqb (codeOf n) 0) (Judged.Ruled Verdict.Accepted)
-    (cond (ltb 200 (codeOf n)) (Judged.Ruled (Verdict.Broken (ruleOf (codeOf n)) (eventOf n) (transactionOf n)))
-    (cond (ltb (codeOf n) 3) (Judged.MarkingRefused (codeOf n) (placeOf n))
-    (cond (ltb (codeOf n) 21) (Judged.HistoryRefused (codeOf n) (placeOf n))
-    (Judged.MarkingRefused (codeOf n) (placeOf n)))))
+    byCode
+    (Judged.Ruled Verdict.Accepted)
+    (Judged.Ruled (Verdict.Broken (ruleOf (codeOf n)) (eventOf n) (transactionOf n)))
+    (Judged.HistoryRefused (codeOf n) (placeOf n))
+    (Judged.MarkingRefused (codeOf n) (placeOf n))
+    (codeOf n)
+
+unfoldable pub straighteningOf : ℕ → Straightening
+straighteningOf n =
+    byCode
+    (Straightening.Straightened (lengthOf n) (movedOf n))
+    (Straightening.Broken (ruleOf (codeOf n)) (eventOf n) (transactionOf n))
+    (Straightening.Refused (codeOf n) (placeOf n))
+    (Straightening.MarkingRefused (codeOf n) (placeOf n))
+    (codeOf n)
 
 unfoldable pub countingOf : ℕ → Counting
 countingOf n = cond (eqb (codeOf n) 0) (Counting.Counted (placeOf n)) (Counting.Refused (codeOf n) (placeOf n))

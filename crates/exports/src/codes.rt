@@ -1,11 +1,12 @@
 // Every answer as one number, code × 2^32 + place. A place of 2^32 or more is told as 2^32 − 1, so
 // that it never spills into the code. Each function gives the number that specs/Codes gives for its
-// answer. Required: a cause is 1 to 4, and a broken rule names an event below 2,048 and a transaction
-// below 64; proofs/Bounds shows that of every answer of scan and checker.
+// answer. Required: a cause is 1 to 4, a broken rule names an event below 2,048 and a transaction
+// below 64, and a straightened marking has a length and a number moved below 65,536; proofs/Bounds
+// shows that of every answer of scan, checker and straightening.
 ghost use mathlib.Core.Path.{_≡_};
 ghost use Prim.Native.Nat.{_+_, min};
 ghost use Rattle.opacity.specs.Marking.{ruleNumber};
-ghost use Rattle.exports.specs.Codes.{most, packed, readCode, writtenCode, foundCode, scannedCode, scanCode, verdictCode, checkCode, countCode, CauseKnown, NamesKnown, ScanKnown, CheckKnown};
+ghost use Rattle.exports.specs.Codes.{most, packed, halves, readCode, writtenCode, foundCode, scannedCode, scanCode, brokenCode, verdictCode, checkCode, countCode, straightenCode, CauseKnown, Named, NamesKnown, ScanKnown, CheckKnown, Halves, StraightenKnown};
 use counts::Counting;
 use finder::Found;
 use marking::check::Judged;
@@ -14,6 +15,7 @@ use opacity::verdict::Scanned;
 use opacity::verdict::Verdict;
 use reader::Reading;
 use scan::Judgement;
+use straighten::Straightening;
 use writer::Writing;
 
 // What a code is multiplied by.
@@ -38,6 +40,14 @@ fn pack(code: u32, place: usize) -> u64
 {
     let low = told(place);
     (code as u64) * SHIFT + low
+}
+
+// Two numbers as one place.
+fn join(high: usize, low: usize) -> usize
+    requires { ⌜ Halves high low ⌝ }
+    ensures { λ r. ⌜ r ≡ halves high low ⌝ }
+{
+    high * 65536 + low
 }
 
 // The rules' codes.
@@ -106,7 +116,15 @@ pub fn scan_code(answer: Judgement) -> u64
     }
 }
 
-// The verdict of the rules: the place holds the event and the transaction.
+// A broken rule: the place holds the event and the transaction.
+fn broken_code(rule: Rule, event: usize, transaction: usize) -> u64
+    requires { ⌜ Named event transaction ⌝ }
+    ensures { λ r. ⌜ r ≡ brokenCode rule event transaction ⌝ }
+{
+    pack(rule_code(rule), join(event, transaction))
+}
+
+// The verdict of the rules.
 fn verdict_code(verdict: Verdict) -> u64
     requires { ⌜ NamesKnown verdict ⌝ }
     ensures { λ r. ⌜ r ≡ verdictCode verdict ⌝ }
@@ -117,7 +135,7 @@ fn verdict_code(verdict: Verdict) -> u64
             rule,
             event,
             transaction,
-        } => pack(rule_code(rule), event * 65536 + transaction),
+        } => broken_code(rule, event, transaction),
     }
 }
 
@@ -130,6 +148,23 @@ pub fn check_code(answer: Judged) -> u64
         Judged::Ruled(verdict) => verdict_code(verdict),
         Judged::HistoryRefused { question, event } => pack(question as u32, event),
         Judged::MarkingRefused { question, byte } => pack(question as u32, byte),
+    }
+}
+
+// The answer of the straightening: the place of a marking holds the number moved and the length.
+pub fn straighten_code(answer: Straightening) -> u64
+    requires { ⌜ StraightenKnown answer ⌝ }
+    ensures { λ r. ⌜ r ≡ straightenCode answer ⌝ }
+{
+    match answer {
+        Straightening::Straightened { length, moved } => pack(0, join(moved, length)),
+        Straightening::Broken {
+            rule,
+            event,
+            transaction,
+        } => broken_code(rule, event, transaction),
+        Straightening::Refused { question, event } => pack(question as u32, event),
+        Straightening::MarkingRefused { question, byte } => pack(question as u32, byte),
     }
 }
 

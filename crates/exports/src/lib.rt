@@ -5,7 +5,7 @@
 // length, and nothing else refers to what is written.
 ghost use mathlib.Core.Path.{_≡_};
 ghost use Rattle.events.specs.Columns.{columns};
-ghost use Rattle.exports.specs.Calls.{filled, put, readCall, writeCall, findCall, scanCall, checkCall, transactionsCall, storeReadsCall};
+ghost use Rattle.exports.specs.Calls.{filled, put, putBoth, readCall, writeCall, findCall, scanCall, checkCall, straightenCall, transactionsCall, storeReadsCall};
 
 mod codes;
 
@@ -14,6 +14,7 @@ use crate::codes::count_code;
 use crate::codes::found_code;
 use crate::codes::read_code;
 use crate::codes::scan_code;
+use crate::codes::straighten_code;
 use crate::codes::written_code;
 
 // Reads a history's file into the columns: the event count, or the question and the byte.
@@ -104,6 +105,35 @@ pub extern "C" fn sendoshi_check(
 {
     let answer = marking::check::check_marking(kinds, transactions, registers, values, count, file);
     check_code(answer)
+}
+
+// Straightens the read points of a marking file of the first `count` events, into output and list: how
+// many points were moved and the length of the marking, or the rule that is broken wherever the points
+// are with its event and transaction, or the question with its event or byte.
+#[no_mangle]
+pub extern "C" fn sendoshi_straighten(
+    kinds: &[u16],
+    transactions: &[u16],
+    registers: &[u16],
+    values: &[u32],
+    count: usize,
+    file: &[u8],
+    output: &mut [u8],
+    moved: &mut [u32],
+) -> u64
+    ensures { λ r. ⌜ putBoth r (now (output .exit)) (now (moved .exit)) ≡ straightenCall (columns (now (kinds .entry)) (now (transactions .entry)) (now (registers .entry)) (now (values .entry))) count (now (file .entry)) (now (output .entry)) (now (moved .entry)) ⌝ }
+{
+    let answer = straighten::straighten(
+        kinds,
+        transactions,
+        registers,
+        values,
+        count,
+        file,
+        output,
+        moved,
+    );
+    straighten_code(answer)
 }
 
 // How many transactions begin in the first `count` events, or the question and the event.
