@@ -8,9 +8,7 @@ use Prim.Native.Nat.{ℕ, _+_, _≤_, _<_}
 use native.Mathlib.Omega.{arith}
 use mathlib.Core.Bool.{true}
 use mathlib.Core.List.{List}
-use lib.ListN.{length, drop}
-use lib.Seq.{drop-at}
-use Rattle.events.specs.Bytes.{over}
+use lib.ListN.{length, take, drop}
 use Rattle.events.specs.Events.{begins}
 use Rattle.events.specs.Columns.{Columns, history}
 use Rattle.events.specs.Questions.{readable, columnsAnswer}
@@ -19,7 +17,7 @@ use Rattle.opacity.specs.declared.verdict.Rule.{Rule}
 use Rattle.opacity.specs.declared.verdict.Verdict.{Verdict}
 use Rattle.opacity.specs.declared.verdict.Scanned.{Scanned}
 use Rattle.opacity.specs.Justification.{zeros}
-use Rattle.opacity.specs.Marking.{markingBytes, ruleNumber}
+use Rattle.opacity.specs.Marking.{ruleNumber}
 use Rattle.opacity.specs.Transactions.{storeReads}
 use Rattle.opacity.proofs.Bounds.{at-most-64}
 use Rattle.reader.specs.declared.Reading.{Reading}
@@ -42,10 +40,9 @@ use Rattle.counts.specs.declared.Counting.{Counting}
 use Rattle.counts.specs.Answer.{counted, transactionsAnswer, storeReadsAnswer, number as countNumber, value as countValue}
 use Rattle.opacity.specs.Counts.{counts}
 use Rattle.straighten.specs.declared.Straightening.{Straightening}
-use Rattle.straighten.specs.Straight.{straightened, movedEvents}
 use Rattle.straighten.specs.Answer.{straightenedAnswer}
 use Rattle.straighten.proofs.AnswerLaws.{told}
-use Rattle.straighten.proofs.Theorems.{untouched, never-broken-D}
+use Rattle.straighten.proofs.Theorems.{untouched, never-broken-D, written-behind, written-accepted}
 use Rattle.exports.specs.Codes.{most, packed, brokenPlace, brokenCode, straightPlace, readCode, writtenCode, foundCode, scannedCode, scanCode, verdictCode, checkCode, countCode, straightenCode, Named, codeOf, eventOf, transactionOf, lengthOf, movedOf}
 use Rattle.exports.specs.Calls.{readCall, writeCall, findCall, scanCall, checkCall, straightenCall, transactionsCall, storeReadsCall}
 use Rattle.exports.specs.Decoded.{readingOf, writingOf, foundOf, judgementOf, judgedOf, straighteningOf, countingOf}
@@ -383,21 +380,19 @@ unfolding straightenCall straightenedAnswer
 straighten-keeps c count file output list f = untouched zeros c count file output list (λ n k w. f (straightened-code c count file output list n k w))
 
 -- a buffer that begins with a run goes on as it was
-drop-over : (xs buffer : List ℕ) (k : ℕ) → length xs ≡ k → drop k (over xs buffer) ≡ drop k buffer
-drop-over xs buffer k e = drop-at xs (drop (length xs) buffer) k e ∙ ap (λ (i : ℕ). drop i buffer) e
-
 -- A straightened marking leaves the output behind its length, and the list behind the number moved, as they were.
 pub straighten-behind : (c : Columns) (count : ℕ) (file output list : List ℕ) (n k : ℕ) → codeOf (straightenCall c count file output list .number) ≡ 0
     → lengthOf (straightenCall c count file output list .number) ≡ n → movedOf (straightenCall c count file output list .number) ≡ k
     → (drop n (straightenCall c count file output list .output) ≡ drop n output) × (drop k (straightenCall c count file output list .list) ≡ drop k list)
 unfolding straightenCall straightenedAnswer
 straighten-behind c count file output list n k x a b =
-    let w = straightened-result c count file output list x ∙ ap₂ (λ (i j : ℕ). Straightening.Straightened i j) a b in
-    let d = told zeros c count file output list (Straightening.Straightened n k) w in
-    let m = straightened zeros (history c count) (d .marking) in (
-      ap (drop n) (d .bytes) ∙ drop-over (markingBytes m) output n (d .size),
-      ap (drop k) (d .entries) ∙ drop-over (movedEvents zeros (history c count) (d .marking)) list k (d .count),
-    )
+    written-behind zeros c count file output list n k (straightened-result c count file output list x ∙ ap₂ (λ (i j : ℕ). Straightening.Straightened i j) a b)
+
+-- The checker, called on exactly the bytes written, accepts them.
+pub straighten-accepted : (c : Columns) (count : ℕ) (file output list : List ℕ) → codeOf (straightenCall c count file output list .number) ≡ 0
+    → checkCall c count (take (lengthOf (straightenCall c count file output list .number)) (straightenCall c count file output list .output)) ≡ packed 0 0
+unfolding straightenCall straightenedAnswer checkCall verdictAnswer checkCode verdictCode
+straighten-accepted c count file output list x = ap checkCode (written-accepted zeros c count file output list _ _ (straightened-result c count file output list x))
 
 -- ---- which places are told as 2^32 − 1: the count of 17 or 18, and no other. (A file's byte is at most 32,768: `read-refusal`,
 -- `check-marking` and `straighten-marking`.)

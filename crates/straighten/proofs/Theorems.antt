@@ -175,6 +175,15 @@ module _ (start : ℕ → ℕ) (c : Columns) (n : ℕ) (file output list : List 
     written-readable : ReadableFor events (straightened start events (done .marking))
     written-readable = straight-readable start events (done .marking) (readable-for (done .marking) (done .passes))
 
+    pub written-behind : (drop k (given .output) ≡ drop k output) × (drop l (given .list) ≡ drop l list)
+    written-behind = (
+      ap (drop k) (done .bytes) ∙ drop-over (markingBytes (straightened start events (done .marking))) output k (done .size),
+      ap (drop l) (done .entries) ∙ drop-over (movedEvents start events (done .marking)) list l (done .count),
+    )
+
+    pub written-accepted : answerFrom start c n (take k (given .output)) ≡ Ruled Accepted
+    written-accepted = ap (answerFrom start c n) bytes-written ∙ bytes-judged start c n (straightened start events (done .marking)) (done .passes .fine) written-readable ∙ ap Ruled (done .accepted)
+
     pub written : Bytes file → Written k l
     written by =
         let m = done .marking in
@@ -185,12 +194,12 @@ module _ (start : ℕ → ℕ) (c : Columns) (n : ℕ) (file output list : List 
           justified = straight-accepted start events m f .0 (done .accepted);
           size = sym (done .size) ∙ straight-length start events m ∙ ap length (sym (content-bytes (known events) file by m (done .passes .holds)));
           bytes = bytes-written;
-          behind-bytes = ap (drop k) (done .bytes) ∙ drop-over (markingBytes (straightened start events m)) output k (done .size);
+          behind-bytes = written-behind .0;
           moved = moved-written;
-          behind-moved = ap (drop l) (done .entries) ∙ drop-over (movedEvents start events m) list l (done .count);
+          behind-moved = written-behind .1;
           rising = rw moved-written (moved-rise start events m f);
           readable = written-readable;
-          accepted = ap (answerFrom start c n) bytes-written ∙ bytes-judged start c n (straightened start events m) (done .passes .fine) written-readable ∙ ap Ruled (done .accepted);
+          accepted = written-accepted;
         }
 
     -- Straightening what was written moves nothing: with room, those bytes come back.

@@ -2,7 +2,7 @@
 // breaks neither rule D nor rule E; each other one is moved to its reader's place. Proved: result,
 // output and list as one equation, refusals and broken rules among them (specs/Answer); that it
 // succeeds exactly if outcomes and order justify the history, and that the checker accepts what it
-// writes (proofs/Theorems). Time is that of two checks.
+// writes (proofs/Theorems). A point that stays is judged twice, by itself and with all the others.
 ghost use mathlib.Core.Path.{_≡_};
 ghost use Prim.Native.Nat.{_≤_};
 ghost use lib.Dec.{leb};
