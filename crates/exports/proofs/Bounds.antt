@@ -6,25 +6,22 @@ use mathlib.Core.Path.{_≡_, refl, sym, ap, _∙_}
 use Prim.Native.Nat.{ℕ, _≤_, _<_}
 use native.Mathlib.Omega.{arith}
 use mathlib.Core.Bool.{Bool, true, false, cond}
-use mathlib.Core.List.{List, map}
-use lib.ListN.{length, length-map}
+use mathlib.Core.List.{List}
 use Rattle.events.specs.declared.event.Event.{Event}
 use Rattle.events.specs.declared.columns.Checked.{Checked}
-use Rattle.events.specs.Events.{begins, isRead, isCommit, isAbort}
+use Rattle.events.specs.Events.{isRead, isCommit, isAbort}
 use Rattle.events.specs.Columns.{Columns, history}
 use Rattle.events.specs.Questions.{readable, columnsAnswer}
 use Rattle.events.proofs.ReadableLaws.{columns-readable, readable-most}
 use Rattle.opacity.specs.declared.verdict.Rule.{Rule}
 use Rattle.opacity.specs.declared.verdict.Verdict.{Verdict}
 use Rattle.opacity.specs.declared.verdict.Scanned.{Scanned}
-use Rattle.opacity.specs.Transactions.{storeReads}
-use Rattle.opacity.specs.Marking.{Marking, ReadableFor, markingBytes, verdict, putTo, namedEvent, namedTransaction}
+use Rattle.opacity.specs.Marking.{Marking, verdict, putTo, namedEvent, namedTransaction}
 use Rattle.opacity.specs.Scan.{cause}
-use Rattle.opacity.proofs.Bounds.{at-most-64, transaction-low}
+use Rattle.opacity.proofs.Bounds.{at-most-64, transaction-low, reads-low}
 use Rattle.opacity.proofs.Meanings.{last-event-means, begin-of-means}
-use Rattle.opacity.proofs.MarkingBytes.{marking-length}
-use Rattle.opacity.proofs.Theorems.{broken-iff-first, places-are-n}
-use Rattle.finder.proofs.PointLaws.{reads-low}
+use Rattle.opacity.proofs.MarkingBytes.{readable-length}
+use Rattle.opacity.proofs.Theorems.{broken-iff-first}
 use Rattle.scan.specs.declared.Judgement.{Judgement}
 use Rattle.scan.specs.Answer.{scanAnswer}
 use Rattle.scan.proofs.AnswerLaws.{scanned-e}
@@ -103,14 +100,6 @@ check-known c count file j x v a q e t b = broken-named c count file q e t (sym 
 
 -- ---- the straightening
 
--- the bytes of a content that is readable for the history: 6, 8 for each of its transactions and 10 for each of its store reads
-bytes-low : (h : List Event) (m : Marking) → readable h ≡ true → ReadableFor h m → length (markingBytes m) ≤ 20998
-bytes-low h m r f =
-    let p = places-are-n (begins h) (m .places) (f .order) in
-    let q = length-map (m .points) (λ p. p .event) in
-    let s : length (map (λ p. p .event) (m .points)) ≡ length (storeReads h) = ap length (f .reads) in
-    omega (arith, marking-length m, p, q, s, at-most-64 h r, reads-low h r)
-
 module _ (c : Columns) (count : ℕ) (file output list : List ℕ) where
   pub straightened-bounds : (n k : ℕ) → straightenedAnswer c count file output list .result ≡ Straightening.Straightened n k → (n ≤ 20998) × (k ≤ 2048)
   unfolding straightenedAnswer
@@ -120,7 +109,7 @@ module _ (c : Columns) (count : ℕ) (file output list : List ℕ) where
       let h = history c count in
       let r = columns-readable c count (d .passes .fine) .1 in
       let f = content-readable h file m r (d .passes .holds) in (
-        omega (arith, d .size, straight-length zeros h m, bytes-low h m r f),
+        omega (arith, d .size, straight-length zeros h m, readable-length h m f, at-most-64 h r, reads-low h r),
         omega (arith, d .count, moved-few zeros h m f, reads-low h r),
       )
 

@@ -19,6 +19,7 @@ use Rattle.events.specs.Questions.{readable, columnsAnswer}
 use Rattle.events.proofs.ColumnLaws.{history-length}
 use Rattle.events.proofs.QuestionLaws.{answer-readable, readable-take}
 use Rattle.events.proofs.ReadableLaws.{columns-readable, readable-most}
+use Rattle.opacity.proofs.Bounds.{reads-low}
 use Rattle.opacity.specs.declared.verdict.Scanned.{Scanned}
 use Rattle.opacity.proofs.Theorems.{places-are-n, lowest-some}
 use Rattle.reader.specs.declared.Reading.{Reading}
@@ -29,7 +30,6 @@ use Rattle.finder.specs.declared.Found.{Found}
 use Rattle.finder.specs.Answer.{markingSize, prefixRefusal, findRefusal, foundAnswer}
 use Rattle.finder.proofs.AnswerLaws.{marking-e, marking-some, passed}
 use Rattle.finder.proofs.OrderLaws.{room-is}
-use Rattle.finder.proofs.PointLaws.{reads-low}
 use Rattle.scan.specs.declared.Judgement.{Judgement}
 use Rattle.scan.specs.Answer.{sizeRefusal, scanRefusal, scanAnswer}
 use Rattle.scan.proofs.AnswerLaws.{scanned-e, refused-e as unscanned-e, passed as scan-passed}

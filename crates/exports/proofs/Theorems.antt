@@ -19,7 +19,7 @@ use Rattle.opacity.specs.declared.verdict.Scanned.{Scanned}
 use Rattle.opacity.specs.Justification.{zeros}
 use Rattle.opacity.specs.Marking.{ruleNumber}
 use Rattle.opacity.specs.Transactions.{storeReads}
-use Rattle.opacity.proofs.Bounds.{at-most-64}
+use Rattle.opacity.proofs.Bounds.{at-most-64, reads-low}
 use Rattle.reader.specs.declared.Reading.{Reading}
 use Rattle.reader.specs.Reading.{readAnswer, number as readNumber, value as readValue}
 use Rattle.writer.specs.declared.Writing.{Writing}
@@ -29,7 +29,6 @@ use Rattle.writer.proofs.RoundTrip.{was-read, was-written, refused-unread, refu
 use Rattle.finder.specs.declared.Found.{Found}
 use Rattle.finder.specs.Answer.{foundAnswer}
 use Rattle.finder.proofs.AnswerLaws.{refused-e}
-use Rattle.finder.proofs.PointLaws.{reads-low}
 use Rattle.finder.proofs.Theorems.{refused-unchanged, none-unchanged}
 use Rattle.scan.specs.declared.Judgement.{Judgement}
 use Rattle.scan.specs.Answer.{scanAnswer}

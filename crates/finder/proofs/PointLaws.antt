@@ -4,15 +4,14 @@ use mathlib.Core.Path.{_≡_, refl, sym, ap, ap₂, _∙_}
 use Prim.Native.Nat.{ℕ, _+_, _*_, _≤_, _<_}
 use native.Mathlib.Nat.{le-of-lt}
 use native.Mathlib.Omega.{arith}
-use mathlib.Core.Bool.{Bool, true}
+use mathlib.Core.Bool.{Bool}
 use mathlib.Core.List.{List, _++_}
 use mathlib.Core.Option.{Option, none, some}
 use lib.ListN.{length, take, getD, length-append}
 use lib.Dec.{eqb}
 use Rattle.events.specs.Questions.{readable}
-use Rattle.events.proofs.ReadableLaws.{readable-most}
 use borrow.Author.Tests.{ne-eqb}
-use Rattle.events.specs.Lists.{_and_, isNone, range}
+use Rattle.events.specs.Lists.{_and_, isNone}
 use Rattle.events.specs.declared.event.Event.{Event}
 use Rattle.events.specs.Events.{eventAt, isRead}
 use Rattle.opacity.specs.Transactions.{lastWrite, isStoreRead, storeReads}
@@ -20,7 +19,6 @@ use Rattle.events.specs.Columns.{Columns, entry, history}
 use Rattle.opacity.specs.Counts.{ofKind}
 use Rattle.opacity.specs.Justification.{Place}
 use Rattle.opacity.specs.Marking.{placeOf, marked}
-use Rattle.events.proofs.ListLaws.{keep-length, range-length}
 use Rattle.events.proofs.ColumnLaws.{history-length, history-at, history-take}
 use Rattle.opacity.proofs.Prefixes.{store-read-at}
 use Rattle.tables.specs.Tables.{Tables, next, empty, goThrough, tablesOf}
@@ -136,8 +134,3 @@ module _ (c : Columns) (n : ℕ) (places : List ℕ) (size : length places ≡ 1
   marking-written d o₁ o₂ o₃ room e₁ e₂ e₃ =
       let m = places-length places size count few in
       rw marking-here (marking-put (flat placeBytes (decode (take count places))) (pointsOf (history c n) (decode (take count places)) n) d o₁ o₂ o₃ (6 + 8 * count) (omega arith) (rw marking-here at room) e₁ e₂ e₃)
-
--- a readable history has at most 2,048 store reads
-pub reads-low : (h : List Event) → readable h ≡ true → length (storeReads h) ≤ 2048
-unfolding storeReads
-reads-low h r = omega (arith, keep-length (isStoreRead h) (range (length h)), range-length (length h), readable-most h r)

@@ -10,24 +10,23 @@ use mathlib.Core.Bool.{Bool, true, false}
 use mathlib.Core.List.{List, [], _∷_, _++_, map, append-assoc, append-nil}
 use mathlib.Core.Option.{Option, none, some, Option·getD}
 use lib.Dec.{eqb, ltb, leb}
-use lib.ListN.{length, length-map, length-append}
+use lib.ListN.{length, length-append}
 use borrow.Author.Tests.{eq-eqb, lt-ltb, ltb-true, le-ltb, le-leb, leb-true}
 use Rattle.events.specs.declared.event.Event.{Event}
 use Rattle.events.specs.declared.record.Found.the-variants.{Whole}
 use Rattle.events.specs.Bytes.{u16Bytes, u32Bytes}
 use Rattle.events.specs.Lists.{_and_, _or_, any, all, every, keep, push, latest, range}
-use Rattle.events.specs.Events.{begins}
 use Rattle.events.specs.Questions.{refusal, readable}
 use Rattle.events.specs.Records.{recordAt}
 use Rattle.events.proofs.FieldLaws.{u16-back, u32-back, whole-at, record-back, part-back}
-use Rattle.events.proofs.ListLaws.{all-weaken, keep-length, range-length, and-i, and-l, and-r, imp-i, every-i, any-append, or-l, or-r, keep-append, latest-snoc, below-cases, clash}
+use Rattle.events.proofs.ListLaws.{all-weaken, and-i, and-l, and-r, imp-i, every-i, any-append, or-l, or-r, keep-append, latest-snoc, below-cases, clash}
 use Rattle.events.proofs.ReadableLaws.{readable-most}
 use Rattle.opacity.specs.Transactions.{isStoreRead, storeReads}
 use Rattle.opacity.specs.Justification.{Place, placed, distinct, isOrder}
 use Rattle.opacity.specs.Marking.{Marking, Point, ReadableFor, markingHead, outcomeNumber, placeBytes, pointBytes, flat, markingBytes}
-use Rattle.opacity.proofs.Bounds.{at-most-64}
-use Rattle.opacity.proofs.MarkingBytes.{marking-length}
-use Rattle.opacity.proofs.Orders.{distinct-at, filled}
+use Rattle.opacity.proofs.Bounds.{at-most-64, reads-low}
+use Rattle.opacity.proofs.MarkingBytes.{marking-length, readable-length}
+use Rattle.opacity.proofs.Orders.{distinct-at}
 use Rattle.marking.specs.declared.step.Step.the-variants.{Placed, Pointed, Finished}
 use Rattle.marking.specs.File.{Known, known, asked, transactionIn, outcomeIn, eventIn, gapIn, nextEvent, everyPlaced, hasPoint, everyPointed, headQuestions, endQuestions, bodyStep, endStep, stepOn, stepAt, content, goOn, walk, opening, nothingRead, afterOpening, fileRead}
 use Rattle.marking.specs.State.{placeQuestions, pointQuestions, placeStep, pointStep}
@@ -253,17 +252,7 @@ module _ (h : List Event) (m : Marking) (r : readable h ≡ true) (f : ReadableF
   pointed = every-i _ (length h) (λ i l. imp-i _ _ (λ e. any-events i (m .points) ∙ rw (f .reads) (keep-member (isStoreRead h) (length h) i l e)))
 
   small : length (markingBytes m) ≤ 32768
-  unfolding storeReads
-  small =
-      let a = marking-length m in
-      let b = filled (begins h) (m .places) (f .order) in
-      let c = at-most-64 h r in
-      let d = length-map (m .points) (λ q. q .event) in
-      let e : length (map (λ q. q .event) (m .points)) ≡ length (keep (isStoreRead h) (range (length h))) = ap length (f .reads) in
-      let k = keep-length (isStoreRead h) (range (length h)) in
-      let n = range-length (length h) in
-      let t = readable-most h r in
-      omega arith
+  small = omega (arith, readable-length h m f, at-most-64 h r, reads-low h r)
 
   -- the bytes of a content that is readable for the history are read as it
   pub bytes-content : fileRead (known h) (markingBytes m) ≡ content m

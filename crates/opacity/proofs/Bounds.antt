@@ -1,4 +1,5 @@
--- In a readable history the transactions are below 64 and the registers below 32, those of reads returned among them.
+-- In a readable history the transactions are below 64 and the registers below 32, those of reads returned among them; its store reads are at
+-- most 2,048.
 -- Assumes nothing.
 use Prim.Native.Nat.{ℕ, zero, suc, _≤_, _<_}
 use native.Mathlib.Nat.{le-of-lt, le-refl}
@@ -12,13 +13,15 @@ use lib.Dec.{eqb}
 use lib.ListN.{length, take}
 use lib.Seq.{take-suc, take-all, getD-take, length-take-le}
 use borrow.Author.Tests.{eqb-true, eq-eqb}
-use Rattle.events.specs.Lists.{_and_, _or_, keep}
+use Rattle.events.specs.Lists.{_and_, _or_, keep, range}
 use Rattle.events.specs.declared.event.Event.{Event}
 use Rattle.events.specs.Events.{noEvent, eventAt, isBegin, isCall, namesRegister, begins, lastOf, pendingCall, pendingOf}
 use Rattle.events.specs.Questions.{due, fieldsDue, readable}
-use Rattle.events.proofs.ListLaws.{and-l}
+use Rattle.events.proofs.ListLaws.{and-l, keep-length, range-length}
 use Rattle.events.proofs.ColumnLaws.{begins-take, begins-snoc, begins-same}
 use Rattle.events.proofs.QuestionLaws.{fit-at, asked-at, begun}
+use Rattle.events.proofs.ReadableLaws.{readable-most}
+use Rattle.opacity.specs.Transactions.{isStoreRead, storeReads}
 use Rattle.opacity.proofs.Meanings.{latest-some}
 
 -- ---- transactions
@@ -111,3 +114,9 @@ register-low h r i l = go (eqb k 16) refl (eqb k 17) refl (eqb k 18) refl (eqb k
         omega arith
     go false x false y false z true w fields turn = asked-at h r i l .register (rw (y, w) refl)
     go false x false y false z false w fields turn = let o : e .register ≡ 0 = eqb-true _ _ (and-l _ _ fields) in omega arith
+
+-- ---- store reads
+
+pub reads-low : (h : List Event) → readable h ≡ true → length (storeReads h) ≤ 2048
+unfolding storeReads
+reads-low h r = omega (arith, keep-length (isStoreRead h) (range (length h)), range-length (length h), readable-most h r)

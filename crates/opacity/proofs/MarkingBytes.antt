@@ -4,10 +4,14 @@ use Prim.Native.Nat.{ℕ, zero, suc, _+_, _*_, _<_}
 use native.Mathlib.Nat.{add-comm, mul-suc}
 use native.Mathlib.Omega.{arith}
 use mathlib.Core.Path.{_≡_, refl, sym, ap, _∙_}
-use mathlib.Core.List.{List, [], _∷_, _++_, append-assoc}
+use mathlib.Core.List.{List, [], _∷_, _++_, map, append-assoc}
 use lib.Dec.{eqb}
-use lib.ListN.{length, length-append}
-use Rattle.opacity.specs.Marking.{Marking, markingHead, outcomeNumber, placeBytes, pointBytes, flat, markingBytes}
+use lib.ListN.{length, length-append, length-map}
+use Rattle.events.specs.declared.event.Event.{Event}
+use Rattle.events.specs.Events.{begins}
+use Rattle.opacity.specs.Transactions.{storeReads}
+use Rattle.opacity.specs.Marking.{Marking, ReadableFor, markingHead, outcomeNumber, placeBytes, pointBytes, flat, markingBytes}
+use Rattle.opacity.proofs.Orders.{filled}
 
 pub outcome-back : (o : ℕ) → o < 2 → outcomeNumber (eqb o 1) ≡ o
 outcome-back zero l = refl
@@ -34,3 +38,12 @@ unfolding markingBytes
 marking-length m =
     length-append markingHead (flat placeBytes (m .places) ++ flat pointBytes (m .points))
     ∙ ap (λ (x : ℕ). 6 + x) (length-append (flat placeBytes (m .places)) (flat pointBytes (m .points)) ∙ rw (flat-length placeBytes 8 (m .places) (λ p. refl), flat-length pointBytes 10 (m .points) (λ q. refl)))
+
+-- of a marking that is readable for a history: 8 for each of its transactions and 10 for each of its store reads
+pub readable-length : (h : List Event) (m : Marking) → ReadableFor h m → length (markingBytes m) ≡ 6 + 8 * begins h + 10 * length (storeReads h)
+readable-length h m f =
+    let a = marking-length m in
+    let b = filled (begins h) (m .places) (f .order) in
+    let d = length-map (m .points) (λ q. q .event) in
+    let e : length (map (λ q. q .event) (m .points)) ≡ length (storeReads h) = ap length (f .reads) in
+    omega arith

@@ -1,12 +1,12 @@
 -- From what the parts of the code say to the answer: the bytes and the room of a marking in arrays, and the answer by what was read and judged.
 -- Assumes nothing.
-use Prim.Native.Nat.{ℕ, _+_, _*_, _≤_}
+use Prim.Native.Nat.{ℕ, _≤_}
 use native.Mathlib.Omega.{arith}
 use mathlib.Core.Path.{_≡_, sym, ap, _∙_, fun-ext}
 use mathlib.Core.Bool.{Bool, true, false}
-use mathlib.Core.List.{List, map}
+use mathlib.Core.List.{List}
 use lib.Dec.{leb}
-use lib.ListN.{length, getD, length-map}
+use lib.ListN.{length, getD}
 use borrow.Author.Tests.{leb-true}
 use Rattle.events.specs.declared.event.Event.{Event}
 use Rattle.events.specs.Lists.{_and_}
@@ -19,8 +19,7 @@ use Rattle.opacity.specs.declared.verdict.Verdict.{Verdict}
 use Rattle.opacity.specs.Counts.{HoldsReadable}
 use Rattle.opacity.specs.Transactions.{isStoreRead, storeReads}
 use Rattle.opacity.specs.Marking.{Marking, ReadableFor, markingBytes, verdict}
-use Rattle.opacity.proofs.MarkingBytes.{marking-length}
-use Rattle.opacity.proofs.Orders.{filled}
+use Rattle.opacity.proofs.MarkingBytes.{readable-length}
 use Rattle.rules.specs.Judge.{content as inArrays, Ground, Given}
 use Rattle.marking.specs.File.{known, content, fileRead}
 use Rattle.marking.proofs.CheckLaws.{ground, reads-same}
@@ -38,15 +37,6 @@ grounded {c} {n} p = ground c n (p .readable) record { kinds = p .kinds-long; tr
 
 -- ---- bytes and room
 
--- a readable marking has the bytes of its head, places and points
-marking-size : (h : List Event) (m : Marking) → ReadableFor h m → length (markingBytes m) ≡ 6 + 8 * begins h + 10 * length (storeReads h)
-marking-size h m f =
-    let a = marking-length m in
-    let b = filled (begins h) (m .places) (f .order) in
-    let d = length-map (m .points) (λ q. q .event) in
-    let e : length (map (λ q. q .event) (m .points)) ≡ length (storeReads h) = ap length (f .reads) in
-    omega arith
-
 module _ {c : Columns} {n : ℕ} {link : List ℕ} {reads : List Bool} {order outcomes gaps : List ℕ} (y : Given c n link reads order outcomes gaps) {k : ℕ} (ek : k ≡ begins (history c n)) where
   -- what is written is the marking in the arrays,
   pub bytes-same : bytesIn order outcomes k reads gaps n ≡ markingBytes (inArrays (history c n) order outcomes gaps)
@@ -59,7 +49,7 @@ module _ {c : Columns} {n : ℕ} {link : List ℕ} {reads : List Bool} {order ou
 
   -- for which there is room
   pub bytes-fit : {output list : ℕ} → Room (history c n) output list → length (bytesIn order outcomes k reads gaps n) ≤ output
-  bytes-fit room = omega (arith, room .bytes, ap length bytes-same, marking-size (history c n) (inArrays (history c n) order outcomes gaps) (arrays-readable y))
+  bytes-fit room = omega (arith, room .bytes, ap length bytes-same, readable-length (history c n) (inArrays (history c n) order outcomes gaps) (arrays-readable y))
 
 -- ---- the answer
 
@@ -86,5 +76,5 @@ module _ (start : ℕ → ℕ) (h : List Event) (n : ℕ) (file output list : Li
         let e = sym asked ∙ z in
         let l : length file ≤ length output = leb-true _ _ (and-l _ _ e) in
         let s = ap length (content-bytes (known h) file by m holds) in
-        let k = marking-size h m f in
+        let k = readable-length h m f in
         record { bytes = omega arith; entries = leb-true _ _ (and-r _ _ e) }

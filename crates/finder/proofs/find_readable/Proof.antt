@@ -11,7 +11,7 @@ use Rattle.events.specs.Events.{begins}
 use Rattle.tables.specs.Order.{startOf}
 use Rattle.finder.specs.Answer.{lowestMarking, decided}
 use Rattle.tables.proofs.JudgedLaws.{few-judged, readable-prefix}
-use Rattle.finder.proofs.PointLaws.{reads-low}
+use Rattle.opacity.proofs.Bounds.{reads-low}
 use Rattle.finder.proofs.AnswerLaws.{decided-refused, refused-31, refused-32, passes-31-32}
 use borrow.Author.Needs.{needs}
 use Rattle.finder.proofs.find_readable.Statement.{statement}
