@@ -112,6 +112,11 @@ pub contra : (a b : Bool) → (a ≡ true → b ≡ true) → b ≡ false → a 
 contra true b f t = absurd (clash (f refl) t)
 contra false b f t = refl
 
+pub both-ways : (a b : Bool) → (a ≡ true → b ≡ true) → (b ≡ true → a ≡ true) → a ≡ b
+both-ways true b f g = sym (f refl)
+both-ways false true f g = g refl
+both-ways false false f g = refl
+
 pub eqb-self : (m : ℕ) → eqb m m ≡ true
 eqb-self m = eq-eqb m m refl
 
@@ -324,3 +329,13 @@ pub range-length : (n : ℕ) → length (range n) ≡ n
 unfolding range
 range-length zero = refl
 range-length (suc n) = omega (arith, length-append (range n) (n ∷ []), range-length n)
+
+-- a number below n that passes is among those that are kept
+pub keep-member : (p : ℕ → Bool) (n i : ℕ) → i < n → p i ≡ true → any (λ k. eqb k i) (keep p (range n)) ≡ true
+unfolding range keep any
+keep-member p zero i l t = absurd (not-suc-le-zero l)
+keep-member p (suc n) i l t =
+    ap (any (λ k. eqb k i)) (keep-append p (range n) (n ∷ [])) ∙ any-append _ (keep p (range n)) (keep p (n ∷ []))
+    ∙ ⊎-elim
+    (λ e. or-r _ _ (let q : p n ≡ true = ap p (sym e) ∙ t in let s : eqb n i ≡ true = ap (λ (m : ℕ). eqb m i) (sym e) ∙ eqb-self i in rw q (or-l _ _ s)))
+    (λ m. or-l _ _ (keep-member p n i m t)) (below-cases l)

@@ -7,7 +7,7 @@ use mathlib.Core.Bool.{true}
 use mathlib.Core.List.{List}
 use mathlib.Core.Option.{Option, none, some}
 use lib.ListN.{length, take, drop}
-use lib.Seq.{take-at, drop-at}
+use Rattle.events.proofs.BufferLaws.{take-over, drop-over}
 use Rattle.events.specs.declared.event.Event.{Event}
 use Rattle.events.specs.declared.columns.Checked.{Checked}
 use Rattle.events.specs.Bytes.{over}
@@ -109,8 +109,8 @@ module _ (c : Columns) (count prefix : ℕ) (output : List ℕ) where
         passes = m .passes;
         order = s .0;
         lowest = l;
-        bytes = rw (m .output) (take-at (m .bytes) (drop (length (m .bytes)) output) n k ∙ s .2);
-        behind = rw (m .output) (drop-at (m .bytes) (drop (length (m .bytes)) output) n k ∙ ap (λ (i : ℕ). drop i output) k);
+        bytes = rw (m .output) (take-over (m .bytes) output n k ∙ s .2);
+        behind = rw (m .output) (drop-over (m .bytes) output n k);
         readable = marked-is-readable zeros judged r (s .0) (l .justifies);
         accepted = marked-is-accepted zeros judged r (s .0) (l .justifies);
       }

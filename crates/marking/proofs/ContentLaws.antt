@@ -7,7 +7,7 @@ use native.Mathlib.Omega.{arith}
 use mathlib.Core.Path.{_≡_, refl, sym, ap, _∙_, fun-ext}
 use mathlib.Core.Logic.{⊎-elim}
 use mathlib.Core.Bool.{Bool, true, false, not, cond}
-use mathlib.Core.List.{List, [], _∷_, _++_, map}
+use mathlib.Core.List.{List, [], _∷_, _++_}
 use mathlib.Core.Option.{Option, none, some}
 use lib.Dec.{eqb, leb}
 use lib.ListN.{length, getD, set, replicate, length-append, List·getD-eq-default}
@@ -19,6 +19,7 @@ use Rattle.events.specs.Events.{begins}
 use Rattle.events.proofs.ListLaws.{and-i, all-append, below-cases}
 use Rattle.events.specs.Questions.{readable}
 use Rattle.events.proofs.ReadableLaws.{readable-most}
+use Rattle.opacity.proofs.Finder.{events-of}
 use Rattle.opacity.proofs.Bounds.{at-most-64}
 use Rattle.opacity.specs.Transactions.{isStoreRead, storeReads}
 use Rattle.opacity.specs.Justification.{isOrder}
@@ -30,7 +31,7 @@ use Rattle.marking.specs.File.{Known, known, asked, everyPointed, stepAt
 use Rattle.marking.specs.State.{knownBy, pointBy, askedBy, pointIn, pointsOf, soFar, Sound}
 use Rattle.marking.proofs.StepLaws.{placed-told, pointed-told, finished-told}
 use Rattle.marking.proofs.SoundLaws.{sound-start, nothing-so, step-same, place-so, place-sound, point-so, point-sound, end-so, end-ordered, end-pointed, end-fits}
-use Rattle.marking.proofs.CheckLaws.{pt, points-kept, beyond-history}
+use Rattle.marking.proofs.CheckLaws.{points-kept, beyond-history}
 
 -- what stands in arrays for a content that was read
 pub record Arrays (reads : List Bool) (n b : ℕ) (m : Marking) : Type 0 where
@@ -145,10 +146,6 @@ module _ (h : List Event) where
 
 -- ---- the content
 
-events-kept : (gaps xs : List ℕ) → map (λ p. p .event) (map (pt gaps) xs) ≡ xs
-events-kept gaps [] = refl
-events-kept gaps (x ∷ xs) = ap (λ (l : List ℕ). x ∷ l) (events-kept gaps xs)
-
 gaps-low : (gaps : List ℕ) (b k : ℕ) → ((i : ℕ) → i < k → eqb (getD gaps i 0) 65535 ≡ false → getD gaps i 0 ≤ b) → all (λ p. leb (p .gap) b) (pointsOf gaps k) ≡ true
 unfolding pointsOf all _and_
 gaps-low gaps b zero f = refl
@@ -166,6 +163,6 @@ content-readable h s m r e =
     let p = points-kept (isStoreRead h) (a .gaps) (length h) (λ i l. sym (table-holds h i) ∙ a .pointed i l) in
     record {
       order = rw (a .same) (a .ordered);
-      reads = rw (a .same, ← p) (events-kept (a .gaps) (storeReads h));
+      reads = rw (a .same, ← p) (events-of (λ i. getD (a .gaps) i 0) (storeReads h));
       gaps = rw (a .same) (gaps-low (a .gaps) (begins h) (length h) (λ i l z. a .fits i l (a .pointed i l ∙ ap not z)));
     }

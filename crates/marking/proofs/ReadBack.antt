@@ -1,17 +1,16 @@
 -- The bytes of a content that is readable for a readable history are read as that content.
 -- Assumes nothing.
 use Prim.Native.Nat.{ℕ, zero, suc, _+_, _≤_, _<_}
-use native.Mathlib.Nat.{add-zero, add-assoc, le-refl, not-suc-le-zero, lt-of-not-le}
+use native.Mathlib.Nat.{add-zero, add-assoc, le-refl, lt-of-not-le}
 use native.Mathlib.Decide.{decLe}
 use native.Mathlib.Omega.{arith}
 use mathlib.Core.Path.{_≡_, refl, sym, ap, _∙_, subst}
-use mathlib.Core.Logic.{⊎-elim}
 use mathlib.Core.Bool.{Bool, true, false}
 use mathlib.Core.List.{List, [], _∷_, _++_, map, append-assoc, append-nil}
 use mathlib.Core.Option.{Option, none, some, Option·getD}
 use lib.Dec.{eqb, ltb, leb}
 use lib.ListN.{length, length-append}
-use borrow.Author.Tests.{eq-eqb, lt-ltb, ltb-true, le-ltb, le-leb, leb-true}
+use borrow.Author.Tests.{lt-ltb, ltb-true, le-ltb, le-leb, leb-true}
 use Rattle.events.specs.declared.event.Event.{Event}
 use Rattle.events.specs.declared.record.Found.the-variants.{Whole}
 use Rattle.events.specs.Bytes.{u16Bytes, u32Bytes}
@@ -19,7 +18,7 @@ use Rattle.events.specs.Lists.{_and_, _or_, any, all, every, keep, push, latest
 use Rattle.events.specs.Questions.{refusal, readable}
 use Rattle.events.specs.Records.{recordAt}
 use Rattle.events.proofs.FieldLaws.{u16-back, u32-back, whole-at, record-back, part-back}
-use Rattle.events.proofs.ListLaws.{all-weaken, and-i, and-l, and-r, imp-i, every-i, any-append, or-l, or-r, keep-append, latest-snoc, below-cases, clash}
+use Rattle.events.proofs.ListLaws.{all-weaken, and-i, and-l, and-r, imp-i, every-i, latest-snoc, clash, keep-member}
 use Rattle.events.proofs.ReadableLaws.{readable-most}
 use Rattle.opacity.specs.Transactions.{isStoreRead, storeReads}
 use Rattle.opacity.specs.Justification.{Place, placed, distinct, isOrder}
@@ -76,18 +75,6 @@ module _ (p : ℕ → Bool) where
       go : (b : Bool) → p x ≡ b → all p (keep p xs) ≡ true → all p (push b x (keep p xs)) ≡ true
       go true e ih = and-i _ _ e ih
       go false e ih = ih
-
-  keep-member : (n i : ℕ) → i < n → p i ≡ true → any (λ x. eqb x i) (keep p (range n)) ≡ true
-  unfolding range keep any
-  keep-member zero i l e = absurd (not-suc-le-zero l)
-  keep-member (suc n) i l e =
-      ap (any (λ x. eqb x i)) (keep-append p (range n) (n ∷ []))
-      ∙ (any-append (λ x. eqb x i) (keep p (range n)) (keep p (n ∷ [])) ∙ ⊎-elim here (λ m. or-l _ _ (keep-member n i m e)) (below-cases l))
-    where
-      here : i ≡ n → (any (λ x. eqb x i) (keep p (range n)) or any (λ x. eqb x i) (push (p n) n [])) ≡ true
-      here q =
-          let y : p n ≡ true = ap p (sym q) ∙ e in
-          or-r _ _ (rw (y, eq-eqb n i (sym q)) (or-l true false refl))
 
 -- the numbers below n that pass rise
 pub passing-rise : (p : ℕ → Bool) (n : ℕ) → rising 0 (keep p (range n)) ≡ true

@@ -1,23 +1,22 @@
 -- The marking that the finder writes, with each read point at its reader's place, is Accepted.
 -- Assumes nothing.
-use Prim.Native.Nat.{ℕ, zero, suc, _≤_, _<_}
-use native.Mathlib.Nat.{not-suc-le-zero, le-refl, min-eq-left, max-eq-left, min-le-left}
+use Prim.Native.Nat.{ℕ, _≤_, _<_}
+use native.Mathlib.Nat.{le-refl, min-eq-left, max-eq-left, min-le-left}
 use native.Mathlib.Omega.{arith}
-use mathlib.Core.Path.{_≡_, refl, sym, ap, _∙_}
-use mathlib.Core.Logic.{⊎-elim}
+use mathlib.Core.Path.{_≡_, refl, ap}
 use mathlib.Core.Bool.{Bool, true, false, cond, false≢true}
 use mathlib.Core.List.{List, [], _∷_, map}
 use mathlib.Core.Option.{Option, none, some}
 use lib.Dec.{eqb, leb}
 use lib.ListN.{length, take, length-take, drop-of-length-le}
 use borrow.Author.Tests.{eqb-true, le-leb}
-use Rattle.events.specs.Lists.{all, _or_, orElse, any, keep, latest, range}
+use Rattle.events.specs.Lists.{all, _or_, orElse, any, keep, latest}
 use Rattle.events.specs.declared.event.Event.{Event}
 use Rattle.events.specs.Events.{eventAt, begins}
 use Rattle.opacity.specs.Transactions.{isStoreRead, storeReads}
 use Rattle.opacity.specs.Justification.{Place, isOf, stop, before, Justified}
 use Rattle.opacity.specs.Marking.{ReadableFor, Point, gapOf, placeOf, marked, others, between, noWriterBetween, Accepted, verdict, RuleD}
-use Rattle.events.proofs.ListLaws.{and-i, imp-i, or-l, or-r, nor-l, nor-r, eqb-self, below-cases, any-append, keep-append}
+use Rattle.events.proofs.ListLaws.{and-i, imp-i, nor-l, nor-r, keep-member}
 use Rattle.opacity.proofs.Orders.{filled}
 use Rattle.opacity.proofs.Rules.{justified-accepted}
 
@@ -44,19 +43,10 @@ gap-at g (x ∷ xs) i n = go (any (λ k. eqb k i) xs) refl (eqb x i) refl n (gap
     go false e true f t ih = rw (no-gap g xs i e, eqb-true x i f)
     go false e false f t ih = absurd (false≢true t)
 
-listed : (p : ℕ → Bool) (n i : ℕ) → i < n → p i ≡ true → any (λ k. eqb k i) (keep p (range n)) ≡ true
-unfolding range keep any
-listed p zero i l t = absurd (not-suc-le-zero l)
-listed p (suc n) i l t =
-    ap (any (λ k. eqb k i)) (keep-append p (range n) (n ∷ [])) ∙ any-append _ (keep p (range n)) (keep p (n ∷ []))
-    ∙ ⊎-elim
-    (λ e. or-r _ _ (let q : p n ≡ true = ap p (sym e) ∙ t in let s : eqb n i ≡ true = ap (λ (m : ℕ). eqb m i) (sym e) ∙ eqb-self i in rw q (or-l _ _ s)))
-    (λ m. or-l _ _ (listed p n i m t)) (below-cases l)
-
 -- the gap that a marking has at a store read
 pub gap-marked : (h : List Event) (g : ℕ → ℕ) (i : ℕ) → i < length h → isStoreRead h i ≡ true → gapOf (map (λ k. record { event = k; gap = g k }) (storeReads h)) i ≡ g i
 unfolding gapOf storeReads found point
-gap-marked h g i l s = rw (gap-at g (storeReads h) i (listed (isStoreRead h) (length h) i l s))
+gap-marked h g i l s = rw (gap-at g (storeReads h) i (keep-member (isStoreRead h) (length h) i l s))
 
 -- nothing lies between a gap and itself
 here : (k : ℕ) (J : List Place) → between k k J ≡ []
@@ -66,11 +56,10 @@ here k J = rw (min-eq-left (le-refl k), max-eq-left (le-refl k)) (drop-of-length
 pub marked-keeps-D : (h : List Event) (J : List Place) → RuleD h (marked h J)
 unfolding noWriterBetween marked gapOf storeReads found point others keep latest
 marked-keeps-D h J i l =
-    imp-i _ _ (λ s. rw (gap-at (λ k. placeOf (eventAt h k .transaction) J) (storeReads h) i (listed (isStoreRead h) (length h) i l s), here))
+    imp-i _ _ (λ s. rw (gap-at (λ k. placeOf (eventAt h k .transaction) J) (storeReads h) i (keep-member (isStoreRead h) (length h) i l s), here))
 
 -- it is readable for the history
-events-of : (g : ℕ → ℕ) (xs : List ℕ) → map (λ p. p .event) (map (point g) xs) ≡ xs
-unfolding point
+pub events-of : (g : ℕ → ℕ) (xs : List ℕ) → map (λ (p : Point). p .event) (map (λ k. record { event = k; gap = g k }) xs) ≡ xs
 events-of g [] = refl
 events-of g (x ∷ xs) = ap (λ (l : List ℕ). x ∷ l) (events-of g xs)
 

@@ -18,6 +18,7 @@ use Rattle.events.proofs.ListLaws.{and-l, and-r, and-i, keep-append, clash}
 use Rattle.events.proofs.ColumnLaws.{history-length}
 use Rattle.opacity.specs.Transactions.{isStoreRead, storeReads}
 use Rattle.opacity.specs.Marking.{Marking, ReadableFor, gapOf, placeOf}
+use Rattle.opacity.proofs.Finder.{events-of}
 use Rattle.links.specs.Tables.{Filled, Slots}
 use Rattle.links.proofs.FilledLaws.{filled-at}
 use Rattle.links.specs.declared.tables.Fact.the-variants.{LastWrite}
@@ -28,7 +29,7 @@ use Rattle.marking.proofs.CheckLaws.{beyond-history}
 use Rattle.marking.proofs.ReadBack.{keep-passes}
 use Rattle.straighten.specs.Straight.{straightened, movedEvents}
 use Rattle.straighten.specs.Tables.{breaksBy, gapBy, listed}
-use Rattle.straighten.proofs.PointLaws.{pointWith, events-with, map-same}
+use Rattle.straighten.proofs.PointLaws.{pointWith, map-same}
 use Rattle.straighten.proofs.StraightLaws.{keptAt, gapAfter, straight-points, moved-exactly}
 
 -- tests that agree below n keep the same
@@ -60,7 +61,7 @@ module _ {c : Columns} {n : ℕ} {link : List ℕ} {reads : List Bool} {order ou
   arrays-readable =
       record {
         order = y .ordered;
-        reads = events-with (λ i. getD gaps i 0) (storeReads h);
+        reads = events-of (λ i. getD gaps i 0) (storeReads h);
         gaps = low (storeReads h) (keep-passes (isStoreRead h) (range (length h)));
       }
     where

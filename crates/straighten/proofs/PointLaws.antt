@@ -5,7 +5,7 @@ use native.Mathlib.Nat.{le-refl, le-step, lt-suc-self, le-of-suc-le-suc}
 use native.Mathlib.Omega.{arith}
 use mathlib.Core.Path.{_≡_, refl, sym, ap, ap₂, _∙_}
 use mathlib.Core.Bool.{Bool, true, false, cond}
-use mathlib.Core.List.{List, [], _∷_, map, map-map, map-id}
+use mathlib.Core.List.{List, [], _∷_, map}
 use mathlib.Core.Option.{none, some}
 use lib.Dec.{eqb, leb}
 use borrow.Author.Tests.{ne-eqb, le-leb, leb-true}
@@ -74,9 +74,6 @@ keep-none p (suc n) e =
 -- the point at event i with the gap g i
 abbrev pub pointWith : (ℕ → ℕ) → ℕ → Point
 pointWith g i = record { event = i; gap = g i }
-
-pub events-with : (g : ℕ → ℕ) (xs : List ℕ) → map (λ p. p .event) (map (pointWith g) xs) ≡ xs
-events-with g xs = map-map (λ p. p .event) (pointWith g) xs ∙ map-id xs
 
 none-above : (i : ℕ) (ps : List Point) → all (λ x. leb (i + 1) x) (map (λ p. p .event) ps) ≡ true
     → latest (λ (p : Point). cond (eqb (p .event) i) (some (p .gap)) none) ps ≡ none

@@ -6,12 +6,11 @@ use native.Mathlib.Nat.{lt-trans}
 use native.Mathlib.Omega.{arith}
 use mathlib.Core.Path.{_≡_, refl, sym, ap, ap₂, _∙_, subst}
 use mathlib.Core.Logic.{_↔_}
-use mathlib.Core.Bool.{Bool, true, false}
 use mathlib.Core.List.{List}
 use lib.ListN.{length}
 use Rattle.events.specs.declared.event.Event.{Event}
 use Rattle.events.specs.Events.{eventAt}
-use Rattle.events.proofs.ListLaws.{clash}
+use Rattle.events.proofs.ListLaws.{clash, both-ways}
 use Rattle.opacity.specs.declared.verdict.Rule.{Rule}
 use Rattle.opacity.specs.declared.verdict.Rule.the-variants.{A, B, C, D, E}
 use Rattle.opacity.specs.declared.verdict.Verdict.the-variants.{Broken}
@@ -47,11 +46,6 @@ module _ (start : ℕ → ℕ) (h : List Event) (m m′ : Marking) (same : m .pl
         earlier = λ p k. holds-same p (lt-trans k l) (b .earlier p k);
       })
       ∙ ap₂ (Broken q) (sym (n .event)) (sym (n .transaction))
-
-both-ways : (a b : Bool) → (a ≡ true → b ≡ true) → (b ≡ true → a ≡ true) → a ≡ b
-both-ways true b f g = sym (f refl)
-both-ways false true f g = g refl
-both-ways false false f g = refl
 
 module _ (start : ℕ → ℕ) (h : List Event) (m : Marking) where
   places-stay : m .places ≡ straightened start h m .places

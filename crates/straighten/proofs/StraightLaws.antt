@@ -19,14 +19,14 @@ use Rattle.opacity.specs.declared.verdict.Verdict.the-variants.{Accepted}
 use Rattle.opacity.specs.Transactions.{isStoreRead, storeReads}
 use Rattle.opacity.specs.Justification.{Place, Justified}
 use Rattle.opacity.specs.Marking.{Marking, Point, ReadableFor, markingBytes, gapOf, placeOf, marked, noWriterBetween, valueAtGap, verdict, ruleHolds, RuleD}
-use Rattle.opacity.proofs.Finder.{gap-marked, marked-keeps-D, before-le}
+use Rattle.opacity.proofs.Finder.{gap-marked, marked-keeps-D, before-le, events-of}
 use Rattle.opacity.proofs.MarkingBytes.{marking-length}
 use Rattle.opacity.proofs.Orders.{filled}
-use Rattle.opacity.proofs.Rules.{accepted-justified, justified-accepted}
+use Rattle.opacity.proofs.Rules.{legal-gap, accepted-justified, justified-accepted}
 use Rattle.opacity.proofs.VerdictLaws.{accepted-rules}
 use Rattle.marking.proofs.ReadBack.{rising, passing-rise}
 use Rattle.straighten.specs.Straight.{stands, atReader, straightPoint, straightened, movedEvents, Rises}
-use Rattle.straighten.proofs.PointLaws.{pointWith, by-event, events-with, keep-map, keep-keep, keep-none, map-none, rises}
+use Rattle.straighten.proofs.PointLaws.{pointWith, by-event, keep-map, keep-keep, keep-none, map-none, rises}
 
 -- ---- an event that is no store read breaks neither D nor E at any gap, and nothing breaks D at its reader's place
 
@@ -147,7 +147,7 @@ module _ (start : ℕ → ℕ) (h : List Event) (m : Marking) where
     moved-exactly =
         ap (λ (ps : List Point). map (λ p. p .event) (keep (λ p. not (stands start h (m .places) p)) ps)) points-by-event
         ∙ ap (map (λ p. p .event)) (keep-map (λ p. not (stands start h (m .places) p)) (pointWith (gapOf (m .points))) (storeReads h))
-        ∙ events-with (gapOf (m .points)) _
+        ∙ events-of (gapOf (m .points)) _
         ∙ keep-keep (isStoreRead h) (λ i. not (keptAt i)) (range (length h)) (λ i n. moved-read i (not-true _ n))
 
     pub moved-rise : Rises (movedEvents start h m)
@@ -170,7 +170,7 @@ module _ (start : ℕ → ℕ) (h : List Event) (m : Marking) where
     straight-readable =
         record {
           order = f .order;
-          reads = ap (map (λ p. p .event)) straight-points ∙ events-with gapAfter (storeReads h);
+          reads = ap (map (λ p. p .event)) straight-points ∙ events-of gapAfter (storeReads h);
           gaps = gaps-stay (begins h) (m .points) (filled (begins h) (m .places) (f .order)) (f .gaps);
         }
 
@@ -208,3 +208,13 @@ module _ (start : ℕ → ℕ) (h : List Event) (m : Marking) where
     moved-moves v i l n e =
         let a = accepted-rules start h (straightened start h m) .0 v in
         clash (and-i _ _ (rw e at (a D i l)) (rw e at (a E i l))) n
+
+    -- and broke D before: one that breaks E alone breaks it at its reader's place too
+    pub moved-broke-D : verdict start h (straightened start h m) ≡ Accepted → (i : ℕ) → i < length h → (ruleHolds start h m D i and ruleHolds start h m E i) ≡ false
+        → ruleHolds start h m D i ≡ false
+    unfolding ruleHolds
+    moved-broke-D v i l n = go (noWriterBetween h (m .places) (gapOf (m .points) i) i) refl
+      where
+        go : (b : Bool) → noWriterBetween h (m .places) (gapOf (m .points) i) i ≡ b → b ≡ false
+        go false d = refl
+        go true d = absurd (clash (and-i _ _ d (legal-gap start h (m .places) (gapOf (m .points) i) i d (straight-accepted .0 v .store i l))) n)

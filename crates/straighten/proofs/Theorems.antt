@@ -8,7 +8,6 @@ use mathlib.Core.Logic.{_↔_, ⊎-elim}
 use mathlib.Core.Bool.{Bool, true, false, cond}
 use mathlib.Core.List.{List}
 use lib.ListN.{length, take, drop}
-use lib.Seq.{take-at, drop-at}
 use Rattle.events.specs.declared.event.Event.{Event}
 use Rattle.events.specs.declared.columns.Checked.{Checked}
 use Rattle.events.specs.declared.columns.Checked.the-variants.{Readable, Refused as Refuses}
@@ -16,6 +15,7 @@ use Rattle.events.specs.Bytes.{Bytes, over}
 use Rattle.events.specs.Events.{eventAt}
 use Rattle.events.specs.Columns.{Columns, history, hold}
 use Rattle.events.specs.Questions.{columnsAnswer}
+use Rattle.events.proofs.BufferLaws.{take-over, drop-over}
 use Rattle.events.proofs.ReadableLaws.{columns-readable}
 use Rattle.opacity.specs.declared.verdict.Rule.{Rule}
 use Rattle.opacity.specs.declared.verdict.Rule.the-variants.{D, E}
@@ -38,13 +38,6 @@ use Rattle.straighten.specs.Answer.{Given, gives, settled, judged, roomy
 use Rattle.straighten.proofs.StraightLaws.{moved-rise, straight-readable, straight-accepted, straight-length}
 use Rattle.straighten.proofs.RuleLaws.{order-rules-same, never-D, E-first-illegal}
 use Rattle.straighten.proofs.AnswerLaws.{never-15, Passes, Short, Done, history-said, marking-said, short-said, done-said, broken-said, same-said, told}
-
--- a buffer that begins with a run goes on as it was
-take-over : (xs buffer : List ℕ) (k : ℕ) → length xs ≡ k → take k (over xs buffer) ≡ xs
-take-over xs buffer k e = take-at xs (drop (length xs) buffer) k e
-
-drop-over : (xs buffer : List ℕ) (k : ℕ) → length xs ≡ k → drop k (over xs buffer) ≡ drop k buffer
-drop-over xs buffer k e = drop-at xs (drop (length xs) buffer) k e ∙ ap (λ (i : ℕ). drop i buffer) e
 
 -- a call: columns, count, the marking's file, and the output and the list as they were
 module _ (start : ℕ → ℕ) (c : Columns) (n : ℕ) (file output list : List ℕ) where

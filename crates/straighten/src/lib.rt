@@ -17,8 +17,8 @@ ghost use Rattle.marking.specs.File.{known, fileRead};
 ghost use Rattle.straighten.specs.Answer.{gives, settled, judged, afterFile, straightenedAnswer};
 ghost use Rattle.straighten.specs.Tables.{Room, listed, bytesIn};
 
-pub mod moves;
-pub mod write;
+mod moves;
+mod write;
 
 use crate::moves::straight_of;
 use crate::write::list_moved;

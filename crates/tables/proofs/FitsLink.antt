@@ -1,7 +1,7 @@
 -- The search's test of a place, over the tables, is the definition's, over the events.
 -- Assumes nothing.
 use mathlib.Core.Path.{_≡_, refl, sym, ap, _∙_}
-use mathlib.Core.Logic.{_⊎_, ⊎-elim}
+use mathlib.Core.Logic.{⊎-elim}
 use Prim.Native.Nat.{ℕ, zero, suc, _+_, _*_, _-_, _/_, _%_, _≤_, _<_}
 use native.Mathlib.Nat.{lt-suc-self, le-refl, le-of-lt, not-suc-le-zero}
 use native.Mathlib.Omega.{arith}
@@ -12,13 +12,13 @@ use lib.ListN.{length, take, getD}
 use lib.Seq.{take-suc, take-all}
 use lib.Dec.{eqb, ltb}
 use borrow.Author.Tests.{eqb-true, eqb-false, eq-eqb, ne-eqb, lt-ltb}
-use Rattle.events.specs.Lists.{_and_, _or_, _implies_, orElse, push, keep, latest, every}
+use Rattle.events.specs.Lists.{_and_, _implies_, orElse, push, keep, latest, every}
 use Rattle.events.specs.declared.event.Event.{Event}
 use Rattle.events.specs.Events.{eventAt, begins}
 use Rattle.opacity.specs.Transactions.{precedes, Status, status, allows, lastWrite, isStoreRead}
 use Rattle.opacity.specs.Justification.{Place, placed, written, contents, preceded, legalOver}
 use Rattle.opacity.specs.Lowest.{place, fits}
-use Rattle.events.proofs.ListLaws.{imp-e, imp-i, not-true, clash, below-cases, every-e, every-i, latest-snoc}
+use Rattle.events.proofs.ListLaws.{imp-e, imp-i, not-true, clash, below-cases, every-e, every-i, latest-snoc, both-ways}
 use Rattle.search.specs.Bits.{bitAt}
 use Rattle.search.specs.Tree.{upFrom, contentAfter, contentTo, legalAt, legalTo, noneIn, allowsOutcome, fitsAt}
 use Rattle.tables.specs.Tables.{tablesOf}
@@ -28,11 +28,6 @@ use Rattle.tables.proofs.ReadMeaning.{Reads, Wanted, reads-hold}
 use Rattle.tables.proofs.TreeLink.{free, State, decode-snoc}
 
 -- two tests that follow from each other
-both-ways : (a b : Bool) → (a ≡ true → b ≡ true) → (b ≡ true → a ≡ true) → a ≡ b
-both-ways true b f g = sym (f refl)
-both-ways false true f g = g refl
-both-ways false false f g = refl
-
 -- ---- outcomes
 
 allows-link : (s : Status) (c : Bool) → allowsOutcome (rule s) (digit c) ≡ allows s c
