@@ -378,7 +378,6 @@ pub straighten-keeps : (c : Columns) (count : ℕ) (file output list : List ℕ)
 unfolding straightenCall straightenedAnswer
 straighten-keeps c count file output list f = untouched zeros c count file output list (λ n k w. f (straightened-code c count file output list n k w))
 
--- a buffer that begins with a run goes on as it was
 -- A straightened marking leaves the output behind its length, and the list behind the number moved, as they were.
 pub straighten-behind : (c : Columns) (count : ℕ) (file output list : List ℕ) (n k : ℕ) → codeOf (straightenCall c count file output list .number) ≡ 0
     → lengthOf (straightenCall c count file output list .number) ≡ n → movedOf (straightenCall c count file output list .number) ≡ k
