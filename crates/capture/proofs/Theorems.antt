@@ -1,7 +1,7 @@
 -- What the report says, in both directions, from the bytes of the two files on. `report_on` gives `reportOn`, so each theorem is one about
 -- its result.
 -- Assumes nothing.
-use Prim.Native.Nat.{ℕ, _≤_, _<_}
+use Prim.Native.Nat.{ℕ, _+_, _≤_, _<_}
 use native.Mathlib.Decide.{decLt}
 use native.Mathlib.Omega.{arith}
 use mathlib.Core.Path.{_≡_, refl, sym, ap, _∙_}
@@ -15,10 +15,14 @@ use Rattle.events.specs.Events.{begins}
 use Rattle.events.specs.Questions.{readable as isReadable}
 use Rattle.opacity.specs.declared.verdict.Scanned.{Scanned}
 use Rattle.opacity.specs.declared.verdict.Verdict.{Verdict}
+use Rattle.opacity.specs.Transactions.{Status, committed, aborted, pending, live, Stands}
 use Rattle.opacity.specs.Justification.{Justified, zeros}
 use Rattle.opacity.specs.Marking.{Marking as Content, verdict, RuleD}
 use Rattle.opacity.specs.Scan.{scan, AllJustified, FaultsAt}
+use Rattle.opacity.specs.Counts.{counts}
 use Rattle.opacity.proofs.Theorems.{opaque-iff, faulted-iff, accepted-iff-justified}
+use Rattle.counts.specs.Tally.{standing, tally, times}
+use Rattle.counts.proofs.Theorems.{adds-up, counted-once, counted-iff}
 use Rattle.marking.specs.File.{known, FileRead, content, refused as unread, fileRead}
 use Rattle.marking.specs.Answer.{ruled}
 use Rattle.marking.proofs.ContentLaws.{content-readable}
@@ -41,14 +45,30 @@ history-refused s marking q byte = (go (historyOf s), λ e. ap (λ (x : Outcome)
     go (readable h) d = absurd (let z : _≡_ {A = ℕ} 0 1 = cc in omega arith)
     go (refused a b) d = cc
 
--- and otherwise the report has three lines, all of them on the events in the file.
+-- and otherwise the report has four lines, all of them on the events in the file.
 module _ (s : List ℕ) (by : Bytes s) (h : List Event) (file : historyOf s ≡ readable h) (marking : List ℕ) where
-  pub three-lines : reportOn s marking ≡ Report.Judged (countsOf h) (markingOf h marking) (opacityOf h)
+  pub four-lines : reportOn s marking ≡ Report.Judged (countsOf h) (tally h) (markingOf h marking) (opacityOf h)
   unfolding reportOn judged
-  three-lines = ap (λ (x : Outcome). saidOf x marking) file
+  four-lines = ap (λ (x : Outcome). saidOf x marking) file
+
+  -- the four numbers of the tally add up to the transactions of the line above it
+  pub tally-adds-up : tally h .committed + tally h .aborted + tally h .pending + tally h .live ≡ countsOf h .transactions
+  unfolding countsOf counts
+  tally-adds-up = adds-up h
 
   is-readable : isReadable h ≡ true
   is-readable = write-back s h by file .1
+
+  -- each of them is counted there in exactly one of the four,
+  pub tally-counts-once : (t : ℕ) → t < countsOf h .transactions
+      → times t (standing committed h) + times t (standing aborted h) + times t (standing pending h) + times t (standing live h) ≡ 1
+  unfolding countsOf counts
+  tally-counts-once t l = counted-once h t l
+
+  -- that which its events say
+  pub tally-counts-as : (s : Status) (t : ℕ) → (times t (standing s h) ≡ 1) ↔ ((t < countsOf h .transactions) × Stands s h t)
+  unfolding countsOf counts
+  tally-counts-as s t = counted-iff h is-readable s t
 
   -- what the scan says is said of at most 10 transactions, and 31 of more
   scanned : (x : Scanned) → (opacityOf h ≡ Opacity.Scanned x) ↔ ((begins h ≤ 10) × (scan zeros h ≡ x))

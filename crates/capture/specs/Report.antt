@@ -7,6 +7,7 @@ use Rattle.events.specs.declared.event.Event.{Event}
 use Rattle.opacity.specs.Justification.{zeros}
 use Rattle.opacity.specs.Counts.{counts}
 use Rattle.opacity.specs.Scan.{scan}
+use Rattle.counts.specs.Tally.{tally}
 use Rattle.reader.specs.Reading.{Outcome, readable, refused, historyOf}
 use Rattle.scan.specs.declared.Judgement.{Judgement}
 use Rattle.scan.specs.Answer.{sizeRefusal, decided}
@@ -41,7 +42,7 @@ unfoldable pub opacityOf : List Event → Opacity
 opacityOf h = opacityBy (decided (sizeRefusal h (length h)) (scan zeros h))
 
 unfoldable pub judged : List Event → List ℕ → Report
-judged h file = Report.Judged (countsOf h) (markingOf h file) (opacityOf h)
+judged h file = Report.Judged (countsOf h) (tally h) (markingOf h file) (opacityOf h)
 
 -- what is said of a history file's content
 abbrev pub saidOf : Outcome → List ℕ → Report

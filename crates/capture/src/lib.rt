@@ -10,6 +10,8 @@ ghost use Rattle.events.specs.Columns.{columns, history, hold};
 ghost use Rattle.events.specs.Questions.{columnsAnswer};
 ghost use Rattle.events.specs.declared.columns.Checked.{Checked};
 ghost use Rattle.capture.specs.Report.{countsOf, markingOf, opacityOf, judged, reportOn};
+use counts::tally::Tally;
+use counts::tally::tally_of;
 use marking::check::Judged;
 use marking::check::check_marking;
 use opacity::verdict::Scanned;
@@ -38,7 +40,7 @@ pub enum Opacity {
     Refused(u8),
 }
 
-// The report: the history is refused with its byte and nothing more is said; or the three lines.
+// The report: the history is refused with its byte and nothing more is said; or the four lines.
 pub enum Report {
     Refused {
         question: u8,
@@ -46,6 +48,7 @@ pub enum Report {
     },
     Judged {
         counts: Counts,
+        tally: Tally,
         marking: Marking,
         opacity: Opacity,
     },
@@ -113,7 +116,7 @@ fn opacity_of(
     }
 }
 
-// The three lines, of columns to which no question says no.
+// The four lines, of columns to which no question says no.
 fn judge_columns(
     kinds: &[u16],
     transactions: &[u16],
@@ -126,10 +129,12 @@ fn judge_columns(
     ensures { λ r. ⌜ r ≡ judged (history (columns (now (kinds .entry)) (now (transactions .entry)) (now (registers .entry)) (now (values .entry))) count) (now (file .entry)) ⌝ }
 {
     let counts = counts_of(kinds, transactions, registers, values, count);
+    let tally = tally_of(kinds, transactions, registers, values, count);
     let marking = marking_of(kinds, transactions, registers, values, count, file);
     let opacity = opacity_of(kinds, transactions, registers, values, count);
     Report::Judged {
         counts,
+        tally,
         marking,
         opacity,
     }

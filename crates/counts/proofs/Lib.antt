@@ -1,2 +1,6 @@
 -- What the proofs of several functions use.
 pub mod AnswerLaws
+pub mod HowMany
+pub mod MoveLaws
+pub mod TallyLaws
+pub mod Theorems

@@ -1,14 +1,25 @@
-// The counts of the report's first line, of columns that no one has put a question to yet: 17 and
-// each event's own questions come first, then the events are counted in one pass.
+// The counts of the report's first line and the tally of its second, of columns that no one has put a
+// question to yet: 17 and each event's own questions come first, then the events are counted in one pass.
 ghost use mathlib.Core.Path.{_≡_};
 ghost use Rattle.events.specs.Columns.{columns};
-ghost use Rattle.counts.specs.Answer.{transactionsAnswer, storeReadsAnswer};
+ghost use Rattle.counts.specs.Answer.{transactionsAnswer, storeReadsAnswer, tallyAnswer};
+
+pub mod tally;
+
+use crate::tally::Tally;
+use crate::tally::tally_of;
 use events::columns::Checked;
 use events::columns::check_columns;
 
 // A count's answer: the number, or the question that says no with its event.
 pub enum Counting {
     Counted(usize),
+    Refused { question: u8, event: usize },
+}
+
+// The tally's answer: the four numbers, or the question that says no with its event.
+pub enum Tallying {
+    Tallied(Tally),
     Refused { question: u8, event: usize },
 }
 
@@ -46,4 +57,21 @@ pub fn count_store_reads(
     }
     let reads = opacity::counts::store_reads(kinds, transactions, registers, values, count);
     Counting::Counted(reads)
+}
+
+// How many of the transactions in the first `count` events are committed, aborted, pending and live.
+pub fn tally_transactions(
+    kinds: &[u16],
+    transactions: &[u16],
+    registers: &[u16],
+    values: &[u32],
+    count: usize,
+) -> Tallying
+    ensures { λ r. ⌜ r ≡ tallyAnswer (columns (now (kinds .entry)) (now (transactions .entry)) (now (registers .entry)) (now (values .entry))) count ⌝ }
+{
+    let checked = check_columns(kinds, transactions, registers, values, count);
+    if let Checked::Refused { question, event } = checked {
+        return Tallying::Refused { question, event };
+    }
+    Tallying::Tallied(tally_of(kinds, transactions, registers, values, count))
 }

@@ -19,13 +19,13 @@ use Rattle.events.specs.Columns.{Columns, entry, history}
 use Rattle.events.proofs.ListLaws.{or-false}
 use Rattle.events.proofs.ColumnLaws.{history-at, history-length}
 use Rattle.events.proofs.StateLaws.{has-snoc}
-use Rattle.opacity.specs.Transactions.{Status, committed, aborted, pending, live, status, precedes}
+use Rattle.opacity.specs.Transactions.{committed, aborted, pending, live, status, precedes}
 use Rattle.opacity.specs.Marking.{lastEvent, beginOf}
 use Rattle.opacity.proofs.Snoc.{precedes-more}
 use Rattle.links.specs.declared.tables.Fact.{Fact}
 use Rattle.links.specs.declared.tables.Fact.the-variants.{LastEvent, LastBegin, FirstBegin, FirstEnd, Standing}
 use Rattle.opacity.specs.Counts.{ofKind}
-use Rattle.links.specs.Tables.{lastOne, firstOne, rank, standing, slotAt, slot, Slots, earlier}
+use Rattle.links.specs.Tables.{lastOne, firstOne, rank, standing, standingOf, slotAt, slot, Slots, earlier}
 
 -- ---- filling
 
@@ -239,13 +239,6 @@ rank-more : (a b c x y z k : Bool) → rank (a or (k and x)) (b or (k and y)) (c
 unfolding _and_
 rank-more a b c x y z true = rank-max a b c x y z
 rank-more a b c x y z false = rw (or-false a, or-false b, or-false c)
-
--- a status as the number that the table has for it
-abbrev pub standingOf : Status → ℕ
-standingOf committed = 3
-standingOf aborted = 2
-standingOf pending = 1
-standingOf live = 0
 
 rank-status : (a b c : Bool) → standingOf (cond a committed (cond b aborted (cond c pending live))) ≡ rank a b c
 unfolding rank

@@ -55,7 +55,7 @@ one-at-most false = omega arith
 
 -- ---- store reads
 
-range-more : (p : ℕ → Bool) (i : ℕ) → length (keep p (range (i + 1))) ≡ length (keep p (range i)) + one (p i)
+pub range-more : (p : ℕ → Bool) (i : ℕ) → length (keep p (range (i + 1))) ≡ length (keep p (range i)) + one (p i)
 unfolding range keep
 range-more p i = rw add-one (ap length (keep-append p (range i) (i ∷ [])) ∙ length-append (keep p (range i)) (push (p i) i []) ∙ ap (λ (k : ℕ). length (keep p (range i)) + k) (go (p i)))
   where

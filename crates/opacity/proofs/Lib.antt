@@ -16,6 +16,7 @@ pub mod MarkingBytes
 pub mod Serial
 pub mod LowestSerial
 pub mod EventKinds
+pub mod Statuses
 pub mod Pending
 pub mod Snoc
 pub mod Quiet

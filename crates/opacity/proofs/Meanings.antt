@@ -18,18 +18,13 @@ use Rattle.events.specs.Lists.{_and_, _or_, orElse, any, keep, latest, first, l
 use Rattle.events.specs.declared.event.Event.{Event}
 use Rattle.events.specs.Events.{noEvent, eventAt, isBegin, isWrite, isEnd, by, has, begins}
 use Rattle.events.specs.Questions.{readable}
-use Rattle.events.proofs.ListLaws.{and-l, and-r, and-i, or-l, or-r, clash, below-cases, first-none, first-some}
+use Rattle.events.proofs.ListLaws.{and-l, and-r, and-i, or-l, or-r, or-cases, clash, below-cases, first-none, first-some}
 use Rattle.events.proofs.ColumnLaws.{begins-snoc, begins-same}
 use Rattle.events.proofs.QuestionLaws.{any-index, asked-at}
 use Rattle.opacity.specs.Transactions.{precedes, lastWrite, writes, EndedBefore, LastWrite}
 use Rattle.opacity.specs.Marking.{lastEvent, beginOf, LastOf, BeginOf}
 
 -- ---- searches
-
-or-cases : (a b : Bool) → (a or b) ≡ true → (a ≡ true) ⊎ (b ≡ true)
-unfolding _or_
-or-cases true b t = inl refl
-or-cases false b t = inr t
 
 any-at : {A : Type 0} (p : A → Bool) (xs : List A) (d : A) (j : ℕ) → j < length xs → p (getD xs j d) ≡ true → any p xs ≡ true
 unfolding any

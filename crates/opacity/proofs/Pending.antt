@@ -13,12 +13,13 @@ use lib.Seq.{take-suc, take-take, getD-take, length-take-le}
 use borrow.Author.Tests.{eqb-true, eq-eqb}
 use Rattle.events.specs.Lists.{_or_, any}
 use Rattle.events.specs.declared.event.Event.{Event}
-use Rattle.events.specs.Events.{noEvent, eventAt, isBegin, isCall, asksCommit, isCommit, isAbort, isEnd, by, has, begins, ended, lastOf, pendingCall, pendingOf}
+use Rattle.events.specs.Events.{noEvent, eventAt, isBegin, isCall, asksCommit, isEnd, by, has, begins, ended, lastOf, pendingCall, pendingOf}
 use Rattle.events.specs.Questions.{past, readable, due}
-use Rattle.events.proofs.ListLaws.{and-false-r, and-false-l, and-false-e, and-l, and-r, and-i, or-l, or-r, nor-l, nor-r, clash, not-true, any-append, any-weaken, latest-snoc}
+use Rattle.events.proofs.ListLaws.{and-false-r, and-false-l, and-false-e, and-l, and-r, nor-l, nor-r, clash, not-true, any-append, latest-snoc}
 use Rattle.events.proofs.ColumnLaws.{begins-take}
 use Rattle.events.proofs.QuestionLaws.{Fit, fit-at, asked, any-index, begun}
 use Rattle.opacity.specs.Transactions.{live, status}
+use Rattle.opacity.proofs.Statuses.{not-committed, not-aborted}
 use Rattle.opacity.proofs.EventKinds.{due-commit, asks-is-call}
 
 pending-other : (h : List Event) (e : Event) (t : ℕ) → eqb (e .transaction) t ≡ false → pendingOf (h ++ (e ∷ [])) t ≡ pendingOf h t
@@ -100,15 +101,6 @@ module _ (h : List Event) (r : readable h ≡ true) where
       (pending-step (take n h) (eventAt h n) t (fit-at h r n l) (named asksCommit n t (le-of-lt l)) (pending-commit n t (le-of-lt l)) (rw s at c)
       (rw s at u))
 
--- a transaction that has not ended has neither committed nor aborted
-no-commit : (t : ℕ) (h : List Event) → ended t h ≡ false → has isCommit t h ≡ false
-unfolding ended has by isEnd
-no-commit t h u = any-weaken _ _ h (λ x s. and-i _ _ (and-l _ _ s) (or-l _ _ (and-r _ _ s))) u
-
-no-abort : (t : ℕ) (h : List Event) → ended t h ≡ false → has isAbort t h ≡ false
-unfolding ended has by isEnd
-no-abort t h u = any-weaken _ _ h (λ x s. and-i _ _ (and-l _ _ s) (or-r _ _ (and-r _ _ s))) u
-
 -- The transaction of an event that neither begins nor ends one is live before that event.
 pub stays-live : (h : List Event) → readable h ≡ true → (i : ℕ) → i < length h → isBegin (eventAt h i) ≡ false → isEnd (eventAt h i) ≡ false
     → status (take i h) (eventAt h i .transaction) ≡ live
@@ -119,7 +111,7 @@ stays-live h r i l b n =
     let t = eventAt h i .transaction in
     let u : ended t (take i h) ≡ false = not-true _ (and-r _ _ (a .lives b)) in
     let k : has asksCommit t (take i h) ≡ false = uncalled t f (a .in-turn) u (has asksCommit t (take i h)) refl in
-    rw (no-commit t (take i h) u, no-abort t (take i h) u, k)
+    rw (not-committed t (take i h) u, not-aborted t (take i h) u, k)
   where
     uncalled : (t : ℕ) → Fit (past (take i h)) (eventAt h i) → due (pendingOf (take i h) t .kind) (eventAt h i .kind) ≡ true
         → ended t (take i h) ≡ false → (x : Bool) → has asksCommit t (take i h) ≡ x → has asksCommit t (take i h) ≡ false

@@ -9,7 +9,7 @@ use lib.Dec.{eqb}
 use lib.ListN.{length, take}
 use Rattle.events.specs.Lists.{_and_, _or_, _implies_, keep, latest, isNone, range}
 use Rattle.events.specs.declared.event.Event.{Event}
-use Rattle.events.specs.Events.{eventAt, isBegin, isRead, isWrite, asksCommit, isCommit, isAbort, isEnd, by, has, begins}
+use Rattle.events.specs.Events.{eventAt, isBegin, isRead, isWrite, asksCommit, isCommit, isAbort, isEnd, by, has, ended, begins}
 
 -- How a transaction stands: committed or aborted as recorded, pending after a commit called and unanswered, else live.
 pub data Status : Type 0 where
@@ -21,6 +21,13 @@ status h t =
     (cond (has isAbort t h) aborted
     (cond (has asksCommit t h) pending
     live))
+
+-- the same by its events: recorded as committed or aborted; commit is called and the transaction has not ended; neither
+abbrev pub Stands : Status → List Event → ℕ → Type 0
+Stands committed h t = has isCommit t h ≡ true
+Stands aborted h t = has isAbort t h ≡ true
+Stands pending h t = (has asksCommit t h ≡ true) × (ended t h ≡ false)
+Stands live h t = (has asksCommit t h ≡ false) × (ended t h ≡ false)
 
 -- the outcomes, true for committed, that this allows: the recorded one; free after a commit called and unanswered; aborted for
 -- others not ended

@@ -9,7 +9,7 @@ ghost use Rattle.opacity.specs.Counts.{HoldsReadable, countsBegin, count
 use events::record::Record;
 
 // One for a begin.
-fn counts_begin(kind: u16) -> usize
+pub fn counts_begin(kind: u16) -> usize
     ensures { λ r. ⌜ r ≡ countsBegin kind ⌝ }
 {
     if kind == Record::BEGIN {

@@ -1,5 +1,5 @@
 -- What stands in the columns past the count, and what a buffer held before, make no difference to an answer: for the reader, the writer, the
--- checker and the counts. For the finder, the scan and the straightening this is `past-count` in their own Theorems.
+-- checker, the counts and the tally. For the finder, the scan and the straightening this is `past-count` in their own Theorems.
 -- Assumes nothing.
 use Prim.Native.Nat.{ℕ}
 use mathlib.Core.Path.{_≡_, refl, sym, ap, _∙_}
@@ -19,7 +19,7 @@ use Rattle.writer.specs.declared.Writing.{Writing}
 use Rattle.writer.specs.declared.Writing.the-variants.{Written, Refused as Unwritten}
 use Rattle.writer.specs.Writing.{fileOf, answered, written, writtenAnswer}
 use Rattle.marking.specs.Answer.{answerFrom, verdictAnswer}
-use Rattle.counts.specs.Answer.{transactionsAnswer, storeReadsAnswer}
+use Rattle.counts.specs.Answer.{transactionsAnswer, storeReadsAnswer, tallyAnswer}
 
 -- two columns that hold the same events below the count
 module _ (c d : Columns) (count : ℕ) (same-room : hold c count ≡ hold d count) (same-events : history c count ≡ history d count) where
@@ -38,6 +38,10 @@ module _ (c d : Columns) (count : ℕ) (same-room : hold c count ≡ hold d coun
   pub store-reads-past : storeReadsAnswer c count ≡ storeReadsAnswer d count
   unfolding storeReadsAnswer
   store-reads-past = rw (columns-past, same-events)
+
+  pub tally-past : tallyAnswer c count ≡ tallyAnswer d count
+  unfolding tallyAnswer
+  tally-past = rw (columns-past, same-events)
 
   -- and two outputs of one length
   pub writer-past : (out before : List ℕ) → length out ≡ length before → writtenAnswer c count out .result ≡ writtenAnswer d count before .result

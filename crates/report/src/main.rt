@@ -7,6 +7,7 @@ use capture::Counts;
 use capture::Marking;
 use capture::Opacity;
 use capture::Report;
+use counts::tally::Tally;
 use libc::STDOUT_FILENO;
 use opacity::verdict::Rule;
 use opacity::verdict::Scanned;
@@ -25,6 +26,14 @@ fn say_counts(counts: Counts) {
     say_number(b"events ", counts.events);
     say_number(b" transactions ", counts.transactions);
     say_number(b" reads ", counts.reads);
+    say(b"\n");
+}
+
+fn say_tally(tally: Tally) {
+    say_number(b"committed ", tally.committed);
+    say_number(b" aborted ", tally.aborted);
+    say_number(b" pending ", tally.pending);
+    say_number(b" live ", tally.live);
     say(b"\n");
 }
 
@@ -86,10 +95,12 @@ fn say_report(report: Report) {
     match report {
         Report::Judged {
             counts,
+            tally,
             marking,
             opacity,
         } => {
             say_counts(counts);
+            say_tally(tally);
             say_marking(marking);
             say_opacity(opacity);
         }

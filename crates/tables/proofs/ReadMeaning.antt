@@ -16,7 +16,7 @@ use Rattle.events.specs.Lists.{_and_, _or_, _implies_}
 use Rattle.events.specs.declared.event.Event.{Event}
 use Rattle.events.specs.Events.{eventAt, isRead}
 use Rattle.opacity.specs.Transactions.{ownWrite, isOwnRead, isStoreRead, ownRight}
-use Rattle.events.proofs.ListLaws.{nor-l, nor-r, clash, below-cases}
+use Rattle.events.proofs.ListLaws.{or-cases, nor-l, nor-r, clash, below-cases}
 use Rattle.tables.specs.Tables.{Tables, slotOf, clashes, empty, goThrough, tablesOf}
 use Rattle.tables.proofs.NextLaws.{required-next, contradictory-next}
 use Rattle.tables.proofs.Meaning.{Fine, Good, plus, tab, tab-suc, lengths, written-holds, required-zero}
@@ -38,11 +38,6 @@ a-clash old v q = go (eqb old 0) refl (eqb old v) refl q
     go true e b f k = absurd (false≢true k)
     go false e true f k = absurd (false≢true k)
     go false e false f k = (eqb-false old 0 e, eqb-false old v f)
-
-or-cases : (a b : Bool) → (a or b) ≡ true → (a ≡ true) ⊎ (b ≡ true)
-unfolding _or_
-or-cases true b q = inl refl
-or-cases false b q = inr q
 
 -- a store read of r by t below n that returns v, as a table holds it
 pub record Wanted (h : List Event) (n t r v : ℕ) : Type 0 where

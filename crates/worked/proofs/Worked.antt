@@ -12,9 +12,10 @@ use Rattle.opacity.specs.Marking.{flat, markingBytes, gapOf, placeOf, marked, o
 use Rattle.opacity.specs.Scan.{cause, scan}
 use Rattle.opacity.specs.Serial.{put, does, eventsOf, run, readsRight, after, runsRight}
 use Rattle.opacity.specs.Counts.{counts}
+use Rattle.counts.specs.Tally.{standing, tally}
 use Rattle.straighten.specs.Straight.{stands, straightPoint, straightened, movedEvents}
 use Rattle.worked.specs.Worked.{right, worked}
 
 pub worked-hold : all right worked ≡ true
-unfolding _and_ _or_ _implies_ any all keep latest every lowest first last range isKnown isBegin isRead isWrite isCall namesRegister asksCommit isCommit isAbort isEnd by has begins ended lastOf pendingCall pendingOf latestOn refusal threadFree due fieldsDue eventQuestions columnQuestions refusedAt readable status allows precedes lastWrite ownWrite isOwnRead isStoreRead storeReads ownRight placed before outcome written contents distinct isOrder outcomeKept preceded legalOver realTimeKept fits lowestPlace goOn lowestOf flat markingBytes gapOf placeOf marked others between noWriterBetween valueAtGap lastEvent beginOf broke verdict cause scan put does eventsOf run readsRight after runsRight counts stands straightPoint straightened movedEvents right worked
+unfolding _and_ _or_ _implies_ any all keep latest every lowest first last range isKnown isBegin isRead isWrite isCall namesRegister asksCommit isCommit isAbort isEnd by has begins ended lastOf pendingCall pendingOf latestOn refusal threadFree due fieldsDue eventQuestions columnQuestions refusedAt readable status allows precedes lastWrite ownWrite isOwnRead isStoreRead storeReads ownRight placed before outcome written contents distinct isOrder outcomeKept preceded legalOver realTimeKept fits lowestPlace goOn lowestOf flat markingBytes gapOf placeOf marked others between noWriterBetween valueAtGap lastEvent beginOf broke verdict cause scan put does eventsOf run readsRight after runsRight counts standing tally stands straightPoint straightened movedEvents right worked
 worked-hold = refl

@@ -1,5 +1,5 @@
 -- The worked histories: the starred ones of the paper ("Histories to try"), some that catch what those do not, markings with their points
--- straightened, and seven of the source document 001, as one list with what the definitions must say of each.
+-- straightened, tallies, and seven of the source document 001, as one list with what the definitions must say of each.
 -- Assumes nothing.
 use Prim.Native.Nat.{ℕ}
 use mathlib.Core.Bool.{Bool, true, false}
@@ -23,6 +23,7 @@ use Rattle.opacity.specs.Marking.{Point, Marking, marked, markingBytes, verdict
 use Rattle.opacity.specs.Scan.{scan, scannedNumbers}
 use Rattle.opacity.specs.Serial.{runsRight}
 use Rattle.opacity.specs.Counts.{counts}
+use Rattle.counts.specs.Tally.{tally}
 use Rattle.straighten.specs.Straight.{straightened, movedEvents}
 
 -- ---- histories
@@ -47,6 +48,10 @@ read t r v = event 17 t r 0 ∷ event 18 t r v ∷ []
 write : ℕ → ℕ → ℕ → List Event
 unfolding event
 write t r v = event 19 t r v ∷ event 20 t 0 0 ∷ []
+
+callRead : ℕ → ℕ → List Event
+unfolding event
+callRead t r = event 17 t r 0 ∷ []
 
 callCommit : ℕ → List Event
 unfolding event
@@ -107,7 +112,7 @@ two J a b = marking J (point 5 a ∷ point 9 b ∷ [])
 
 -- ---- what is said of a history: the scan's answer; its lowest marking, and that marking's file; the verdict on a marking; a marking with its
 -- points straightened, the events moved, and the verdict then; whether an order run one at a time gives every read its value; the counts of
--- the report
+-- the report; its tally
 
 pub data Claim : Type 0 where
   scanned : Scanned → Claim
@@ -117,6 +122,7 @@ pub data Claim : Type 0 where
   straight : Marking → Marking → List ℕ → Verdict → Claim
   runs : List Place → Bool → Claim
   counted : ℕ → ℕ → ℕ → Claim
+  tallied : ℕ → ℕ → ℕ → ℕ → Claim
 
 -- answers as lists of numbers, to compare them
 placeNumbers : List Place → List ℕ
@@ -163,6 +169,7 @@ holds h (straight m n moved v) =
     and equal (verdictNumbers (verdict zeros h (straightened zeros h m))) (verdictNumbers v)
 holds h (runs J b) = eqb (outcomeNumber (runsRight zeros h J)) (outcomeNumber b)
 holds h (counted e t r) = equal (counts h .events ∷ counts h .transactions ∷ counts h .reads ∷ []) (e ∷ t ∷ r ∷ [])
+holds h (tallied c a p l) = equal (tally h .committed ∷ tally h .aborted ∷ tally h .pending ∷ tally h .live ∷ []) (c ∷ a ∷ p ∷ l ∷ [])
 
 pub record Case : Type 0 where
   pub history : List Event
@@ -267,6 +274,25 @@ straightenings =
     ∷ says readerWrites (straight (marking (place 0 true ∷ []) (point 2 1 ∷ [])) (marking (place 0 true ∷ []) (point 2 1 ∷ [])) [] Accepted)
     ∷ []
 
+-- tallies: committed, aborted, pending, live
+tallies : List Case
+unfolding says h0 event begin beginOn read write callRead callCommit commit abort then pendingPair
+tallies =
+    says [] (tallied 0 0 0 0)
+    -- H0: T0 is committed and T1 live
+    ∷ says (h0 0) (tallied 1 0 0 1)
+    -- T0's commit is called and unanswered; then T0 is aborted; or committed
+    ∷ says (pendingPair []) (tallied 0 0 1 1)
+    ∷ says (pendingPair (abort 0)) (tallied 0 1 0 1)
+    ∷ says (pendingPair (event 22 0 0 0 ∷ [])) (tallied 1 0 0 1)
+    -- T0 commits, T1 is aborted at its commit, T2 at a read, T3 by itself; T4's commit and T5's read are called and unanswered; T6 only begins
+    ∷ says
+    (then
+    (begin 0 ∷ begin 1 ∷ begin 2 ∷ begin 3 ∷ begin 4 ∷ begin 5 ∷ begin 6 ∷ commit 0 ∷ callCommit 1 ∷ callRead 2 0 ∷ callCommit 4 ∷ callRead 5 0
+    ∷ abort 1 ∷ abort 2 ∷ abort 3 ∷ []))
+    (tallied 1 3 1 2)
+    ∷ []
+
 -- worked examples of document 001, named by their place there; x is register 0. Transactions are numbered by their begins, on the threads
 -- that the document gives them.
 printed : List Case
@@ -300,5 +326,5 @@ printed =
     ∷ []
 
 unfoldable pub worked : List Case
-unfolding starred further straightenings printed
-worked = starred ++ (further ++ (straightenings ++ printed))
+unfolding starred further straightenings tallies printed
+worked = starred ++ (further ++ (straightenings ++ (tallies ++ printed)))
