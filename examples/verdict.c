@@ -3,6 +3,7 @@
  * empty), and prints
  *
  *     events 10 transactions 2 reads 2
+ *     committed 1 aborted 0 pending 0 live 1
  *     marking accepted
  *     opaque yes
  *
@@ -57,6 +58,12 @@ static void save(const char *path, const uint8_t *bytes, size_t length)
         fprintf(stderr, "%s cannot be written\n", path);
         exit(2);
     }
+}
+
+static void print_tally(uint64_t answer)
+{
+    printf("committed %" PRIu32 " aborted %" PRIu32 " pending %" PRIu32 " live %" PRIu32 "\n", sendoshi_tally_committed(answer),
+           sendoshi_tally_aborted(answer), sendoshi_tally_pending(answer), sendoshi_tally_live(answer));
 }
 
 static void print_marking(uint64_t answer)
@@ -114,6 +121,7 @@ int main(int argc, char **argv)
     size_t count = sendoshi_place(read);
     printf("events %zu transactions %" PRIu32 " reads %" PRIu32 "\n", count, sendoshi_place(sendoshi_transactions(COLUMNS, count)),
            sendoshi_place(sendoshi_store_reads(COLUMNS, count)));
+    print_tally(sendoshi_tally(COLUMNS, count));
     print_marking(sendoshi_check(COLUMNS, count, marking, marking_length));
     print_opaque(sendoshi_scan(COLUMNS, count));
     if (argc == 3) {

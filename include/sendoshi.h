@@ -59,7 +59,8 @@ enum {
  *
  *   code        meaning                         place
  *   0           done                            the event count (read), the length (write, find), the number counted
- *                                               (transactions, store_reads), the number moved * 65536 + the length
+ *                                               (transactions, store_reads), committed * 2^24 + aborted * 2^16 +
+ *                                               pending * 2^8 + live (tally), the number moved * 65536 + the length
  *                                               (straighten), or 0 (scan: opaque; check: accepted)
  *   1 to 99     refused by this question        the byte or the event, see below
  *   100         find: there is no               0
@@ -164,6 +165,30 @@ static inline uint32_t sendoshi_straight_moved(uint64_t answer)
     return sendoshi_place(answer) >> 16;
 }
 
+/* The number of transactions of a tally that have committed. */
+static inline uint32_t sendoshi_tally_committed(uint64_t answer)
+{
+    return sendoshi_place(answer) >> 24;
+}
+
+/* The number of transactions of a tally that were aborted. */
+static inline uint32_t sendoshi_tally_aborted(uint64_t answer)
+{
+    return (sendoshi_place(answer) >> 16) & 0xffu;
+}
+
+/* The number of transactions of a tally whose commit was called and is unanswered. */
+static inline uint32_t sendoshi_tally_pending(uint64_t answer)
+{
+    return (sendoshi_place(answer) >> 8) & 0xffu;
+}
+
+/* The number of the other transactions of a tally that have not ended. */
+static inline uint32_t sendoshi_tally_live(uint64_t answer)
+{
+    return sendoshi_place(answer) & 0xffu;
+}
+
 /*
  * Reads a history file into columns. Done: the event count; that many entries of each column are set.
  * Refuses: 1, 2, 3; 2, 4 to 13 for each record in turn; 14.
@@ -257,6 +282,18 @@ uint64_t sendoshi_store_reads(const uint16_t *kinds, size_t kinds_length,
                               const uint16_t *registers, size_t registers_length,
                               const uint32_t *values, size_t values_length,
                               size_t count);
+
+/*
+ * Tallies the transactions begun in the first `count` events: those that committed; those that were aborted, also after they called
+ * commit; those that called commit and have no answer yet; and the others that have not ended. Done: the four numbers, each at most 64,
+ * which add up to what sendoshi_transactions counts.
+ * Refuses: 17; 4, 6 to 13 and 16 for each event in turn.
+ */
+uint64_t sendoshi_tally(const uint16_t *kinds, size_t kinds_length,
+                        const uint16_t *transactions, size_t transactions_length,
+                        const uint16_t *registers, size_t registers_length,
+                        const uint32_t *values, size_t values_length,
+                        size_t count);
 
 #ifdef __cplusplus
 }

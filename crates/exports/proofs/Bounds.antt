@@ -1,15 +1,16 @@
--- What the answers of scan, checker and straightening hold, for every columns, count, file and lent buffer: a cause is 1 to 4, the event and
--- the transaction of a broken rule are those of a readable history, and the length of a straightened marking and the number moved are those
--- of one whose store reads are at most 2,048.
+-- What the answers of scan, checker, straightening and tally hold, for every columns, count, file and lent buffer: a cause is 1 to 4, the
+-- event and the transaction of a broken rule are those of a readable history, the length of a straightened marking and the number moved
+-- are those of one whose store reads are at most 2,048, and each number of a tally is at most 64.
 -- Assumes nothing.
 use mathlib.Core.Path.{_≡_, refl, sym, ap, _∙_}
 use Prim.Native.Nat.{ℕ, _≤_, _<_}
 use native.Mathlib.Omega.{arith}
 use mathlib.Core.Bool.{Bool, true, false, cond}
 use mathlib.Core.List.{List}
+use lib.ListN.{length}
 use Rattle.events.specs.declared.event.Event.{Event}
 use Rattle.events.specs.declared.columns.Checked.{Checked}
-use Rattle.events.specs.Events.{isRead, isCommit, isAbort}
+use Rattle.events.specs.Events.{isRead, isCommit, isAbort, begins}
 use Rattle.events.specs.Columns.{Columns, history}
 use Rattle.events.specs.Questions.{readable, columnsAnswer}
 use Rattle.events.proofs.ReadableLaws.{columns-readable, readable-most}
@@ -31,12 +32,20 @@ use Rattle.marking.specs.declared.check.Judged.{Judged}
 use Rattle.marking.specs.File.{known, FileRead, content, refused, fileRead}
 use Rattle.marking.specs.Answer.{ruled, afterColumns, answerFrom, verdictAnswer}
 use Rattle.marking.proofs.ContentLaws.{content-readable}
+use Rattle.opacity.specs.Transactions.{Status, committed, aborted, pending, live, status}
+use Rattle.links.specs.Tables.{standingOf}
+use Rattle.counts.specs.declared.Tallying.{Tallying}
+use Rattle.counts.specs.declared.tally.Tally.{Tally}
+use Rattle.counts.specs.Tally.{standing, tally}
+use Rattle.counts.specs.Answer.{tallyAnswer}
+use Rattle.counts.proofs.HowMany.{how-many-low}
 use Rattle.straighten.specs.declared.Straightening.{Straightening}
 use Rattle.straighten.specs.Straight.{straightened}
 use Rattle.straighten.specs.Answer.{Given, gives, straightenedAnswer}
 use Rattle.straighten.proofs.StraightLaws.{straight-length, moved-few}
 use Rattle.straighten.proofs.AnswerLaws.{told}
-use Rattle.exports.specs.Codes.{Cause, Named, Halves, ScanKnown, CheckKnown, StraightenKnown}
+use Rattle.exports.specs.Codes.{Cause, Named, Halves, Bytes, ScanKnown, CheckKnown, StraightenKnown, TallyKnown}
+use Rattle.exports.proofs.Refusals.{tally-readable}
 
 -- ---- the scan
 
@@ -129,3 +138,28 @@ module _ (c : Columns) (count : ℕ) (file output list : List ℕ) where
   straighten-known a o l x =
       let r : a ≡ straightenedAnswer c count file output list .result = ap (λ (g : Given). g .result) x in
       record { straight = λ n k b. straightened-halves n k (sym r ∙ b); broken = λ q e t b. straighten-named q e t (sym r ∙ b) }
+
+-- ---- the tally
+
+-- no more transactions stand so than begin
+pub standing-few : (h : List Event) → readable h ≡ true → (s : Status) → length (standing s h) ≤ 64
+unfolding standing
+standing-few h r s = omega (arith, how-many-low (standingOf s) (λ t. standingOf (status h t)) (begins h), at-most-64 h r)
+
+tally-bytes : (h : List Event) → readable h ≡ true → Bytes (tally h)
+unfolding tally
+tally-bytes h r =
+    record {
+      committed = omega (arith, standing-few h r committed);
+      aborted = omega (arith, standing-few h r aborted);
+      pending = omega (arith, standing-few h r pending);
+      live = omega (arith, standing-few h r live);
+    }
+
+pub tallied-bytes : (c : Columns) (count : ℕ) (x : Tally) → tallyAnswer c count ≡ Tallying.Tallied x → Bytes x
+tallied-bytes c count x w =
+    let d = tally-readable c count x w in
+    rw (d .1) at (tally-bytes (history c count) (columns-readable c count (d .0) .1))
+
+pub tally-known : (c : Columns) (count : ℕ) (a : Tallying) → a ≡ tallyAnswer c count → TallyKnown a
+tally-known c count a q x w = tallied-bytes c count x (sym q ∙ w)

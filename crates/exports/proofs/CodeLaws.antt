@@ -7,7 +7,8 @@ use native.Mathlib.Nat.{min-le-right, min-eq-left, min-eq-right, le-of-lt}
 use native.Mathlib.Omega.{arith}
 use Rattle.opacity.specs.declared.verdict.Rule.{Rule}
 use Rattle.opacity.specs.Marking.{ruleNumber}
-use Rattle.exports.specs.Codes.{most, packed, halves, brokenPlace, brokenCode, Named, Halves, codeOf, placeOf, upperOf, lowerOf, eventOf, transactionOf}
+use Rattle.counts.specs.declared.tally.Tally.{Tally}
+use Rattle.exports.specs.Codes.{most, packed, halves, pair, brokenPlace, brokenCode, tallyPlace, Named, Halves, Bytes, codeOf, placeOf, upperOf, lowerOf, eventOf, transactionOf, committedOf, abortedOf, pendingOf, liveOf}
 
 module _ (code place : ℕ) where
   pub code-back : codeOf (packed code place) ≡ code
@@ -44,6 +45,32 @@ module _ (code high low : ℕ) (b : Halves high low) where
   pub lower-back : lowerOf (packed code (halves high low)) ≡ low
   unfolding halves
   lower-back = ap (λ (x : ℕ). x % 65536) its-place ∙ omega (arith, b .lower)
+
+-- the four numbers of a tally stand in one place,
+tally-halves : (x : Tally) → Bytes x → Halves (pair (x .committed) (x .aborted)) (pair (x .pending) (x .live))
+unfolding pair
+tally-halves x b = record { upper = omega arith; lower = omega arith }
+
+-- which gives all of them back
+module _ (code : ℕ) (x : Tally) (b : Bytes x) where
+  tally-place : placeOf (packed code (tallyPlace x)) ≡ tallyPlace x
+  tally-place = its-place code _ _ (tally-halves x b)
+
+  pub committed-back : committedOf (packed code (tallyPlace x)) ≡ x .committed
+  unfolding halves pair
+  committed-back = rw tally-place (omega arith)
+
+  pub aborted-back : abortedOf (packed code (tallyPlace x)) ≡ x .aborted
+  unfolding halves pair
+  aborted-back = rw tally-place (omega arith)
+
+  pub pending-back : pendingOf (packed code (tallyPlace x)) ≡ x .pending
+  unfolding halves pair
+  pending-back = rw tally-place (omega arith)
+
+  pub live-back : liveOf (packed code (tallyPlace x)) ≡ x .live
+  unfolding halves pair
+  live-back = rw tally-place (omega arith)
 
 pub named-halves : (e t : ℕ) → Named e t → Halves e t
 named-halves e t n = record { upper = omega (arith, n .event); lower = omega (arith, n .transaction) }

@@ -1,6 +1,6 @@
 -- Each answer comes back out of its number: a refusal whose question is below 100, and a place of at most 2^32 − 1.
 -- Assumes nothing.
-use mathlib.Core.Path.{_≡_, refl}
+use mathlib.Core.Path.{_≡_, refl, ap}
 use mathlib.Core.Logic.{⊎-elim}
 use Prim.Native.Nat.{ℕ, _+_, _-_, _≤_}
 use native.Mathlib.Omega.{arith}
@@ -17,11 +17,13 @@ use Rattle.opacity.specs.Marking.{ruleNumber}
 use Rattle.scan.specs.declared.Judgement.{Judgement}
 use Rattle.marking.specs.declared.check.Judged.{Judged}
 use Rattle.counts.specs.declared.Counting.{Counting}
+use Rattle.counts.specs.declared.Tallying.{Tallying}
+use Rattle.counts.specs.declared.tally.Tally.{Tally}
 use Rattle.straighten.specs.declared.Straightening.{Straightening}
-use Rattle.exports.specs.Codes.{most, packed, brokenCode, straightPlace, Cause, Named, Halves, codeOf, placeOf, eventOf, transactionOf}
-use Rattle.exports.specs.Decoded.{readingOf, writingOf, foundOf, judgementOf, ruleOf, byCode, judgedOf, straighteningOf, countingOf}
+use Rattle.exports.specs.Codes.{most, packed, brokenCode, straightPlace, tallyPlace, Cause, Named, Halves, Bytes, codeOf, placeOf, eventOf, transactionOf}
+use Rattle.exports.specs.Decoded.{readingOf, writingOf, foundOf, judgementOf, ruleOf, byCode, judgedOf, straighteningOf, countingOf, tallyOf, tallyingOf}
 use Rattle.exports.specs.Classes.{Class, classOf}
-use Rattle.exports.proofs.CodeLaws.{code-back, place-back, upper-back, lower-back, rule-told, event-told, transaction-told}
+use Rattle.exports.proofs.CodeLaws.{code-back, place-back, upper-back, lower-back, committed-back, aborted-back, pending-back, live-back, rule-told, event-told, transaction-told}
 use Rattle.exports.proofs.Numbers.{Within}
 use Rattle.exports.proofs.Files.{MarkingNumber}
 
@@ -62,6 +64,14 @@ accepted-back = rw (code-back 0 0)
 pub straightened-back : (n k : ℕ) → Halves k n → straighteningOf (packed 0 (straightPlace n k)) ≡ Straightening.Straightened n k
 unfolding straighteningOf byCode
 straightened-back n k b = rw (code-back 0 (straightPlace n k), upper-back 0 k n b, lower-back 0 k n b)
+
+module _ (x : Tally) (b : Bytes x) where
+  pub tally-told : tallyOf (packed 0 (tallyPlace x)) ≡ x
+  tally-told = rw (committed-back 0 x b, aborted-back 0 x b, pending-back 0 x b, live-back 0 x b)
+
+  pub tallied-back : tallyingOf (packed 0 (tallyPlace x)) ≡ Tallying.Tallied x
+  unfolding tallyingOf
+  tallied-back = rw (code-back 0 (tallyPlace x)) (ap Tallying.Tallied tally-told)
 
 -- ---- an answer about a marking, by its code
 
@@ -126,6 +136,10 @@ module _ {q e : ℕ} (w : Within 1 99 q) (l : e ≤ most) where
   pub uncounted-back : countingOf (packed q e) ≡ Counting.Refused q e
   unfolding countingOf
   uncounted-back = rw (code-back q e, at, not-done)
+
+  pub untallied-back : tallyingOf (packed q e) ≡ Tallying.Refused q e
+  unfolding tallyingOf
+  untallied-back = rw (code-back q e, at, not-done)
 
   pub unjudged-back : judgementOf (packed q e) ≡ Judgement.Refused q e
   unfolding judgementOf

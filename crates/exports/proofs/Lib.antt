@@ -1,8 +1,11 @@
 -- What the proofs of several functions use, and the theorems about the calls.
-pub mod Bounds
 pub mod CodeLaws
 pub mod Numbers
 pub mod Files
 pub mod Decode
 pub mod Refusals
+pub mod Bounds
 pub mod Theorems
+pub mod ClassTheorems
+pub mod BufferTheorems
+pub mod PlaceTheorems

@@ -40,7 +40,11 @@ use Rattle.marking.specs.File.{known, FileRead, content, refused, fileRead}
 use Rattle.marking.specs.Answer.{ruled, afterColumns, answerFrom, verdictAnswer}
 use Rattle.marking.proofs.Theorems.{history-refused}
 use Rattle.counts.specs.declared.Counting.{Counting}
-use Rattle.counts.specs.Answer.{counted}
+use Rattle.counts.specs.declared.Tallying.{Tallying}
+use Rattle.counts.specs.declared.tally.Tally.{Tally}
+use Rattle.counts.specs.Tally.{tally}
+use Rattle.counts.specs.Answer.{counted, tallied, tallyAnswer}
+use Rattle.counts.proofs.AnswerLaws.{counted-readable, tallied-readable}
 use Rattle.straighten.specs.declared.Straightening.{Straightening}
 use Rattle.straighten.specs.Answer.{straightenedAnswer}
 use Rattle.straighten.proofs.AnswerLaws.{told}
@@ -186,19 +190,41 @@ unfolding straightenedAnswer
 straighten-marking c count file output list q b x =
     marking-number (known (history c count)) file q b (told zeros c count file output list (Straightening.MarkingRefused q b) x .0 .1)
 
+-- ---- the counts and the tally: each answer says what the questions to the columns came to
+
+abbrev askedByCount : Counting → Checked
+askedByCount (Counting.Counted n) = Checked.Readable
+askedByCount (Counting.Refused q e) = Checked.Refused q e
+
+count-asks : (y : Checked) (n : ℕ) {a : Counting} → counted y n ≡ a → y ≡ askedByCount a
+count-asks Checked.Readable n w = ap askedByCount w
+count-asks (Checked.Refused q e) n w = ap askedByCount w
+
+abbrev askedByTally : Tallying → Checked
+askedByTally (Tallying.Tallied x) = Checked.Readable
+askedByTally (Tallying.Refused q e) = Checked.Refused q e
+
+tally-asks : (y : Checked) (x : Tally) {a : Tallying} → tallied y x ≡ a → y ≡ askedByTally a
+tally-asks Checked.Readable x w = ap askedByTally w
+tally-asks (Checked.Refused q e) x w = ap askedByTally w
+
 pub count-refusal : (c : Columns) (count n q e : ℕ) → counted (columnsAnswer c count) n ≡ Counting.Refused q e → Refusal 4 17 count q e
-count-refusal c count n q e x = go (columnsAnswer c count) refl x
-  where
-    go : (y : Checked) → columnsAnswer c count ≡ y → counted y n ≡ Counting.Refused q e → Refusal 4 17 count q e
-    go Checked.Readable w k = let z : _≡_ {A = ℕ} 0 1 = cc in absurd (omega arith)
-    go (Checked.Refused p i) w k =
-        let a : p ≡ q = cc in
-        let b : i ≡ e = cc in
-        columns-number c count q e (w ∙ ap₂ (λ (x y : ℕ). Checked.Refused x y) a b)
+count-refusal c count n q e w = columns-number c count q e (count-asks (columnsAnswer c count) n w)
 
 pub count-readable : (c : Columns) (count n m : ℕ) → counted (columnsAnswer c count) n ≡ Counting.Counted m → (readable (history c count) ≡ true) × (n ≡ m)
-count-readable c count n m x = go (columnsAnswer c count) refl x
-  where
-    go : (y : Checked) → columnsAnswer c count ≡ y → counted y n ≡ Counting.Counted m → (readable (history c count) ≡ true) × (n ≡ m)
-    go Checked.Readable w k = let e : n ≡ m = cc in (columns-readable c count w .1, e)
-    go (Checked.Refused p i) w k = let z : _≡_ {A = ℕ} 0 1 = cc in absurd (omega arith)
+count-readable c count n m w =
+    let fine : columnsAnswer c count ≡ Checked.Readable = count-asks (columnsAnswer c count) n w in
+    let same : Counting.Counted n ≡ Counting.Counted m = counted-readable n fine ∙ w in
+    (columns-readable c count fine .1, cc)
+
+pub tally-refusal : (c : Columns) (count q e : ℕ) → tallyAnswer c count ≡ Tallying.Refused q e → Refusal 4 17 count q e
+unfolding tallyAnswer
+tally-refusal c count q e w = columns-number c count q e (tally-asks (columnsAnswer c count) (tally (history c count)) w)
+
+pub tally-readable : (c : Columns) (count : ℕ) (x : Tally) → tallyAnswer c count ≡ Tallying.Tallied x
+    → (columnsAnswer c count ≡ Checked.Readable) × (tally (history c count) ≡ x)
+unfolding tallyAnswer
+tally-readable c count x w =
+    let fine : columnsAnswer c count ≡ Checked.Readable = tally-asks (columnsAnswer c count) (tally (history c count)) w in
+    let same : Tallying.Tallied (tally (history c count)) ≡ Tallying.Tallied x = tallied-readable (tally (history c count)) fine ∙ w in
+    (fine, cc)

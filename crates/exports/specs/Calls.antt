@@ -8,9 +8,9 @@ use Rattle.writer.specs.Writing.{WrittenAnswer, writtenAnswer}
 use Rattle.finder.specs.Answer.{Given, foundAnswer}
 use Rattle.scan.specs.Answer.{scanAnswer}
 use Rattle.marking.specs.Answer.{verdictAnswer}
-use Rattle.counts.specs.Answer.{transactionsAnswer, storeReadsAnswer}
+use Rattle.counts.specs.Answer.{transactionsAnswer, storeReadsAnswer, tallyAnswer}
 use Rattle.straighten.specs.Answer.{Given as Straight, straightenedAnswer}
-use Rattle.exports.specs.Codes.{readCode, writtenCode, foundCode, scanCode, checkCode, countCode, straightenCode}
+use Rattle.exports.specs.Codes.{readCode, writtenCode, foundCode, scanCode, checkCode, countCode, straightenCode, tallyCode}
 
 -- A call that is lent columns to fill, one that is lent an output, and one that is lent an output and a list.
 pub record FilledColumns : Type 0 where
@@ -70,3 +70,6 @@ transactionsCall c count = countCode (transactionsAnswer c count)
 
 unfoldable pub storeReadsCall : Columns → ℕ → ℕ
 storeReadsCall c count = countCode (storeReadsAnswer c count)
+
+unfoldable pub tallyCall : Columns → ℕ → ℕ
+tallyCall c count = tallyCode (tallyAnswer c count)

@@ -11,6 +11,7 @@ use Rattle.opacity.specs.declared.verdict.Scanned.{Scanned}
 use Rattle.scan.specs.declared.Judgement.{Judgement}
 use Rattle.marking.specs.declared.check.Judged.{Judged}
 use Rattle.counts.specs.declared.Counting.{Counting}
+use Rattle.counts.specs.declared.Tallying.{Tallying}
 use Rattle.straighten.specs.declared.Straightening.{Straightening}
 
 pub data Class : Type 0 where
@@ -65,3 +66,7 @@ straightenClass (Straightening.MarkingRefused q byte) = refused
 abbrev pub countClass : Counting → Class
 countClass (Counting.Counted n) = done
 countClass (Counting.Refused q e) = refused
+
+abbrev pub tallyClass : Tallying → Class
+tallyClass (Tallying.Tallied x) = done
+tallyClass (Tallying.Refused q e) = refused

@@ -15,6 +15,8 @@ use Rattle.opacity.specs.Marking.{ruleNumber}
 use Rattle.scan.specs.declared.Judgement.{Judgement}
 use Rattle.marking.specs.declared.check.Judged.{Judged}
 use Rattle.counts.specs.declared.Counting.{Counting}
+use Rattle.counts.specs.declared.Tallying.{Tallying}
+use Rattle.counts.specs.declared.tally.Tally.{Tally}
 use Rattle.counts.specs.Answer.{number as countNumber, value as countValue}
 use Rattle.straighten.specs.declared.Straightening.{Straightening}
 
@@ -29,6 +31,10 @@ packed code place = code * 4294967296 + min place most
 -- a place that holds two numbers: event and transaction of a broken rule, number moved and length of a straightened marking
 unfoldable pub halves : ℕ → ℕ → ℕ
 halves high low = high * 65536 + low
+
+-- a half of a place that holds two numbers itself
+unfoldable pub pair : ℕ → ℕ → ℕ
+pair high low = high * 256 + low
 
 -- of the answers with one number and one value: the event count or the byte, the length or the event
 unfoldable pub readCode : Reading → ℕ
@@ -83,6 +89,15 @@ straightenCode (Straightening.MarkingRefused q byte) = packed q byte
 unfoldable pub countCode : Counting → ℕ
 countCode r = packed (countNumber r) (countValue r)
 
+-- the place of a tally, a byte for each number: committed × 2^24 + aborted × 2^16 + pending × 2^8 + live
+abbrev pub tallyPlace : Tally → ℕ
+tallyPlace x = halves (pair (x .committed) (x .aborted)) (pair (x .pending) (x .live))
+
+-- the tally, or the event
+unfoldable pub tallyCode : Tallying → ℕ
+tallyCode (Tallying.Tallied x) = packed 0 (tallyPlace x)
+tallyCode (Tallying.Refused q e) = packed q e
+
 -- ---- what is known of an answer before it is told
 
 -- a cause is 1 to 4
@@ -117,6 +132,21 @@ pub record StraightenKnown (a : Straightening) : Type 0 where
   pub straight : (n k : ℕ) → a ≡ Straightening.Straightened n k → Halves k n
   pub broken : (r : Rule) (e t : ℕ) → a ≡ Straightening.Broken r e t → Named e t
 
+-- two numbers that one half of a place holds
+pub record Pair (high low : ℕ) : Type 0 where
+  pub upper : high < 256
+  pub lower : low < 256
+
+-- each number of a tally stands in a byte
+pub record Bytes (x : Tally) : Type 0 where
+  pub committed : x .committed < 256
+  pub aborted : x .aborted < 256
+  pub pending : x .pending < 256
+  pub live : x .live < 256
+
+abbrev pub TallyKnown : Tallying → Type 0
+TallyKnown a = (x : Tally) → a ≡ Tallying.Tallied x → Bytes x
+
 -- ---- from a number back to what it tells, as a caller does it (include/sendoshi.h)
 
 abbrev pub codeOf : ℕ → ℕ
@@ -145,3 +175,16 @@ movedOf n = upperOf n
 
 abbrev pub lengthOf : ℕ → ℕ
 lengthOf n = lowerOf n
+
+-- of a tally's number
+abbrev pub committedOf : ℕ → ℕ
+committedOf n = placeOf n / 16777216
+
+abbrev pub abortedOf : ℕ → ℕ
+abortedOf n = placeOf n / 65536 % 256
+
+abbrev pub pendingOf : ℕ → ℕ
+pendingOf n = placeOf n / 256 % 256
+
+abbrev pub liveOf : ℕ → ℕ
+liveOf n = placeOf n % 256

@@ -12,8 +12,10 @@ use Rattle.opacity.specs.declared.verdict.Scanned.{Scanned}
 use Rattle.scan.specs.declared.Judgement.{Judgement}
 use Rattle.marking.specs.declared.check.Judged.{Judged}
 use Rattle.counts.specs.declared.Counting.{Counting}
+use Rattle.counts.specs.declared.Tallying.{Tallying}
+use Rattle.counts.specs.declared.tally.Tally.{Tally}
 use Rattle.straighten.specs.declared.Straightening.{Straightening}
-use Rattle.exports.specs.Codes.{codeOf, placeOf, eventOf, transactionOf, lengthOf, movedOf}
+use Rattle.exports.specs.Codes.{codeOf, placeOf, eventOf, transactionOf, lengthOf, movedOf, committedOf, abortedOf, pendingOf, liveOf}
 
 unfoldable pub readingOf : ℕ → Reading
 readingOf n = cond (eqb (codeOf n) 0) (Reading.Read (placeOf n)) (Reading.Refused (codeOf n) (placeOf n))
@@ -71,3 +73,9 @@ straighteningOf n =
 
 unfoldable pub countingOf : ℕ → Counting
 countingOf n = cond (eqb (codeOf n) 0) (Counting.Counted (placeOf n)) (Counting.Refused (codeOf n) (placeOf n))
+
+abbrev pub tallyOf : ℕ → Tally
+tallyOf n = record { committed = committedOf n; aborted = abortedOf n; pending = pendingOf n; live = liveOf n }
+
+unfoldable pub tallyingOf : ℕ → Tallying
+tallyingOf n = cond (eqb (codeOf n) 0) (Tallying.Tallied (tallyOf n)) (Tallying.Refused (codeOf n) (placeOf n))

@@ -1,13 +1,16 @@
 // Every answer as one number, code × 2^32 + place. A place of 2^32 or more is told as 2^32 − 1, so
 // that it never spills into the code. Each function gives the number that specs/Codes gives for its
 // answer. Required: a cause is 1 to 4, a broken rule names an event below 2,048 and a transaction
-// below 64, and a straightened marking has a length and a number moved below 65,536; proofs/Bounds
-// shows that of every answer of scan, checker and straightening.
+// below 64, a straightened marking has a length and a number moved below 65,536, and each number of a
+// tally is below 256; proofs/Bounds shows that of every answer of scan, checker, straightening and
+// tally.
 ghost use mathlib.Core.Path.{_≡_};
 ghost use Prim.Native.Nat.{_+_, min};
 ghost use Rattle.opacity.specs.Marking.{ruleNumber};
-ghost use Rattle.exports.specs.Codes.{most, packed, halves, readCode, writtenCode, foundCode, scannedCode, scanCode, brokenCode, verdictCode, checkCode, countCode, straightenCode, CauseKnown, Named, NamesKnown, ScanKnown, CheckKnown, Halves, StraightenKnown};
+ghost use Rattle.exports.specs.Codes.{most, packed, halves, pair, tallyPlace, readCode, writtenCode, foundCode, scannedCode, scanCode, brokenCode, verdictCode, checkCode, countCode, straightenCode, tallyCode, CauseKnown, Named, NamesKnown, ScanKnown, CheckKnown, Halves, StraightenKnown, Pair, Bytes, TallyKnown};
 use counts::Counting;
+use counts::Tallying;
+use counts::tally::Tally;
 use finder::Found;
 use marking::check::Judged;
 use opacity::verdict::Rule;
@@ -48,6 +51,14 @@ fn join(high: usize, low: usize) -> usize
     ensures { λ r. ⌜ r ≡ halves high low ⌝ }
 {
     high * 65536 + low
+}
+
+// Two numbers as one half of a place.
+fn half(high: usize, low: usize) -> usize
+    requires { ⌜ Pair high low ⌝ }
+    ensures { λ r. ⌜ r ≡ pair high low ⌝ }
+{
+    high * 256 + low
 }
 
 // The rules' codes.
@@ -175,5 +186,27 @@ pub fn count_code(answer: Counting) -> u64
     match answer {
         Counting::Counted(number) => pack(0, number),
         Counting::Refused { question, event } => pack(question as u32, event),
+    }
+}
+
+// The four numbers of a tally as one place.
+fn tally_place(tally: Tally) -> usize
+    requires { ⌜ Bytes tally ⌝ }
+    ensures { λ r. ⌜ r ≡ tallyPlace tally ⌝ }
+{
+    join(
+        half(tally.committed, tally.aborted),
+        half(tally.pending, tally.live),
+    )
+}
+
+// The answer of the tally.
+pub fn tally_code(answer: Tallying) -> u64
+    requires { ⌜ TallyKnown answer ⌝ }
+    ensures { λ r. ⌜ r ≡ tallyCode answer ⌝ }
+{
+    match answer {
+        Tallying::Tallied(tally) => pack(0, tally_place(tally)),
+        Tallying::Refused { question, event } => pack(question as u32, event),
     }
 }

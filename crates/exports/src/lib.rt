@@ -5,7 +5,7 @@
 // length, and nothing else refers to what is written.
 ghost use mathlib.Core.Path.{_≡_};
 ghost use Rattle.events.specs.Columns.{columns};
-ghost use Rattle.exports.specs.Calls.{filled, put, putBoth, readCall, writeCall, findCall, scanCall, checkCall, straightenCall, transactionsCall, storeReadsCall};
+ghost use Rattle.exports.specs.Calls.{filled, put, putBoth, readCall, writeCall, findCall, scanCall, checkCall, straightenCall, transactionsCall, storeReadsCall, tallyCall};
 
 mod codes;
 
@@ -15,6 +15,7 @@ use crate::codes::found_code;
 use crate::codes::read_code;
 use crate::codes::scan_code;
 use crate::codes::straighten_code;
+use crate::codes::tally_code;
 use crate::codes::written_code;
 
 // Reads a history's file into the columns: the event count, or the question and the byte.
@@ -164,4 +165,20 @@ pub extern "C" fn sendoshi_store_reads(
 {
     let answer = counts::count_store_reads(kinds, transactions, registers, values, count);
     count_code(answer)
+}
+
+// How many of the transactions in the first `count` events are committed, aborted, pending and live, or
+// the question and the event.
+#[no_mangle]
+pub extern "C" fn sendoshi_tally(
+    kinds: &[u16],
+    transactions: &[u16],
+    registers: &[u16],
+    values: &[u32],
+    count: usize,
+) -> u64
+    ensures { λ r. ⌜ r ≡ tallyCall (columns (now (kinds .entry)) (now (transactions .entry)) (now (registers .entry)) (now (values .entry))) count ⌝ }
+{
+    let answer = counts::tally_transactions(kinds, transactions, registers, values, count);
+    tally_code(answer)
 }

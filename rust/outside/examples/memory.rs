@@ -49,6 +49,7 @@ fn all_calls(events: &[Event], file: &[u8], marking: &[u8]) {
     assert_eq!(plain(calls::check(exact.view(), count, &marking)), entries::check(&columns, count, &marking));
     assert_eq!(plain(calls::transactions(exact.view(), count)), entries::transactions(&columns, count));
     assert_eq!(plain(calls::store_reads(exact.view(), count)), entries::store_reads(&columns, count));
+    assert_eq!(plain(calls::tally(exact.view(), count)), entries::tally(&columns, count));
     straighten(&columns, count, &marking, store_reads(events).count());
     if is_judged_quickly(events) {
         assert_eq!(plain(calls::scan(exact.view(), count)), entries::scan(&columns, count));

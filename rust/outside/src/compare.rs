@@ -2,9 +2,10 @@
 
 use crate::coverage::{Coverage, Entry};
 use crate::lent::{Lent, LentColumns};
+use crate::tallies;
 use reference::entries::{self, Answer};
-use reference::event::Columns;
-use sendoshi::calls;
+use reference::event::{Columns, Event};
+use sendoshi::{answer, calls};
 
 const BYTE: u8 = 0xa5;
 const EVENT: u32 = 0xc35a_a53c;
@@ -101,4 +102,18 @@ pub fn counts(columns: &Columns, count: usize, coverage: &mut Coverage) -> (Answ
         same(Entry::Transactions, begun, entries::transactions(columns, count), coverage),
         same(Entry::StoreReads, reads, entries::store_reads(columns, count), coverage),
     )
+}
+
+/// Tallies the transactions.
+pub fn tally(columns: &Columns, count: usize, coverage: &mut Coverage) -> Answer {
+    let lent = LentColumns::new(columns);
+    let got = calls::tally(lent.view(), count);
+    assert!(lent.hold(columns), "tally changed its columns");
+    tallies::adds_up(got, calls::transactions(lent.view(), count));
+    let answer = same(Entry::Tally, got, entries::tally(columns, count), coverage);
+    if answer.code == answer::DONE {
+        let history: Vec<Event> = (0..count).map(|at| columns.event(at)).collect();
+        tallies::note(&history, got, coverage);
+    }
+    answer
 }

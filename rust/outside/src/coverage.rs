@@ -1,4 +1,4 @@
-//! Which codes each entry has answered with, and how often.
+//! Which codes each entry has answered with, which transactions were tallied, and how often.
 
 use std::collections::BTreeMap;
 use std::fmt;
@@ -13,11 +13,26 @@ pub enum Entry {
     Straighten,
     Transactions,
     StoreReads,
+    Tally,
+}
+
+/// What a tallied history can have: one of the four numbers that is not 0, or a transaction aborted in one of the four ways.
+#[derive(Clone, Copy, Debug, PartialEq, Eq, PartialOrd, Ord)]
+pub enum Tallied {
+    Committed,
+    Aborted,
+    Pending,
+    Live,
+    AbortedFromRead,
+    AbortedFromWrite,
+    AbortedAfterCommitCall,
+    AbortedWithNoCall,
 }
 
 #[derive(Clone, Debug, Default)]
 pub struct Coverage {
     met: BTreeMap<(Entry, u32), u64>,
+    tallied: BTreeMap<Tallied, u64>,
 }
 
 impl Coverage {
@@ -25,9 +40,16 @@ impl Coverage {
         *self.met.entry((entry, code)).or_default() += 1;
     }
 
+    pub fn note_tallied(&mut self, what: Tallied) {
+        *self.tallied.entry(what).or_default() += 1;
+    }
+
     pub fn add(&mut self, other: &Coverage) {
         for (&key, count) in &other.met {
             *self.met.entry(key).or_default() += count;
+        }
+        for (&what, count) in &other.tallied {
+            *self.tallied.entry(what).or_default() += count;
         }
     }
 
@@ -39,6 +61,12 @@ impl Coverage {
     pub fn require(&self, entry: Entry, codes: &[u32]) {
         let missing: Vec<u32> = codes.iter().copied().filter(|&code| self.count(entry, code) == 0).collect();
         assert!(missing.is_empty(), "{entry:?} never answered with {missing:?}; it answered\n{self}");
+    }
+
+    /// Fails if something that a history can have was in none that was tallied.
+    pub fn require_every_tallied(&self) {
+        let missing: Vec<Tallied> = TALLIED.into_iter().filter(|what| !self.tallied.contains_key(what)).collect();
+        assert!(missing.is_empty(), "{missing:?} was never tallied\n{self}");
     }
 
     /// Fails if an entry has answered with a code that it has not: the scan with cause 4, say, or the straightener with rule D.
@@ -54,6 +82,9 @@ impl fmt::Display for Coverage {
     fn fmt(&self, f: &mut fmt::Formatter) -> fmt::Result {
         for ((entry, code), count) in &self.met {
             writeln!(f, "{entry:?} {code}: {count}")?;
+        }
+        for (what, count) in &self.tallied {
+            writeln!(f, "tallied {what:?}: {count}")?;
         }
         Ok(())
     }
@@ -74,7 +105,7 @@ pub fn refusals(entry: Entry) -> Vec<u32> {
         Entry::Scan => vec![31],
         Entry::Check => MARKING.to_vec(),
         Entry::Straighten => [&MARKING[..], &[15]].concat(),
-        Entry::Transactions | Entry::StoreReads => vec![],
+        Entry::Transactions | Entry::StoreReads | Entry::Tally => vec![],
     };
     [&COLUMNS[..], &own].concat()
 }
@@ -91,7 +122,7 @@ pub fn judgements(entry: Entry) -> &'static [u32] {
     }
 }
 
-pub const ENTRIES: [Entry; 8] = [
+pub const ENTRIES: [Entry; 9] = [
     Entry::Read,
     Entry::Write,
     Entry::Find,
@@ -100,4 +131,16 @@ pub const ENTRIES: [Entry; 8] = [
     Entry::Straighten,
     Entry::Transactions,
     Entry::StoreReads,
+    Entry::Tally,
+];
+
+pub const TALLIED: [Tallied; 8] = [
+    Tallied::Committed,
+    Tallied::Aborted,
+    Tallied::Pending,
+    Tallied::Live,
+    Tallied::AbortedFromRead,
+    Tallied::AbortedFromWrite,
+    Tallied::AbortedAfterCommitCall,
+    Tallied::AbortedWithNoCall,
 ];

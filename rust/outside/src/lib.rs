@@ -4,7 +4,7 @@
 //! [`walk`] (random readable histories), [`simulate`] (a transactional memory), [`limits`] (histories at each limit), [`marks`]
 //! (markings) and [`damage`] (files, columns and markings that are not quite right). [`rounds`] runs many of them, each from a seed
 //! of its own. [`lent`] and [`guarded`] are the buffers that the calls are lent. [`straight`] has what is promised of a straightened
-//! marking.
+//! marking, and [`tallies`] what is promised of a tally.
 
 pub mod compare;
 pub mod coverage;
@@ -18,4 +18,5 @@ pub mod rounds;
 pub mod shapes;
 pub mod simulate;
 pub mod straight;
+pub mod tallies;
 pub mod walk;

@@ -44,6 +44,7 @@ fn limits(coverage: &mut Coverage) {
         compare::read(&history_file::write(&events), &mut lent.clone(), coverage);
         compare::write(&lent, count, &mut output, coverage);
         compare::counts(&lent, count, coverage);
+        compare::tally(&lent, count, coverage);
         compare::check(&lent, count, &[4, 0, 2, 0, 1, 0], coverage);
         compare::straighten(&lent, count, &[4, 0, 2, 0, 1, 0], &mut output, &mut vec![0xeeee; count], coverage);
         if is_judged_quickly(&events) {
@@ -108,6 +109,7 @@ fn columns(random: &mut Random, events: &[Event], coverage: &mut Coverage) {
     let mut output = output_for(random, 6 + 12 * events.len());
     compare::write(&lent, count, &mut output, coverage);
     compare::counts(&lent, count, coverage);
+    compare::tally(&lent, count, coverage);
     compare::check(&lent, count, &marking, coverage);
     straighten(random, &lent, count, &marking, coverage);
     if is_judged_quickly(&held(&lent, count)) {

@@ -1,5 +1,5 @@
-//! Every readable history of a few events on two threads, one register and the values 0 and 1: judged as the brute force judges it. Of
-//! those that have store reads, and of some longer ones, every marking gets its verdict and is straightened.
+//! Every readable history of a few events on two threads, one register and the values 0 and 1: tallied and judged as the brute force
+//! does it. Of those that have store reads, and of some longer ones, every marking gets its verdict and is straightened.
 
 use outside::compare;
 use outside::coverage::{judgements, Coverage, Entry};
@@ -39,6 +39,7 @@ fn every_small_history_is_judged_alike() {
     met.require(Entry::Find, judgements(Entry::Find));
     met.require(Entry::Check, judgements(Entry::Check));
     met.require(Entry::Straighten, judgements(Entry::Straighten));
+    met.require_every_tallied();
 }
 
 /// Histories with more writers and more reads: a point may be right at one gap, at some or at all.
@@ -96,6 +97,7 @@ fn judge_all(history: &[Event], coverage: &mut Coverage) {
 fn judge(history: &[Event], coverage: &mut Coverage) {
     let (columns, count) = (Columns::of(history), history.len());
     let mut output = [0xee; 128];
+    compare::tally(&columns, count, coverage);
     compare::scan(&columns, count, coverage);
     compare::find(&columns, count, count, &mut output, coverage);
     if store_reads(history).next().is_some() {

@@ -70,6 +70,7 @@ fn all_calls(random: &mut Random, events: &[Event], file: &[u8], marking: &[u8])
         assert_eq!(calls::scan(columns.view(), count), calls::scan(view(&held), count));
         assert_eq!(calls::transactions(columns.view(), count), calls::transactions(view(&held), count));
         assert_eq!(calls::store_reads(columns.view(), count), calls::store_reads(view(&held), count));
+        assert_eq!(calls::tally(columns.view(), count), calls::tally(view(&held), count));
         fill(side, &columns, &held, &written, |columns, output| calls::write(columns, count, output));
         fill(side, &columns, &held, &found, |columns, output| calls::find(columns, count, prefix, output));
         straighten(side, &columns, &held, count, &marking_file, &straight, &moved);

@@ -23,9 +23,11 @@ fn the_library_says_what_the_brute_force_says() {
         let columns = columns_of(random, &events);
         files(random, &events, &columns, coverage);
         compare::counts(&columns, events.len(), coverage);
+        compare::tally(&columns, events.len(), coverage);
         let scanned = compare::scan(&columns, events.len(), coverage);
-        // The finder on every prefix; markings of the whole, of a random one, and of those on both sides of the fault.
         let random_one = random.below(events.len() + 1);
+        compare::tally(&columns, random_one, coverage);
+        // The finder on every prefix; markings of the whole, of the random one, and of those on both sides of the fault.
         for prefix in 0..=events.len() {
             let marking = found(random, &events, &columns, prefix, coverage);
             let fault = scanned.code != 0 && (prefix == scanned.place as usize || prefix == scanned.place as usize + 1);
@@ -40,6 +42,7 @@ fn the_library_says_what_the_brute_force_says() {
     if rounds::rounds() >= 20_000 {
         ENTRIES.into_iter().for_each(|entry| met.require(entry, judgements(entry)));
         met.require(Entry::Straighten, &[15]);
+        met.require_every_tallied();
     }
 }
 

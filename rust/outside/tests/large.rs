@@ -1,5 +1,5 @@
-//! Captures of up to 2,048 events, with 10 transactions to judge or 64 to straighten, too large for the brute force: the library
-//! against plain Rust.
+//! Captures of up to 2,048 events, with 10 transactions to judge or 64 to tally and to straighten, too large for the brute force: the
+//! library against plain Rust.
 
 use outside::coverage::{Coverage, Entry};
 use outside::marks::{careless, changed, in_effect, random_marking};
@@ -22,6 +22,7 @@ fn the_library_says_what_plain_rust_says() {
         assert_eq!(history.columns(), view(&held));
         assert_eq!(history.transactions(), reads::transactions(&events));
         assert_eq!(history.store_reads(), plain::store_reads(plain_view(&held), events.len()).unwrap());
+        tallied(&history, &events);
         assert_eq!(history.scan().unwrap(), scanned(&held, events.len()));
         for prefix in [events.len(), random.below(events.len() + 1)] {
             let mut output = vec![0; 32_768];
@@ -34,6 +35,18 @@ fn the_library_says_what_plain_rust_says() {
             };
             verdicts(random, &history, &held, prefix, guess);
         }
+    });
+}
+
+/// As many transactions as a history may have, and often as many events; and what had become of them at some time before.
+#[test]
+fn large_histories_are_tallied_as_in_plain_rust() {
+    rounds::run((rounds::rounds() / 500).max(1), |random, _| {
+        let events = full_capture(random);
+        let history = History::read(&history_file::write(&events)).expect("a simulated log is readable");
+        let earlier = random.below(events.len());
+        tallied(&history, &events);
+        tallied(&history.prefix(earlier).expect("a prefix"), &events[..earlier]);
     });
 }
 
@@ -52,6 +65,16 @@ fn large_markings_are_straightened_as_in_plain_rust() {
     if rounds::rounds() >= 20_000 {
         met.require(Entry::Straighten, &[0, 205]);
     }
+}
+
+/// A tally against plain Rust and against the definition, which is quick enough for any history that is known to be readable.
+fn tallied(history: &History, events: &[Event]) {
+    let sendoshi::Tally { committed, aborted, pending, live } = history.tally();
+    let by_plain = plain::tally(plain_view(&Held::of(events)), events.len());
+    assert_eq!(by_plain, Ok(plain::Tally { committed, aborted, pending, live }));
+    let by_definition = reference::tally::tally(events);
+    assert_eq!(by_definition, reference::tally::Tally { committed, aborted, pending, live });
+    assert_eq!(committed + aborted + pending + live, history.transactions());
 }
 
 fn full_capture(random: &mut Random) -> Vec<Event> {

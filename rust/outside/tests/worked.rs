@@ -25,6 +25,7 @@ fn answered(call: &Call) -> (Answer, Vec<u8>, Vec<u32>) {
             moved.resize(events.len(), 0);
             calls::straighten(view(&Held::of(events)), events.len(), file, &mut output, &mut moved)
         }
+        Call::Tally(events) => calls::tally(view(&Held::of(events)), events.len()),
     };
     (answer, output, moved)
 }
@@ -71,9 +72,10 @@ fn counts_beyond_all_columns() {
             calls::straighten(view(&held), count, &[], &mut [], &mut []),
             calls::transactions(view(&held), count),
             calls::store_reads(view(&held), count),
+            calls::tally(view(&held), count),
         ];
         let place = u32::try_from(count).unwrap_or(u32::MAX);
-        assert_eq!(answers, [Answer { code: 17, place }; 7], "count {count}");
+        assert_eq!(answers, [Answer { code: 17, place }; 8], "count {count}");
     }
     for prefix in [11, 1 << 32, usize::MAX] {
         let answer = calls::find(view(&held), 10, prefix, &mut []);

@@ -1,6 +1,6 @@
-//! The library's job in plain safe Rust, as one would write it without proofs: one pass with small tables for the files, the checker
-//! and the straightening, a depth-first search with early ends for the finder and the scan. The benchmarks compare the library with
-//! it, and the tests use it where histories are too large for the brute force of `reference`.
+//! The library's job in plain safe Rust, as one would write it without proofs: one pass with small tables for the files, the tally, the
+//! checker and the straightening, a depth-first search with early ends for the finder and the scan. The benchmarks compare the library
+//! with it, and the tests use it where histories are too large for the brute force of `reference`.
 //!
 //! Answers, refusals and what happens to lent buffers are the library's.
 
@@ -15,6 +15,7 @@ mod scan;
 mod search;
 mod straighten;
 mod tables;
+mod tally;
 
 pub use check::{check, Verdict};
 pub use columns::{Columns, Refusal};
@@ -22,6 +23,7 @@ pub use find::find;
 pub use history_file::{read, write};
 pub use scan::{scan, Scanned};
 pub use straighten::{straighten, Straightened};
+pub use tally::{tally, Tally};
 
 use accesses::Accesses;
 

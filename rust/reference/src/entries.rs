@@ -9,6 +9,7 @@ use crate::reads;
 use crate::record::{refuse, Refusal};
 use crate::rules::{verdict, Rule, Verdict};
 use crate::straighten;
+use crate::tally::{self, Tally};
 
 /// A code and its place, as the library packs them into one number. A place that is too large for it is told as the largest.
 #[derive(Clone, Copy, Debug, PartialEq, Eq)]
@@ -127,6 +128,14 @@ pub fn transactions(columns: &Columns, count: usize) -> Answer {
 /// Counts the store reads.
 pub fn store_reads(columns: &Columns, count: usize) -> Answer {
     answer(history(columns, count).map(|events| (0, reads::store_reads(&events).count())))
+}
+
+/// Tallies the transactions begun.
+pub fn tally(columns: &Columns, count: usize) -> Answer {
+    answer(history(columns, count).map(|events| {
+        let Tally { committed, aborted, pending, live } = tally::tally(&events);
+        (0, committed * 16_777_216 + aborted * 65_536 + pending * 256 + live)
+    }))
 }
 
 /// The code of a broken rule, and its event and transaction in one place.

@@ -20,4 +20,5 @@ pub mod record;
 pub mod report;
 pub mod rules;
 pub mod straighten;
+pub mod tally;
 pub mod worked;

@@ -19,6 +19,7 @@ pub enum Call {
     Check(Vec<Event>, Vec<u8>),
     /// The list is as long as the history.
     Straighten(Vec<Event>, Vec<u8>),
+    Tally(Vec<Event>),
 }
 
 /// A call with its answer, and with what it writes to the output and to the list of moved events, where that is of interest. Nothing
@@ -71,6 +72,15 @@ fn unjustified(name: &str, log: &Log, file: Vec<u8>, rule: char, event: u32, tra
     Worked { output: Some(vec![]), moved: Some(vec![]), ..example }
 }
 
+/// A tally, packed as the library does.
+fn tallied(name: &str, log: &Log, [committed, aborted, pending, live]: [u32; 4]) -> Worked {
+    worked(name, tally(log), 0, committed * 16_777_216 + aborted * 65_536 + pending * 256 + live)
+}
+
+fn tally(log: &Log) -> Call {
+    Call::Tally(log.events.clone())
+}
+
 fn scan(log: &Log) -> Call {
     Call::Scan(log.events.clone())
 }
@@ -94,7 +104,7 @@ pub fn h0_marking() -> Vec<u8> {
 
 /// Every example.
 pub fn all() -> Vec<Worked> {
-    [starred(), straightenings(), limits(), sources()].concat()
+    [starred(), straightenings(), tallies(), limits(), sources()].concat()
 }
 
 /// The starred histories of the paper, in its order.
@@ -178,6 +188,40 @@ fn straightenings() -> Vec<Worked> {
         unjustified("a wrong own read is not mended", &own, marking(&[(0, Aborted)], &[(2, 1)]), 'C', 6, 0),
         unjustified("an outcome is not mended", &lost, writer_first(&[(6, 0)]), 'A', 3, 0),
         worked("a marking without points", Call::Straighten(h0.events.clone(), reader_first(&[])), 29, 22),
+    ]
+}
+
+/// Transactions that committed, were aborted, are pending and are live.
+fn tallies() -> Vec<Worked> {
+    let cross = Log::new().begin(0).begin(1).read(0, 0, 0).read(1, 1, 0).write(0, 1, 1).write(1, 0, 1).commit(1).commit(0);
+    let pending = Log::new().begin(0).write(0, 0, 5).commit_called(0).begin(1).read(1, 0, 5);
+    // Withdrawn at once and between calls, cut short in a read, in a write and in a commit.
+    let aborts = Log::new().begin(0).aborted(0).begin(0).read(1, 0, 0).aborted(1).begin(0).read_called(2, 0).aborted(2);
+    let aborts = aborts.begin(0).write_called(3, 0, 1).aborted(3).begin(0).commit_called(4).aborted(4);
+    // Just begun, in a read, after one, in a write, after one.
+    let begun = (0..5).fold(Log::new(), |log, thread| log.begin(thread));
+    let live = begun.read_called(1, 0).read(2, 0, 0).write_called(3, 0, 1).write(4, 0, 1);
+    let repeat = |n: u16, with: fn(Log, u16) -> Log| (0..n).fold(Log::new(), |log, t| with(log.begin(t % 16), t));
+    let full = repeat(48, Log::commit);
+    let full = (48..64).fold(full, |log, t| log.begin(t % 16).commit_called(t));
+    vec![
+        tallied("head alone has no transaction", &Log::new(), [0, 0, 0, 0]),
+        tallied("H0's tally", &Log::h0(), [1, 0, 0, 1]),
+        tallied("both that cross committed", &cross, [2, 0, 0, 0]),
+        tallied("a pending commit and its reader", &pending, [0, 0, 1, 1]),
+        tallied("a commit called and aborted", &pending.clone().aborted(0), [0, 1, 0, 1]),
+        tallied("a commit called and answered", &pending.clone().committed(0), [1, 0, 0, 1]),
+        tallied("the reader is aborted, the commit pending", &pending.aborted(1), [0, 1, 1, 0]),
+        tallied("every way to be aborted", &aborts, [0, 5, 0, 0]),
+        tallied("every way to be live", &live, [0, 0, 0, 5]),
+        tallied("64 committed", &repeat(64, Log::commit), [64, 0, 0, 0]),
+        tallied("64 aborted", &repeat(64, Log::aborted), [0, 64, 0, 0]),
+        tallied("64 aborted after a commit call", &repeat(64, |log, t| log.commit_called(t).aborted(t)), [0, 64, 0, 0]),
+        tallied("16 pending", &repeat(16, Log::commit_called), [0, 0, 16, 0]),
+        tallied("16 live", &repeat(16, |log, _| log), [0, 0, 0, 16]),
+        tallied("48 committed and 16 pending", &full, [48, 0, 16, 0]),
+        worked("a 65th is not tallied", tally(&repeat(65, Log::aborted)), 7, 128),
+        worked("an event after the end is not tallied", tally(&cross.aborted(1)), 11, 14),
     ]
 }
 

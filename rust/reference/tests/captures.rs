@@ -4,73 +4,125 @@
 use reference::history_file;
 use reference::justification::Outcome::{Aborted, Committed};
 use reference::log::Log;
-use reference::report::report;
+use reference::report::{counted, report, tallied};
 use reference::worked::{h0_marking, marking};
 use std::path::PathBuf;
 use std::{env, fs};
+
+fn top() -> PathBuf {
+    PathBuf::from(env!("CARGO_MANIFEST_DIR")).join("../../examples/captures")
+}
 
 /// A folder, its two files (none: absent) and its report.
 struct Capture {
     name: &'static str,
     history: Option<Vec<u8>>,
     marking: Option<Vec<u8>>,
-    report: &'static str,
+    report: String,
 }
 
-fn capture(name: &'static str, log: &Log, marking: Option<Vec<u8>>, report: &'static str) -> Capture {
-    Capture { name, history: Some(history_file::write(&log.events)), marking, report }
+/// A readable history, with the four lines of its report.
+fn capture(name: &'static str, log: &Log, marking: Option<Vec<u8>>, lines: [&str; 4]) -> Capture {
+    Capture { name, history: Some(history_file::write(&log.events)), marking, report: lines.join("\n") + "\n" }
+}
+
+/// A history that is refused, with the one line of its report.
+fn refused(name: &'static str, history: Option<Vec<u8>>, marking: Option<Vec<u8>>, line: &str) -> Capture {
+    Capture { name, history, marking, report: format!("{line}\n") }
+}
+
+/// Transactions in each state that the tally tells apart, by each way to be aborted and to be live.
+fn all_states() -> Log {
+    // T0 commits; T1 is aborted from its read.
+    let log = Log::new().begin(0).write(0, 0, 5).begin(1).read_called(1, 0).commit_called(0).aborted(1).committed(0);
+    // T2 is aborted from its write, T3 after its commit call, and T4 is withdrawn.
+    let log = log.begin(0).write_called(2, 0, 6).begin(1).commit_called(3).aborted(2).aborted(3).begin(0).aborted(4);
+    // T5 calls commit; T6 has read what T0 wrote.
+    let log =
+        log.begin(0).begin(1).write_called(5, 0, 7).read_called(6, 0).write_returned(5).read_returned(6, 5).commit_called(5);
+    // T7 is in a read, T8 calls commit, and T9 is in a write.
+    log.begin(2).begin(3).begin(4).read_called(7, 0).commit_called(8).write_called(9, 1, 1)
+}
+
+/// All but T0 aborted, in the order in which they began.
+fn all_states_marking() -> Vec<u8> {
+    let places: Vec<_> = (0..10).map(|t| (t, if t == 0 { Committed } else { Aborted })).collect();
+    marking(&places, &[(21, 6)])
 }
 
 fn captures() -> Vec<Capture> {
     let head = vec![4, 0, 2, 0, 1, 0];
     let gap_2 = marking(&[(1, Aborted), (0, Committed)], &[(5, 0), (9, 2)]);
     let h7_marking = marking(&[(0, Committed), (1, Aborted)], &[(5, 1), (9, 1)]);
+    // H7 differs from H0 in a value only.
+    let (h0_counts, h0_tally) = ("events 10 transactions 2 reads 2", "committed 1 aborted 0 pending 0 live 1");
+    let h0 = |name, marking, marked| capture(name, &Log::h0(), marking, [h0_counts, h0_tally, marked, "opaque yes"]);
     let eleven = (0..11).fold(Log::new(), |log, thread| log.begin(thread));
     let eleven_marking = marking(&(0..11).map(|t| (t, Aborted)).collect::<Vec<_>>(), &[]);
     let cut = [&history_file::write(&[])[..], &[4, 0, 16, 0, 0, 0]].concat();
     vec![
-        capture("h0", &Log::h0(), Some(h0_marking()), "events 10 transactions 2 reads 2\nmarking accepted\nopaque yes\n"),
-        capture(
-            "h0-gap-2",
-            &Log::h0(),
-            Some(gap_2),
-            "events 10 transactions 2 reads 2\nmarking rule D event 9 transaction 1\nopaque yes\n",
-        ),
-        capture(
-            "h0-bare",
-            &Log::h0(),
-            Some(head.clone()),
-            "events 10 transactions 2 reads 2\nmarking refused 28 byte 6\nopaque yes\n",
-        ),
-        capture("h0-unmarked", &Log::h0(), None, "events 10 transactions 2 reads 2\nmarking refused 21 byte 0\nopaque yes\n"),
+        h0("h0", Some(h0_marking()), "marking accepted"),
+        h0("h0-gap-2", Some(gap_2), "marking rule D event 9 transaction 1"),
+        h0("h0-bare", Some(head.clone()), "marking refused 28 byte 6"),
+        h0("h0-unmarked", None, "marking refused 21 byte 0"),
         capture(
             "h7",
             &Log::h7(),
             Some(h7_marking),
-            "events 10 transactions 2 reads 2\nmarking rule E event 5 transaction 1\nopaque no event 9 cause 1\n",
+            [h0_counts, h0_tally, "marking rule E event 5 transaction 1", "opaque no event 9 cause 1"],
         ),
-        capture("head-alone", &Log::new(), Some(head), "events 0 transactions 0 reads 0\nmarking accepted\nopaque yes\n"),
+        capture(
+            "head-alone",
+            &Log::new(),
+            Some(head),
+            ["events 0 transactions 0 reads 0", "committed 0 aborted 0 pending 0 live 0", "marking accepted", "opaque yes"],
+        ),
         capture(
             "eleven",
             &eleven,
             Some(eleven_marking),
-            "events 11 transactions 11 reads 0\nmarking accepted\nopaque refused 31\n",
+            [
+                "events 11 transactions 11 reads 0",
+                "committed 0 aborted 0 pending 0 live 11",
+                "marking accepted",
+                "opaque refused 31",
+            ],
         ),
-        Capture { name: "short-begin", history: Some(cut), marking: None, report: "history refused 5 byte 6\n" },
-        Capture { name: "absent", history: None, marking: Some(h0_marking()), report: "history refused 3 byte 0\n" },
+        capture(
+            "tally",
+            &all_states(),
+            Some(all_states_marking()),
+            ["events 29 transactions 10 reads 1", "committed 1 aborted 4 pending 2 live 3", "marking accepted", "opaque yes"],
+        ),
+        refused("short-begin", Some(cut), None, "history refused 5 byte 6"),
+        refused("absent", None, Some(h0_marking()), "history refused 3 byte 0"),
     ]
+}
+
+/// Every folder, also those whose orders are too many for the brute force: what is counted in the events.
+#[test]
+fn reports_count_what_the_events_say() {
+    for folder in fs::read_dir(top()).unwrap().map(|entry| entry.unwrap().path()).filter(|path| path.is_dir()) {
+        let events = history_file::read(&fs::read(folder.join("capture.hst")).unwrap_or_default());
+        let expected = match events {
+            Ok(events) => counted(&events) + &tallied(&events),
+            Err(refusal) => format!("history refused {} byte {}\n", refusal.number, refusal.place),
+        };
+        let report = fs::read_to_string(folder.join("report.txt")).unwrap();
+        assert!(report.starts_with(&expected), "{}: the report begins\n{expected}", folder.display());
+    }
 }
 
 #[test]
 fn captures_have_their_bytes_and_their_report() {
-    let top = PathBuf::from(env!("CARGO_MANIFEST_DIR")).join("../../examples/captures");
+    let top = top();
     for capture in captures() {
         let bytes = |file: &Option<Vec<u8>>| file.clone().unwrap_or_default();
         assert_eq!(report(&bytes(&capture.history), &bytes(&capture.marking)), capture.report, "{}", capture.name);
         let files = [
             ("capture.hst", capture.history),
             ("capture.mrk", capture.marking),
-            ("report.txt", Some(capture.report.as_bytes().to_vec())),
+            ("report.txt", Some(capture.report.into_bytes())),
         ];
         for (name, contents) in files {
             let path = top.join(capture.name).join(name);

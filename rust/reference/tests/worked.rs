@@ -24,6 +24,7 @@ fn answered(call: &Call) -> (Answer, Vec<u8>, Vec<u32>) {
             moved.resize(events.len(), 0);
             entries::straighten(&Columns::of(events), events.len(), file, &mut output, &mut moved)
         }
+        Call::Tally(events) => entries::tally(&Columns::of(events), events.len()),
     };
     (answer, output, moved)
 }

@@ -10,7 +10,7 @@ pub struct Answer {
     pub place: u32,
 }
 
-/// What was asked for is done; the place is the count or the length, or both in one number.
+/// What was asked for is done; the place is the count or the length, or several of them in one number.
 pub const DONE: u32 = 0;
 /// The finder's answer where no order justifies the prefix.
 pub const NONE: u32 = 100;
@@ -44,6 +44,11 @@ impl Answer {
     /// points were moved and its length.
     pub fn halves(self) -> (usize, usize) {
         ((self.place >> 16) as usize, (self.place & 0xffff) as usize)
+    }
+
+    /// The four numbers that share the place of a tally: how many transactions committed, were aborted, are pending and are live.
+    pub fn quarters(self) -> [usize; 4] {
+        self.place.to_be_bytes().map(usize::from)
     }
 
     /// The rule that is broken, its event and its transaction, if the code stands for one.

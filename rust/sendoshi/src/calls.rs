@@ -111,3 +111,9 @@ pub fn transactions(columns: Columns, count: usize) -> Answer {
 pub fn store_reads(columns: Columns, count: usize) -> Answer {
     with_columns!(sendoshi_store_reads, columns, count)
 }
+
+/// Tallies the transactions begun in the first `count` events. Code 0: how many committed, were aborted, are pending and are live
+/// ([`Answer::quarters`]).
+pub fn tally(columns: Columns, count: usize) -> Answer {
+    with_columns!(sendoshi_tally, columns, count)
+}

@@ -113,4 +113,16 @@ extern "C" {
         values_length: usize,
         count: usize,
     ) -> u64;
+
+    pub fn sendoshi_tally(
+        kinds: *const u16,
+        kinds_length: usize,
+        transactions: *const u16,
+        transactions_length: usize,
+        registers: *const u16,
+        registers_length: usize,
+        values: *const u32,
+        values_length: usize,
+        count: usize,
+    ) -> u64;
 }

@@ -4,6 +4,7 @@ use crate::answer::NONE;
 use crate::calls::{self, Columns, ColumnsMut};
 use crate::judgement::{Cause, Scan, Straightening, Verdict};
 use crate::question::{Place, Refusal};
+use crate::tally::Tally;
 
 /// No history has more events.
 const MOST_EVENTS: usize = 2_048;
@@ -105,6 +106,29 @@ impl History {
     pub fn store_reads(&self) -> usize {
         let answer = calls::store_reads(self.columns(), self.len());
         answer.done(Place::Event).unwrap_or_else(|refusal| refused_again(refusal))
+    }
+
+    /// What has become of the transactions. The four numbers add up to [`History::transactions`].
+    ///
+    /// ```
+    /// use sendoshi::{Columns, History, Tally};
+    ///
+    /// // T0 commits, T1 is aborted after it called commit, T2 has called commit, and T3 has called a read.
+    /// let history = History::from_columns(Columns {
+    ///     kinds: &[16, 21, 22, 16, 21, 23, 16, 21, 16, 17],
+    ///     transactions: &[0, 0, 0, 1, 1, 1, 2, 2, 3, 3],
+    ///     registers: &[0, 0, 0, 0, 0, 0, 0, 0, 1, 5],
+    ///     values: &[0; 10],
+    /// })?;
+    /// assert_eq!(history.tally(), Tally { committed: 1, aborted: 1, pending: 1, live: 1 });
+    /// assert_eq!(history.prefix(5).expect("ten events").tally().to_string(), "committed 1 aborted 0 pending 1 live 0");
+    /// # Ok::<(), sendoshi::Refusal>(())
+    /// ```
+    pub fn tally(&self) -> Tally {
+        let answer = calls::tally(self.columns(), self.len());
+        answer.done(Place::Event).unwrap_or_else(|refusal| refused_again(refusal));
+        let [committed, aborted, pending, live] = answer.quarters();
+        Tally { committed, aborted, pending, live }
     }
 
     /// The history of the first `length` events, if there are so many.

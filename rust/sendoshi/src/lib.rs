@@ -1,8 +1,8 @@
 //! Opacity of recorded transactional histories: a safe wrapper over the proved static library.
 //!
-//! A [`History`] is read from a file or taken from columns. It can be written back, scanned for the first prefix that no order of
-//! its transactions justifies, given its lowest marking, and compared with a marking from elsewhere, whose read points it can
-//! straighten.
+//! A [`History`] is read from a file or taken from columns. It can be written back, tallied by what has become of its transactions,
+//! scanned for the first prefix that no order of them justifies, given its lowest marking, and compared with a marking from
+//! elsewhere, whose read points it can straighten.
 //!
 //! ```
 //! use sendoshi::History;
@@ -15,8 +15,10 @@
 //! ];
 //! let history = History::read(&capture)?;
 //! println!("events {} transactions {} reads {}", history.len(), history.transactions(), history.store_reads());
+//! println!("{}", history.tally());
 //! println!("{}", history.scan()?);
 //! # assert_eq!((history.len(), history.transactions(), history.store_reads()), (3, 1, 1));
+//! # assert_eq!(history.tally().to_string(), "committed 0 aborted 0 pending 0 live 1");
 //! # assert_eq!(history.scan()?.to_string(), "opaque yes");
 //! # Ok::<(), sendoshi::Refusal>(())
 //! ```
@@ -40,9 +42,11 @@ pub mod ffi;
 mod history;
 mod judgement;
 mod question;
+mod tally;
 
 pub use answer::Answer;
 pub use calls::{Columns, ColumnsMut};
 pub use history::History;
 pub use judgement::{Cause, Rule, Scan, Straightening, Verdict};
 pub use question::{Place, Question, Refusal};
+pub use tally::Tally;

@@ -1,6 +1,6 @@
 //! The wrapper's own promises: what it takes, how it refuses and how its answers read.
 
-use sendoshi::{Columns, History, Place, Question, Refusal, Rule, Scan, Straightening, Verdict};
+use sendoshi::{calls, Answer, Columns, History, Place, Question, Refusal, Rule, Scan, Straightening, Tally, Verdict};
 use std::error::Error;
 
 const KINDS: [u16; 10] = [16, 19, 20, 16, 17, 18, 21, 22, 17, 18];
@@ -21,13 +21,46 @@ fn refusal(question: Question, place: Place) -> Refusal {
 fn h0_goes_through_every_call() {
     let history = h0();
     assert_eq!((history.len(), history.transactions(), history.store_reads()), (10, 2, 2));
+    assert_eq!(history.tally(), Tally { committed: 1, aborted: 0, pending: 0, live: 1 });
     assert_eq!(History::read(&history.to_bytes()).unwrap(), history);
     assert_eq!(history.scan(), Ok(Scan::Opaque));
     let marking = history.lowest_marking(10).unwrap().unwrap();
     assert_eq!(marking.len(), 42);
     assert_eq!(history.check(&marking), Ok(Verdict::Accepted));
+    assert_eq!(history.tally().to_string(), "committed 1 aborted 0 pending 0 live 1");
     assert_eq!(history.scan().unwrap().to_string(), "opaque yes");
     assert_eq!(history.check(&marking).unwrap().to_string(), "marking accepted");
+}
+
+/// H0 as it goes on: a prefix of its own, and the same events in columns that go on behind them.
+#[test]
+fn a_tally_follows_the_events() {
+    let history = h0();
+    let expected = [
+        (0, [0, 0, 0, 0]),
+        (1, [0, 0, 0, 1]), // T0 begins
+        (3, [0, 0, 0, 1]),
+        (4, [0, 0, 0, 2]), // T1 begins
+        (6, [0, 0, 0, 2]),
+        (7, [0, 0, 1, 1]), // T0 calls commit
+        (8, [1, 0, 0, 1]), // and has committed
+        (10, [1, 0, 0, 1]),
+    ];
+    for (length, [committed, aborted, pending, live]) in expected {
+        let tally = history.prefix(length).unwrap().tally();
+        assert_eq!(tally, Tally { committed, aborted, pending, live }, "{length} events");
+        let answer = calls::tally(history.columns(), length);
+        assert_eq!((answer.code, answer.quarters()), (0, [committed, aborted, pending, live]), "{length} of 10 events");
+    }
+}
+
+/// Each number has a byte of its own, and comes to its own name.
+#[test]
+fn a_tally_is_taken_apart_byte_by_byte() {
+    let answer = Answer::of(0x4001_0203);
+    assert_eq!((answer.code, answer.quarters()), (0, [64, 1, 2, 3]));
+    let tally = Tally { committed: 64, aborted: 1, pending: 2, live: 3 };
+    assert_eq!(tally.to_string(), "committed 64 aborted 1 pending 2 live 3");
 }
 
 #[test]

@@ -1,4 +1,4 @@
-//! Reading, writing, checking and straightening.
+//! Reading, writing, tallying, checking and straightening.
 
 use crate::inputs::{careless, serial, serial_reads, simulated};
 use crate::sides::Capture;
@@ -7,7 +7,7 @@ use reference::event::Event;
 use reference::log::Log;
 
 pub fn print() {
-    table::head("Files and markings", "job");
+    table::head("Files, tallies and markings", "job");
     let full = Capture::new(&simulated(10, 2_048, 1));
     let bytes = full.file.len();
     table::rate_row(&format!("read a history of 2,048 events, {bytes} bytes"), bytes, &full.read());
@@ -15,7 +15,9 @@ pub fn print() {
     let small = Capture::new(&Log::h0().events);
     table::row("read the paper's H0, 88 bytes", &small.read());
     table::row("write the paper's H0, 88 bytes", &small.write());
+    table::row("tally a history of 10 transactions and 2,048 events", &full.tally());
     let (events, marking) = serial(64, 2_048);
+    table::row("tally a history of 64 transactions and 2,048 events", &Capture::new(&events).tally());
     let reads = (marking.len() - 6 - 8 * 64) / 10;
     let what = format!("check a marking of 64 transactions and {reads} read points, {} bytes", marking.len());
     table::row(&what, &Capture::new(&events).check(&marking));

@@ -1,7 +1,7 @@
 //! One capture with its buffers, and each job done by the library and by plain Rust.
 
 use crate::measure::{measure, Measured};
-use plain::{Scanned, Straightened, Verdict};
+use plain::{Scanned, Straightened, Tally, Verdict};
 use reference::event::{Columns as Held, Event};
 use reference::history_file;
 use sendoshi::{calls, Columns, ColumnsMut};
@@ -57,6 +57,14 @@ impl Capture {
         assert_eq!(Some(library(&mut output)), plain(&mut other));
         assert_eq!(output, other);
         measure(|| library(&mut output), || plain(&mut other))
+    }
+
+    pub fn tally(&self) -> Measured {
+        let library = || calls::tally(black_box(self.library()), self.count);
+        let plain = || plain::tally(black_box(self.plain()), self.count);
+        let Tally { committed, aborted, pending, live } = plain().expect("a capture that is readable");
+        assert_eq!((library().code, library().quarters()), (0, [committed, aborted, pending, live]));
+        measure(library, plain)
     }
 
     pub fn scan(&self) -> Measured {
