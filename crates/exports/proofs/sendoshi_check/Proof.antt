@@ -1,8 +1,6 @@
 -- `exports::sendoshi_check` meets its contract.
 -- Assumes nothing.
 use mathlib.Core.Path.{ap, _∙_}
-use Rattle.events.specs.Columns.{columns}
-use denote.Ref.{now}
 use Rattle.exports.specs.Codes.{checkCode}
 use Rattle.exports.specs.Calls.{checkCall}
 use Rattle.exports.proofs.Bounds.{check-known}
@@ -14,10 +12,7 @@ check-marking-requires : tie.Need-check-marking-requires
 check-marking-requires c κs = search needs
 
 check-code-requires : tie.Need-check-code-requires
-check-code-requires c κs =
-    let start = c .before .before .before .before .before .before in
-    let cs = columns (now (start .args .kinds)) (now (start .args .transactions)) (now (start .args .registers)) (now (start .args .values)) in
-    check-known cs (start .args .count) (now (start .args .file)) _ (c .check-marking .ensures)
+check-code-requires c κs = check-known _ _ _ _ (c .check-marking .ensures)
 
 returns : tie.Need-returns
 unfolding checkCall

@@ -1,8 +1,6 @@
 -- `exports::sendoshi_scan` meets its contract.
 -- Assumes nothing.
 use mathlib.Core.Path.{ap, _∙_}
-use Rattle.events.specs.Columns.{columns}
-use denote.Ref.{now}
 use Rattle.exports.specs.Codes.{scanCode}
 use Rattle.exports.specs.Calls.{scanCall}
 use Rattle.exports.proofs.Bounds.{scan-known}
@@ -14,10 +12,7 @@ scan-history-requires : tie.Need-scan-history-requires
 scan-history-requires c κs = search needs
 
 scan-code-requires : tie.Need-scan-code-requires
-scan-code-requires c κs =
-    let start = c .before .before .before .before .before in
-    let cs = columns (now (start .args .kinds)) (now (start .args .transactions)) (now (start .args .registers)) (now (start .args .values)) in
-    scan-known cs (start .args .count) _ (c .scan-history .ensures)
+scan-code-requires c κs = scan-known _ _ _ (c .scan-history .ensures)
 
 returns : tie.Need-returns
 unfolding scanCall
