@@ -80,7 +80,7 @@ named-back aborted = refl
 named-back pending = refl
 named-back live = refl
 
-standing-same : (s z : Status) → standingOf s ≡ standingOf z → s ≡ z
+pub standing-same : (s z : Status) → standingOf s ≡ standingOf z → s ≡ z
 standing-same s z e = sym (named-back s) ∙ (ap named e ∙ named-back z)
 
 module _ (h : List Event) where

@@ -6,7 +6,7 @@ use native.Mathlib.Numerals.{add-one}
 use native.Mathlib.Omega.{arith}
 use mathlib.Core.Path.{_≡_, refl, sym, ap, _∙_, subst}
 use mathlib.Core.Bool.{Bool, true, false, not, cond}
-use mathlib.Core.List.{List, [], _∷_}
+use mathlib.Core.List.{List, [], _∷_, _++_}
 use mathlib.Core.Option.{Option, none, some}
 use lib.Dec.{eqb}
 use lib.ListN.{length, getD, set, replicate, length-append, length-set, length-replicate, getD-replicate}
@@ -55,13 +55,20 @@ one-at-most false = omega arith
 
 -- ---- store reads
 
-pub range-more : (p : ℕ → Bool) (i : ℕ) → length (keep p (range (i + 1))) ≡ length (keep p (range i)) + one (p i)
-unfolding range keep
-range-more p i = rw add-one (ap length (keep-append p (range i) (i ∷ [])) ∙ length-append (keep p (range i)) (push (p i) i []) ∙ ap (λ (k : ℕ). length (keep p (range i)) + k) (go (p i)))
+-- how many pass, with one element more, and of the numbers below one more
+pub kept-snoc : {A : Type 0} (p : A → Bool) (xs : List A) (x : A) → length (keep p (xs ++ (x ∷ []))) ≡ length (keep p xs) + one (p x)
+unfolding keep
+kept-snoc p xs x =
+    ap length (keep-append p xs (x ∷ []))
+    ∙ (length-append (keep p xs) (push (p x) x []) ∙ ap (λ (k : ℕ). length (keep p xs) + k) (go (p x)))
   where
-    go : (b : Bool) → length (push b i []) ≡ one b
+    go : (b : Bool) → length (push b x []) ≡ one b
     go true = refl
     go false = refl
+
+pub range-more : (p : ℕ → Bool) (i : ℕ) → length (keep p (range (i + 1))) ≡ length (keep p (range i)) + one (p i)
+unfolding range
+range-more p i = rw add-one (kept-snoc p (range i) i)
 
 not-not : (b : Bool) → not (not b) ≡ b
 not-not true = refl

@@ -35,8 +35,8 @@ ended-by t (e ∷ h) = ap (λ (b : Bool). by isEnd t e or b) (ended-by t h) ∙ 
     spread true false false x y = refl
 
 module _ (h : List Event) (r : readable h ≡ true) (t : ℕ) where
-  -- an end is the last event of its transaction
-  no-second : (n : ℕ) → n < length h → ended t (take n h) ≡ true → by isEnd t (eventAt h n) ≡ false
+  -- a transaction that has ended does not end again
+  pub no-second : (n : ℕ) → n < length h → ended t (take n h) ≡ true → by isEnd t (eventAt h n) ≡ false
   unfolding by
   no-second n l u = go (by isEnd t (eventAt h n)) refl
     where
