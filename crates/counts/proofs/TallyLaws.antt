@@ -15,26 +15,31 @@ use Rattle.events.specs.Lists.{keep, range}
 use Rattle.events.specs.declared.event.Event.{Event}
 use Rattle.events.specs.Events.{isBegin, begins}
 use Rattle.events.specs.Columns.{Columns, history}
+use Rattle.events.proofs.ListLaws.{eqb-self}
 use Rattle.events.proofs.ColumnLaws.{history-length, history-at}
 use Rattle.events.proofs.ReadableLaws.{readable-most, readable-fewer}
-use Rattle.opacity.specs.Transactions.{Status, committed, aborted, pending, live, status}
+use Rattle.opacity.specs.Transactions.{Status, committed, aborted, pending, live, statusNumber, status}
 use Rattle.opacity.specs.Counts.{HoldsReadable, one, ofKind, countsBegin}
 use Rattle.opacity.proofs.Bounds.{at-most-64, transaction-known}
+use Rattle.opacity.proofs.HowMany.{howMany, how-many-more, how-many-low, how-many-same, how-many-moved, how-many-there}
 use Rattle.opacity.proofs.CountLaws.{begins-counted, one-at-most, transaction-of}
 use Rattle.links.specs.declared.tables.Fact.the-variants.{Standing}
-use Rattle.links.specs.Tables.{standingOf, slotAt, slot, Slots, Tabled}
+use Rattle.links.specs.Tables.{slotAt, slot, Slots, Tabled}
 use Rattle.links.proofs.TableLaws.{slots-start, slots-more, slot-here, slot-other, status-table}
 use Rattle.counts.specs.Moves.{more, moved, Room}
 use Rattle.counts.specs.declared.tally.Tally.{Tally}
-use Rattle.counts.specs.Tally.{standing, tally}
-use Rattle.counts.proofs.HowMany.{howMany, how-many-more, how-many-low, how-many-same, how-many-moved, how-many-there}
+use Rattle.counts.specs.Tally.{stands, standing, tally}
 use Rattle.counts.proofs.MoveLaws.{as-one, more-at, moved-size, moved-at}
 
 -- how a transaction stands after i events, as a number
 abbrev pub standsAs : Columns → ℕ → ℕ → ℕ
 standsAs c i t = slot Standing (c .kinds) (c .transactions) t i
 
-standing-low : (s : Status) → standingOf s < 4
+-- that it stands as j
+abbrev standsAt : Columns → ℕ → ℕ → ℕ → Bool
+standsAt c i j t = eqb (standsAs c i t) j
+
+standing-low : (s : Status) → statusNumber s < 4
 standing-low committed = le-refl 4
 standing-low aborted = omega arith
 standing-low pending = omega arith
@@ -44,7 +49,7 @@ pub record Counted (c : Columns) (n : ℕ) (table many : List ℕ) (i : ℕ) : T
   pub inside : i ≤ n
   pub slots : Slots Standing (c .kinds) (c .transactions) i table
   pub size : length many ≡ 4
-  pub holds : (k : ℕ) → k < 4 → getD many k 0 ≡ howMany (standsAs c i) k (begins (history c i))
+  pub holds : (k : ℕ) → k < 4 → getD many k 0 ≡ howMany (standsAt c i k) (begins (history c i))
 
 -- a transaction that no event names: the table has 0 for it
 unnamed : (c : Columns) (u i : ℕ) → ((j : ℕ) → j < i → getD (c .transactions) j 0 ≡ u → ⊥) → standsAs c i u ≡ 0
@@ -80,20 +85,20 @@ module _ (c : Columns) (n : ℕ) (k : HoldsReadable c n) where
   begun-few i l = at-most-64 (history c i) (readable-fewer c n i l (k .readable))
 
   -- a begin brings one that is live
-  born : (i j : ℕ) → i < n → howMany (standsAs c i) j (begins (history c (i + 1))) ≡ howMany (standsAs c i) j (begins (history c i)) + cond (eqb 0 j) (countsBegin (getD (c .kinds) i 0)) 0
-  born i j l = ap (howMany (standsAs c i) j) (begins-counted c i) ∙ go (isBegin (ofKind (getD (c .kinds) i 0)))
+  born : (i j : ℕ) → i < n → howMany (standsAt c i j) (begins (history c (i + 1))) ≡ howMany (standsAt c i j) (begins (history c i)) + cond (eqb 0 j) (countsBegin (getD (c .kinds) i 0)) 0
+  born i j l = ap (howMany (standsAt c i j)) (begins-counted c i) ∙ go (isBegin (ofKind (getD (c .kinds) i 0)))
     where
       B : ℕ
       B = begins (history c i)
 
-      go : (b : Bool) → howMany (standsAs c i) j (B + one b) ≡ howMany (standsAs c i) j B + cond (eqb 0 j) (one b) 0
+      go : (b : Bool) → howMany (standsAt c i j) (B + one b) ≡ howMany (standsAt c i j) B + cond (eqb 0 j) (one b) 0
       go true =
-          how-many-more j (standsAs c i) B
-          ∙ ap (λ (x : ℕ). howMany (standsAs c i) j B + one (eqb x j)) (unbegun i B (omega arith) (le-refl B))
-          ∙ ap (λ (x : ℕ). howMany (standsAs c i) j B + x) (sym (as-one (eqb 0 j)))
-      go false = let z : B + 0 ≡ B = omega arith in ap (howMany (standsAs c i) j) z ∙ nothing (eqb 0 j)
+          how-many-more (standsAt c i j) B
+          ∙ ap (λ (x : ℕ). howMany (standsAt c i j) B + one (eqb x j)) (unbegun i B (omega arith) (le-refl B))
+          ∙ ap (λ (x : ℕ). howMany (standsAt c i j) B + x) (sym (as-one (eqb 0 j)))
+      go false = let z : B + 0 ≡ B = omega arith in ap (howMany (standsAt c i j)) z ∙ nothing (eqb 0 j)
         where
-          nothing : (b : Bool) → howMany (standsAs c i) j B ≡ howMany (standsAs c i) j B + cond b 0 0
+          nothing : (b : Bool) → howMany (standsAt c i j) B ≡ howMany (standsAt c i j) B + cond b 0 0
           nothing true = omega arith
           nothing false = omega arith
 
@@ -107,8 +112,8 @@ module _ (c : Columns) (n : ℕ) (k : HoldsReadable c n) where
     stood : before ≡ standsAs c i t
     stood = eb ∙ w .slots .holds t low
 
-    stands : after ≡ standsAs c (suc i) t
-    stands = ea ∙ (ap (slotAt Standing (ofKind (getD (c .kinds) i 0)) i) stood ∙ sym (slot-here Standing (c .kinds) (c .transactions) t i (eq-eqb _ _ (sym et))))
+    stands-now : after ≡ standsAs c (suc i) t
+    stands-now = ea ∙ (ap (slotAt Standing (ofKind (getD (c .kinds) i 0)) i) stood ∙ sym (slot-here Standing (c .kinds) (c .transactions) t i (eq-eqb _ _ (sym et))))
 
     others : (u : ℕ) → (t ≡ u → ⊥) → standsAs c i u ≡ standsAs c (suc i) u
     others u f = sym (slot-other Standing (c .kinds) (c .transactions) u i (ne-eqb _ _ (λ e. f (et ∙ e))))
@@ -120,14 +125,14 @@ module _ (c : Columns) (n : ℕ) (k : HoldsReadable c n) where
     before-low = rw (stood ∙ status-table c t i) (standing-low (status (history c i) t))
 
     after-low : after < 4
-    after-low = rw (stands ∙ status-table c t (suc i)) (standing-low (status (history c (suc i)) t))
+    after-low = rw (stands-now ∙ status-table c t (suc i)) (standing-low (status (history c (suc i)) t))
 
     -- the counts once the transaction that begins is among them
-    with-born : (j : ℕ) → j < 4 → getD (more many 0 begun) j 0 ≡ howMany (standsAs c i) j (begins (history c (i + 1)))
+    with-born : (j : ℕ) → j < 4 → getD (more many 0 begun) j 0 ≡ howMany (standsAt c i j) (begins (history c (i + 1)))
     with-born j b =
         more-at many 0 (rw (w .size) (omega arith)) begun j
         ∙ ap (λ (x : ℕ). x + cond (eqb 0 j) begun 0) (w .holds j b)
-        ∙ ap (λ (x : ℕ). howMany (standsAs c i) j (begins (history c i)) + cond (eqb 0 j) x 0) en
+        ∙ ap (λ (x : ℕ). howMany (standsAt c i j) (begins (history c i)) + cond (eqb 0 j) x 0) en
         ∙ sym (born i j l)
 
     pub room : Room many begun before after
@@ -137,8 +142,8 @@ module _ (c : Columns) (n : ℕ) (k : HoldsReadable c n) where
           before-low = before-low;
           after-low = after-low;
           begun-low = rw en (one-at-most (isBegin (ofKind (getD (c .kinds) i 0))));
-          few = λ j b. omega (arith, w .holds j b, how-many-low j (standsAs c i) (begins (history c i)), begun-few i (omega arith));
-          there = rw (with-born before before-low, stood) (how-many-there (standsAs c i) t (begins (history c (i + 1))) known);
+          few = λ j b. omega (arith, w .holds j b, how-many-low (standsAt c i j) (begins (history c i)), begun-few i (omega arith));
+          there = rw (with-born before before-low, stood) (how-many-there (standsAt c i (standsAs c i t)) t (begins (history c (i + 1))) known (eqb-self (standsAs c i t)));
         }
 
     pub counted-more : Counted c n (set table t after) (moved many begun before after) (i + 1)
@@ -147,23 +152,24 @@ module _ (c : Columns) (n : ℕ) (k : HoldsReadable c n) where
           inside = omega arith;
           slots = slots-more Standing (c .kinds) (c .transactions) i t after table et low (ea ∙ ap (slotAt Standing (ofKind (getD (c .kinds) i 0)) i) eb) (w .slots);
           size = moved-size many begun before after room;
-          holds = λ j b. after-event j b ∙ ap (λ (x : ℕ). howMany (standsAs c x) j (begins (history c (i + 1)))) (sym (add-one i));
+          holds = λ j b. after-event j b ∙ ap (λ (x : ℕ). howMany (standsAt c x j) (begins (history c (i + 1)))) (sym (add-one i));
         }
       where
-        after-event : (j : ℕ) → j < 4 → getD (moved many begun before after) j 0 ≡ howMany (standsAs c (suc i)) j (begins (history c (i + 1)))
+        after-event : (j : ℕ) → j < 4 → getD (moved many begun before after) j 0 ≡ howMany (standsAt c (suc i) j) (begins (history c (i + 1)))
         after-event j b =
             let m = moved-at many begun before after room j in
             let x : one (eqb before j) ≡ one (eqb (standsAs c i t) j) = ap (λ (y : ℕ). one (eqb y j)) stood in
-            let y : one (eqb after j) ≡ one (eqb (standsAs c (suc i) t) j) = ap (λ (y : ℕ). one (eqb y j)) stands in
-            omega (arith, m, with-born j b, how-many-moved j (standsAs c i) (standsAs c (suc i)) t others (begins (history c (i + 1))) known)
+            let y : one (eqb after j) ≡ one (eqb (standsAs c (suc i) t) j) = ap (λ (y : ℕ). one (eqb y j)) stands-now in
+            omega (arith, m, with-born j b, how-many-moved (standsAt c i j) (standsAt c (suc i) j) t (λ u f. ap (λ (k : ℕ). eqb k j) (others u f)) (begins (history c (i + 1))) known)
 
   -- the counts after the last event
   module _ (table many : List ℕ) (w : Counted c n table many n) where
-    stands-at-last : (s : Status) → getD many (standingOf s) 0 ≡ length (standing s (history c n))
+    stands-at-last : (s : Status) → getD many (statusNumber s) 0 ≡ length (standing s (history c n))
     unfolding standing
     stands-at-last s =
-        w .holds (standingOf s) (standing-low s)
-        ∙ how-many-same (standingOf s) (standsAs c n) (λ t. standingOf (status (history c n) t)) (begins (history c n)) (λ t m. status-table c t n)
+        w .holds (statusNumber s) (standing-low s)
+        ∙ how-many-same (standsAt c n (statusNumber s)) (stands s (history c n)) (begins (history c n))
+        (λ t m. ap (λ (k : ℕ). eqb k (statusNumber s)) (status-table c t n))
 
     pub counted-end : _≡_ {A = Tally} record { committed = getD many 3 0; aborted = getD many 2 0; pending = getD many 1 0; live = getD many 0 0 } (tally (history c n))
     unfolding tally

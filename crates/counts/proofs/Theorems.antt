@@ -1,127 +1,112 @@
 -- The four numbers of the tally add up to the transactions, and each transaction is counted in exactly one of them, once: that which its
 -- events say.
 -- Assumes nothing.
-use Prim.Native.Nat.{ℕ, zero, suc, _+_, _<_}
-use native.Mathlib.Nat.{le-refl}
-use native.Mathlib.Numerals.{add-one}
+use Prim.Native.Nat.{ℕ, zero, suc, _+_, _≤_, _<_}
+use native.Mathlib.Decide.{decLt}
 use native.Mathlib.Omega.{arith}
 use mathlib.Core.Path.{_≡_, refl, sym, ap, _∙_}
 use mathlib.Core.Logic.{_↔_}
 use mathlib.Core.Bool.{Bool, true, false, cond}
-use mathlib.Core.List.{List, [], _∷_}
-use lib.Dec.{eqb, ltb}
-use lib.ListN.{length, length-append}
-use borrow.Author.Tests.{eqb-true, eqb-false, lt-ltb, le-ltb, ltb-true, ltb-false}
-use Rattle.events.specs.Lists.{_and_, push, keep, range}
+use mathlib.Core.List.{List}
+use lib.Dec.{eqb}
+use lib.ListN.{length}
+use borrow.Author.Tests.{eqb-true, ne-eqb}
+use Rattle.events.specs.Lists.{_and_, keep, range}
 use Rattle.events.specs.declared.event.Event.{Event}
 use Rattle.events.specs.declared.columns.Checked.{Checked}
 use Rattle.events.specs.Events.{begins}
 use Rattle.events.specs.Columns.{Columns, history}
 use Rattle.events.specs.Questions.{readable, columnsAnswer}
-use Rattle.events.proofs.ListLaws.{eqb-self, keep-append}
-use Rattle.opacity.specs.Transactions.{Status, committed, aborted, pending, live, Stands, status}
+use Rattle.events.proofs.ListLaws.{and-false-l, eqb-self, keep-both}
+use Rattle.opacity.specs.Transactions.{Status, committed, aborted, pending, live, Stands, statusNumber, status}
 use Rattle.opacity.specs.Counts.{one, counts}
+use Rattle.opacity.proofs.HowMany.{howMany, how-many-suc, how-many-none, how-many-moved}
 use Rattle.opacity.proofs.Statuses.{status-iff}
-use Rattle.links.specs.Tables.{standingOf}
 use Rattle.counts.specs.declared.Counting.{Counting}
 use Rattle.counts.specs.declared.Tallying.{Tallying}
 use Rattle.counts.specs.declared.tally.Tally.{Tally}
-use Rattle.counts.specs.Tally.{standing, tally, times}
+use Rattle.counts.specs.Tally.{stands, standing, tally, times}
 use Rattle.counts.specs.Answer.{counted, transactionsAnswer, tallied, tallyAnswer}
-use Rattle.counts.proofs.HowMany.{howMany, how-many-more}
 
 -- a status is one of the four
-one-of-four : (s : Status) → one (eqb (standingOf s) 3) + one (eqb (standingOf s) 2) + one (eqb (standingOf s) 1) + one (eqb (standingOf s) 0) ≡ 1
+one-of-four : (s : Status) → one (eqb (statusNumber s) 3) + one (eqb (statusNumber s) 2) + one (eqb (statusNumber s) 1) + one (eqb (statusNumber s) 0) ≡ 1
 one-of-four committed = refl
 one-of-four aborted = refl
 one-of-four pending = refl
 one-of-four live = refl
 
--- a number stands once among those below n that pass, if it is one of them, and else not at all
-module _ (p : ℕ → Bool) (t : ℕ) where
-  times-more : (n : ℕ) → times t (keep p (range (suc n))) ≡ times t (keep p (range n)) + one (eqb n t and p n)
-  unfolding times range keep _and_
-  times-more n =
-      ap (λ (xs : List ℕ). length (keep (λ u. eqb u t) xs)) (keep-append p (range n) (n ∷ []))
-      ∙ (ap length (keep-append (λ u. eqb u t) (keep p (range n)) (push (p n) n []))
-      ∙ (length-append (keep (λ u. eqb u t) (keep p (range n))) (keep (λ u. eqb u t) (push (p n) n []))
-      ∙ ap (λ (k : ℕ). length (keep (λ u. eqb u t) (keep p (range n))) + k) (last (p n) (eqb n t) refl)))
-    where
-      last : (b d : Bool) → eqb n t ≡ d → length (keep (λ u. eqb u t) (push b n [])) ≡ one (d and b)
-      last true true e = rw e
-      last true false e = rw e
-      last false true e = refl
-      last false false e = refl
+-- a number below n stands once among those that pass, if it passes; one that is not below n stands there not at all
+module _ (p : ℕ → Bool) (t n : ℕ) where
+  both : times t (keep p (range n)) ≡ howMany (λ u. eqb u t and p u) n
+  unfolding times
+  both = ap length (keep-both p (λ u. eqb u t) (range n))
 
-  times-kept : (n : ℕ) → times t (keep p (range n)) ≡ one (ltb t n and p t)
-  unfolding times range keep _and_
-  times-kept zero = rw (le-ltb t 0 (omega arith))
-  times-kept (suc n) = times-more n ∙ go (eqb n t) refl (times-kept n)
-    where
-      go : (d : Bool) → eqb n t ≡ d → times t (keep p (range n)) ≡ one (ltb t n and p t) → times t (keep p (range n)) + one (d and p n) ≡ one (ltb t (suc n) and p t)
-      go true e ih =
-          let q : n ≡ t = eqb-true n t e in
-          rw (ih, q, le-ltb t t (le-refl t), lt-ltb t (suc t) (le-refl (suc t))) (omega arith)
-      go false e ih =
-          rw ih (more (ltb t n) refl)
-        where
-          more : (b : Bool) → ltb t n ≡ b → one (b and p t) + 0 ≡ one (ltb t (suc n) and p t)
-          more true l = rw (lt-ltb t (suc n) (omega (arith, ltb-true t n l))) (omega arith)
-          more false l = rw (le-ltb t (suc n) (omega (arith, ltb-false t n l, eqb-false n t e)))
+  other : (u : ℕ) → (t ≡ u → ⊥) → (eqb u t and p u) ≡ false
+  other u d = and-false-l _ _ (ne-eqb u t (λ e. d (sym e)))
 
--- the numbers of how a transaction stands tell the four ways apart
+  times-below : t < n → times t (keep p (range n)) ≡ one (p t)
+  unfolding _and_
+  times-below l =
+      let nothing = how-many-none (λ u. false) n (λ u m. refl) in
+      let more = how-many-moved (λ u. false) (λ u. eqb u t and p u) t (λ u d. sym (other u d)) n l in
+      let here : one (eqb t t and p t) ≡ one (p t) = ap (λ (b : Bool). one (b and p t)) (eqb-self t) in
+      omega (arith, both, nothing, more, here)
+
+  times-beyond : n ≤ t → times t (keep p (range n)) ≡ 0
+  times-beyond l = both ∙ how-many-none (λ u. eqb u t and p u) n (λ u m. other u (λ e. omega arith))
+
+-- the numbers tell the statuses apart: a transaction stands as s exactly if that is its status
 named : ℕ → Status
 named k = cond (eqb k 3) committed (cond (eqb k 2) aborted (cond (eqb k 1) pending live))
 
-named-back : (s : Status) → named (standingOf s) ≡ s
+named-back : (s : Status) → named (statusNumber s) ≡ s
 unfolding named
 named-back committed = refl
 named-back aborted = refl
 named-back pending = refl
 named-back live = refl
 
-pub standing-same : (s z : Status) → standingOf s ≡ standingOf z → s ≡ z
-standing-same s z e = sym (named-back s) ∙ (ap named e ∙ named-back z)
+pub stands-so : (s : Status) (h : List Event) (t : ℕ) → status h t ≡ s → stands s h t ≡ true
+stands-so s h t e = ap (λ (z : Status). eqb (statusNumber z) (statusNumber s)) e ∙ eqb-self (statusNumber s)
+
+pub so-stands : (s : Status) (h : List Event) (t : ℕ) → stands s h t ≡ true → status h t ≡ s
+so-stands s h t q = sym (named-back (status h t)) ∙ (ap named (eqb-true _ _ q) ∙ named-back s)
 
 module _ (h : List Event) where
-  stands : ℕ → ℕ
-  stands t = standingOf (status h t)
-
-  all-counted : (n : ℕ) → howMany stands 3 n + howMany stands 2 n + howMany stands 1 n + howMany stands 0 n ≡ n
-  unfolding range keep stands
+  all-counted : (n : ℕ) → howMany (stands committed h) n + howMany (stands aborted h) n + howMany (stands pending h) n + howMany (stands live h) n ≡ n
+  unfolding range keep
   all-counted zero = refl
   all-counted (suc n) =
-      ap (λ (m : ℕ). howMany stands 3 m + howMany stands 2 m + howMany stands 1 m + howMany stands 0 m) (sym (add-one n))
-      ∙ omega (arith, how-many-more 3 stands n, how-many-more 2 stands n, how-many-more 1 stands n, how-many-more 0 stands n, one-of-four (status h n), all-counted n)
+      omega (arith, how-many-suc (stands committed h) n, how-many-suc (stands aborted h) n, how-many-suc (stands pending h) n, how-many-suc (stands live h) n, one-of-four (status h n), all-counted n)
 
   pub adds-up : tally h .committed + tally h .aborted + tally h .pending + tally h .live ≡ begins h
-  unfolding tally standing stands
+  unfolding tally standing
   adds-up = all-counted (begins h)
 
-  -- how often a transaction is counted as standing so
-  counted-as : (s : Status) (t : ℕ) → times t (standing s h) ≡ one (ltb t (begins h) and eqb (standingOf (status h t)) (standingOf s))
+  -- a transaction is counted once as what it is
+  counted-as : (s : Status) (t : ℕ) → t < begins h → times t (standing s h) ≡ one (stands s h t)
   unfolding standing
-  counted-as s t = times-kept (λ u. eqb (standingOf (status h u)) (standingOf s)) t (begins h)
+  counted-as s t l = times-below (stands s h) t (begins h) l
 
   pub counted-once : (t : ℕ) → t < begins h
       → times t (standing committed h) + times t (standing aborted h) + times t (standing pending h) + times t (standing live h) ≡ 1
-  unfolding _and_
-  counted-once t l = rw (counted-as committed t, counted-as aborted t, counted-as pending t, counted-as live t, lt-ltb t (begins h) l) (one-of-four (status h t))
+  counted-once t l = rw (counted-as committed t l, counted-as aborted t l, counted-as pending t l, counted-as live t l) (one-of-four (status h t))
 
   -- and in which of the four, in a readable history: in the one that its events say
   pub counted-iff : readable h ≡ true → (s : Status) (t : ℕ) → (times t (standing s h) ≡ 1) ↔ ((t < begins h) × Stands s h t)
-  unfolding _and_
+  unfolding standing
   counted-iff r s t = (
-    λ e. there (ltb t (begins h)) refl (eqb (standingOf (status h t)) (standingOf s)) refl (sym (counted-as s t) ∙ e),
-    λ x.
-        let e : status h t ≡ s = status-iff h r t s .1 (x .1) in
-        counted-as s t ∙ rw (lt-ltb t (begins h) (x .0), e, eqb-self (standingOf s)),
+    λ e.
+        elim (decLt t (begins h)) [
+          | yes l ↦ (l, status-iff h r t s .0 (passes (stands s h t) refl (sym (counted-as s t l) ∙ e)))
+          | no f ↦ absurd (omega (arith, e, times-beyond (stands s h) t (begins h) (omega arith)))
+        ],
+    λ x. counted-as s t (x .0) ∙ ap one (stands-so s h t (status-iff h r t s .1 (x .1))),
   )
     where
-      there : (b : Bool) → ltb t (begins h) ≡ b → (d : Bool) → eqb (standingOf (status h t)) (standingOf s) ≡ d → one (b and d) ≡ 1 → (t < begins h) × Stands s h t
-      there true l true e q = (ltb-true _ _ l, status-iff h r t s .0 (standing-same (status h t) s (eqb-true _ _ e)))
-      there true l false e q = absurd (omega (arith, q))
-      there false l d e q = absurd (omega (arith, q))
+      passes : (b : Bool) → stands s h t ≡ b → one b ≡ 1 → status h t ≡ s
+      passes true q e = so-stands s h t q
+      passes false q e = absurd (omega (arith, e))
 
 -- where there is a tally there is a count of the transactions, and the four add up to it
 pub told-adds-up : (c : Columns) (count : ℕ) (x : Tally) → tallyAnswer c count ≡ Tallying.Tallied x

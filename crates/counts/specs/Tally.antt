@@ -2,19 +2,23 @@
 -- Each is defined from the events alone, by the status of a transaction that justifications go by.
 -- Assumes nothing.
 use Prim.Native.Nat.{ℕ}
+use mathlib.Core.Bool.{Bool}
 use mathlib.Core.List.{List}
 use lib.Dec.{eqb}
 use lib.ListN.{length}
 use Rattle.events.specs.Lists.{keep, range}
 use Rattle.events.specs.declared.event.Event.{Event}
 use Rattle.events.specs.Events.{begins}
-use Rattle.opacity.specs.Transactions.{Status, committed, aborted, pending, live, status}
-use Rattle.links.specs.Tables.{standingOf}
+use Rattle.opacity.specs.Transactions.{Status, committed, aborted, pending, live, statusNumber, status}
 use Rattle.counts.specs.declared.tally.Tally.{Tally}
 
--- the transactions of a history that stand so, rising
+-- a transaction has this status
+abbrev pub stands : Status → List Event → ℕ → Bool
+stands s h t = eqb (statusNumber (status h t)) (statusNumber s)
+
+-- the transactions of a history that have it, rising
 unfoldable pub standing : Status → List Event → List ℕ
-standing s h = keep (λ t. eqb (standingOf (status h t)) (standingOf s)) (range (begins h))
+standing s h = keep (stands s h) (range (begins h))
 
 unfoldable pub tally : List Event → Tally
 tally h = record {

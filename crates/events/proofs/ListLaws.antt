@@ -4,7 +4,7 @@ use Prim.Native.Nat.{ℕ, zero, suc, _+_, _≤_, _<_}
 use native.Mathlib.Nat.{le-of-suc-le-suc, not-suc-le-zero, eq-or-lt-of-le, le-step, lt-suc-self, lt-of-not-le, add-zero}
 use native.Mathlib.Decide.{decLe}
 use native.Mathlib.Omega.{arith}
-use mathlib.Core.Path.{_≡_, refl, sym, ap, _∙_, subst}
+use mathlib.Core.Path.{_≡_, refl, sym, ap, ap₂, _∙_, subst}
 use mathlib.Core.Logic.{_⊎_, inl, inr, ⊎-elim}
 use mathlib.Core.Bool.{Bool, true, false, not, cond, true≢false, false≢true}
 use mathlib.Core.List.{List, [], _∷_, _++_}
@@ -319,6 +319,18 @@ module _ {A : Type 0} where
       go true l = omega arith
       go false l = omega arith
 
+  -- what passes both tests
+  pub keep-both : (p q : A → Bool) (xs : List A) → keep q (keep p xs) ≡ keep (λ x. q x and p x) xs
+  unfolding keep _and_
+  keep-both p q [] = refl
+  keep-both p q (x ∷ xs) = go (p x) (q x) refl (keep-both p q xs)
+    where
+      go : (a b : Bool) → q x ≡ b → keep q (keep p xs) ≡ keep (λ y. q y and p y) xs → keep q (push a x (keep p xs)) ≡ push (b and a) x (keep (λ y. q y and p y) xs)
+      go true true e ih = rw e (ap (push true x) ih)
+      go true false e ih = rw e ih
+      go false true e ih = ih
+      go false false e ih = ih
+
   pub latest-append : {B : Type 0} (f : A → Option B) (xs ys : List A) → latest f (xs ++ ys) ≡ orElse (latest f ys) (latest f xs)
   unfolding latest
   latest-append f [] ys = sym (orElse-none (latest f ys))
@@ -334,6 +346,22 @@ pub range-length : (n : ℕ) → length (range n) ≡ n
 unfolding range
 range-length zero = refl
 range-length (suc n) = omega (arith, length-append (range n) (n ∷ []), range-length n)
+
+-- tests that agree below n keep the same of the numbers below n, and one that none passes keeps none
+pub keep-same : (p q : ℕ → Bool) (n : ℕ) → ((i : ℕ) → i < n → p i ≡ q i) → keep p (range n) ≡ keep q (range n)
+unfolding keep range
+keep-same p q zero e = refl
+keep-same p q (suc n) e =
+    keep-append p (range n) (n ∷ [])
+    ∙ ap₂ (λ (xs : List ℕ) (b : Bool). xs ++ push b n []) (keep-same p q n (λ i l. e i (le-step l))) (e n (lt-suc-self n))
+    ∙ sym (keep-append q (range n) (n ∷ []))
+
+pub keep-none : (p : ℕ → Bool) (n : ℕ) → ((i : ℕ) → i < n → p i ≡ false) → keep p (range n) ≡ []
+unfolding keep range
+keep-none p zero e = refl
+keep-none p (suc n) e =
+    let q : p n ≡ false = e n (lt-suc-self n) in
+    keep-append p (range n) (n ∷ []) ∙ rw (keep-none p n (λ i l. e i (le-step l)), q)
 
 -- a number below n that passes is among those that are kept
 pub keep-member : (p : ℕ → Bool) (n i : ℕ) → i < n → p i ≡ true → any (λ k. eqb k i) (keep p (range n)) ≡ true

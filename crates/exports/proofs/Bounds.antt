@@ -32,13 +32,12 @@ use Rattle.marking.specs.declared.check.Judged.{Judged}
 use Rattle.marking.specs.File.{known, FileRead, content, refused, fileRead}
 use Rattle.marking.specs.Answer.{ruled, afterColumns, answerFrom, verdictAnswer}
 use Rattle.marking.proofs.ContentLaws.{content-readable}
-use Rattle.opacity.specs.Transactions.{Status, committed, aborted, pending, live, status}
-use Rattle.links.specs.Tables.{standingOf}
+use Rattle.opacity.specs.Transactions.{Status, committed, aborted, pending, live}
 use Rattle.counts.specs.declared.Tallying.{Tallying}
 use Rattle.counts.specs.declared.tally.Tally.{Tally}
-use Rattle.counts.specs.Tally.{standing, tally}
+use Rattle.counts.specs.Tally.{stands, standing, tally}
 use Rattle.counts.specs.Answer.{tallyAnswer}
-use Rattle.counts.proofs.HowMany.{how-many-low}
+use Rattle.opacity.proofs.HowMany.{how-many-low}
 use Rattle.straighten.specs.declared.Straightening.{Straightening}
 use Rattle.straighten.specs.Straight.{straightened}
 use Rattle.straighten.specs.Answer.{Given, gives, straightenedAnswer}
@@ -144,7 +143,7 @@ module _ (c : Columns) (count : ℕ) (file output list : List ℕ) where
 -- no more transactions stand so than begin
 pub standing-few : (h : List Event) → readable h ≡ true → (s : Status) → length (standing s h) ≤ 64
 unfolding standing
-standing-few h r s = omega (arith, how-many-low (standingOf s) (λ t. standingOf (status h t)) (begins h), at-most-64 h r)
+standing-few h r s = omega (arith, how-many-low (stands s h) (begins h), at-most-64 h r)
 
 tally-bytes : (h : List Event) → readable h ≡ true → Bytes (tally h)
 unfolding tally

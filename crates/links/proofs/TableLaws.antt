@@ -19,13 +19,13 @@ use Rattle.events.specs.Columns.{Columns, entry, history}
 use Rattle.events.proofs.ListLaws.{or-false}
 use Rattle.events.proofs.ColumnLaws.{history-at, history-length}
 use Rattle.events.proofs.StateLaws.{has-snoc}
-use Rattle.opacity.specs.Transactions.{committed, aborted, pending, live, status, precedes}
+use Rattle.opacity.specs.Transactions.{committed, aborted, pending, live, statusNumber, status, precedes}
 use Rattle.opacity.specs.Marking.{lastEvent, beginOf}
 use Rattle.opacity.proofs.Snoc.{precedes-more}
 use Rattle.links.specs.declared.tables.Fact.{Fact}
 use Rattle.links.specs.declared.tables.Fact.the-variants.{LastEvent, LastBegin, FirstBegin, FirstEnd, Standing}
 use Rattle.opacity.specs.Counts.{ofKind}
-use Rattle.links.specs.Tables.{lastOne, firstOne, rank, standing, standingOf, slotAt, slot, Slots, earlier}
+use Rattle.links.specs.Tables.{lastOne, firstOne, rank, standing, slotAt, slot, Slots, earlier}
 
 -- ---- filling
 
@@ -240,7 +240,7 @@ unfolding _and_
 rank-more a b c x y z true = rank-max a b c x y z
 rank-more a b c x y z false = rw (or-false a, or-false b, or-false c)
 
-rank-status : (a b c : Bool) → standingOf (cond a committed (cond b aborted (cond c pending live))) ≡ rank a b c
+rank-status : (a b c : Bool) → statusNumber (cond a committed (cond b aborted (cond c pending live))) ≡ rank a b c
 unfolding rank
 rank-status true b c = refl
 rank-status false true c = refl
@@ -256,6 +256,6 @@ module _ (c : Columns) (t : ℕ) where
       ∙ sym (rw (has-snoc isCommit (history c m) (entry c m) t, has-snoc isAbort (history c m) (entry c m) t, has-snoc asksCommit (history c m) (entry c m) t)
       (rank-more (has isCommit t (history c m)) (has isAbort t (history c m)) (has asksCommit t (history c m)) (isCommit (entry c m)) (isAbort (entry c m)) (asksCommit (entry c m)) (eqb (getD (c .transactions) m 0) t)))
 
-  pub status-table : (m : ℕ) → slot Standing (c .kinds) (c .transactions) t m ≡ standingOf (status (history c m) t)
+  pub status-table : (m : ℕ) → slot Standing (c .kinds) (c .transactions) t m ≡ statusNumber (status (history c m) t)
   unfolding status
   status-table m = ranks m ∙ sym (rank-status (has isCommit t (history c m)) (has isAbort t (history c m)) (has asksCommit t (history c m)))

@@ -8,7 +8,6 @@ use lib.Dec.{eqb, ltb}
 use lib.ListN.{length, getD}
 use Rattle.events.specs.declared.event.Event.{Event}
 use Rattle.events.specs.Events.{isBegin, isWrite, isEnd, isCommit, isAbort, asksCommit}
-use Rattle.opacity.specs.Transactions.{Status, committed, aborted, pending, live}
 use Rattle.opacity.specs.Counts.{ofKind}
 use Rattle.links.specs.declared.tables.Fact.{Fact}
 use Rattle.links.specs.declared.tables.Fact.the-variants.{LastEvent, LastWrite, LastBegin, FirstBegin, FirstEnd, Standing}
@@ -25,19 +24,12 @@ lastOne b i x = cond b (i + 1) x
 unfoldable pub firstOne : Bool → ℕ → ℕ → ℕ
 firstOne b i x = cond (eqb x 0) (cond b (i + 1) 0) x
 
--- how far a transaction has come: 3 committed, 2 aborted, 1 commit called, 0 otherwise
+-- how far a transaction has come, by the number of its status: 3 committed, 2 aborted, 1 commit called, 0 otherwise
 unfoldable pub rank : Bool → Bool → Bool → ℕ
 rank commits aborts calls = cond commits 3 (cond aborts 2 (cond calls 1 0))
 
 unfoldable pub standing : Event → ℕ
 standing e = rank (isCommit e) (isAbort e) (asksCommit e)
-
--- the same for a status
-abbrev pub standingOf : Status → ℕ
-standingOf committed = 3
-standingOf aborted = 2
-standingOf pending = 1
-standingOf live = 0
 
 -- what event i makes of the x that stood at its transaction
 abbrev pub slotAt : Fact → Event → ℕ → ℕ → ℕ

@@ -2,27 +2,27 @@
 -- Assumes nothing.
 use Prim.Native.Nat.{ℕ, _+_, _*_, _≤_, _<_}
 use native.Mathlib.Nat.{le-refl}
-use native.Mathlib.Numerals.{add-one}
 use native.Mathlib.Omega.{arith}
 use mathlib.Core.Path.{_≡_, refl, sym, ap, _∙_, subst}
 use mathlib.Core.Bool.{Bool, true, false, not, cond}
-use mathlib.Core.List.{List, [], _∷_, _++_}
+use mathlib.Core.List.{List}
 use mathlib.Core.Option.{Option, none, some}
 use lib.Dec.{eqb}
-use lib.ListN.{length, getD, set, replicate, length-append, length-set, length-replicate, getD-replicate}
+use lib.ListN.{length, getD, set, replicate, length-set, length-replicate, getD-replicate}
 use lib.Seq.{getD-set-same, getD-set-other}
 use borrow.Author.Tests.{eqb-true, eqb-false}
-use Rattle.events.specs.Lists.{_and_, _or_, isNone, orElse, push, keep, latest, range}
+use Rattle.events.specs.Lists.{_and_, _or_, isNone, orElse, keep, latest, range}
 use Rattle.events.specs.declared.event.Event.{Event}
 use Rattle.events.specs.Events.{isBegin, isRead, isWrite, by, begins}
 use Rattle.events.specs.Columns.{Columns, entry, history}
 use Rattle.events.specs.declared.columns.Checked.the-variants.{Readable}
 use Rattle.events.specs.Questions.{readable, columnsAnswer}
 use Rattle.events.proofs.ReadableLaws.{columns-readable}
-use Rattle.events.proofs.ListLaws.{and-false-l, and-false-r, eqb-self, keep-append, latest-snoc}
+use Rattle.events.proofs.ListLaws.{and-false-l, and-false-r, eqb-self, latest-snoc}
 use Rattle.events.proofs.ColumnLaws.{history-length, history-at, history-more, begins-more, begins-stay}
 use Rattle.opacity.specs.Transactions.{lastWrite, isStoreRead, storeReads}
 use Rattle.opacity.specs.Counts.{HoldsReadable, one, ofKind, countsBegin, countsRead, writtenAfter}
+use Rattle.opacity.proofs.HowMany.{how-many-more}
 use Rattle.opacity.proofs.Prefixes.{store-read-at}
 use Rattle.opacity.proofs.Bounds.{transaction-low, register-low}
 
@@ -55,21 +55,6 @@ one-at-most false = omega arith
 
 -- ---- store reads
 
--- how many pass, with one element more, and of the numbers below one more
-pub kept-snoc : {A : Type 0} (p : A → Bool) (xs : List A) (x : A) → length (keep p (xs ++ (x ∷ []))) ≡ length (keep p xs) + one (p x)
-unfolding keep
-kept-snoc p xs x =
-    ap length (keep-append p xs (x ∷ []))
-    ∙ (length-append (keep p xs) (push (p x) x []) ∙ ap (λ (k : ℕ). length (keep p xs) + k) (go (p x)))
-  where
-    go : (b : Bool) → length (push b x []) ≡ one b
-    go true = refl
-    go false = refl
-
-pub range-more : (p : ℕ → Bool) (i : ℕ) → length (keep p (range (i + 1))) ≡ length (keep p (range i)) + one (p i)
-unfolding range
-range-more p i = rw add-one (kept-snoc p (range i) i)
-
 not-not : (b : Bool) → not (not b) ≡ b
 not-not true = refl
 not-not false = refl
@@ -84,7 +69,7 @@ module _ (c : Columns) (n i : ℕ) (l : i < n) (table : List Bool) (size : lengt
       + countsRead (getD (c .kinds) i 0) (getD table (getD (c .transactions) i 0 * 32 + getD (c .registers) i 0) false)
   unfolding isRead
   reads-counted =
-      range-more (isStoreRead (history c n)) i
+      how-many-more (isStoreRead (history c n)) i
       ∙ ap (λ (b : Bool). length (keep (isStoreRead (history c n)) (range i)) + one b)
       (store-read-at c n i l
       ∙ ap (λ (b : Bool). isRead (entry c i) and b)

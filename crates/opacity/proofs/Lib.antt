@@ -1,6 +1,7 @@
 pub mod Prefixes
 pub mod Meanings
 pub mod Bounds
+pub mod HowMany
 pub mod CountLaws
 pub mod Orders
 pub mod Steps

@@ -1,19 +1,19 @@
 -- Laws of orders of places: where a transaction's place is, and that an order of n places fills all.
 -- Assumes nothing.
-use Prim.Native.Nat.{ℕ, zero, suc, _+_, _≤_, _<_}
-use native.Mathlib.Nat.{not-suc-le-zero, le-step, lt-suc-self}
+use Prim.Native.Nat.{ℕ, zero, suc, _+_, _≤_}
 use native.Mathlib.Omega.{arith}
-use mathlib.Core.Path.{_≡_, refl, sym, ap, ap₂, _∙_}
-use mathlib.Core.Logic.{⊎-elim}
+use mathlib.Core.Path.{_≡_, refl, sym, ap, _∙_}
 use mathlib.Core.Bool.{Bool, true, false, not, false≢true}
 use mathlib.Core.List.{List, [], _∷_, _++_, append-nil, append-assoc}
 use lib.Dec.{eqb, ltb}
 use lib.ListN.{length}
 use borrow.Author.Tests.{ne-eqb, eqb-true, ltb-true}
-use Rattle.events.specs.Lists.{_or_, _and_, any, all, every}
+use Rattle.events.specs.Lists.{_or_, _and_, any, all, keep, every, range}
 use Rattle.opacity.specs.Justification.{Place, isOf, placed, before, outcome, distinct, isOrder}
 use Rattle.opacity.specs.Lowest.{follows}
-use Rattle.events.proofs.ListLaws.{and-l, and-r, and-i, nor-l, nor-r, nor-i, or-false, not-true, eqb-self, eqb-sym, contra, below-cases, any-append, any-weaken, none-append, none-back}
+use Rattle.opacity.specs.Counts.{one}
+use Rattle.opacity.proofs.HowMany.{howMany, how-many-suc, how-many-low, how-many-none, how-many-moved}
+use Rattle.events.proofs.ListLaws.{and-l, and-r, and-i, nor-l, nor-r, nor-i, or-false, not-true, eqb-self, eqb-sym, contra, any-append, any-weaken, none-append, none-back}
 
 -- t has no place in P
 abbrev pub Fresh : ℕ → List Place → Type 0
@@ -94,80 +94,35 @@ follows-at ok Q (q ∷ P) p S t =
 
 -- ---- how many of the transactions below n have a place
 
-bit : Bool → ℕ
-bit true = 1
-bit false = 0
-
-count : (ℕ → Bool) → ℕ → ℕ
-unfolding bit
-count p zero = 0
-count p (suc n) = count p n + bit (p n)
-
-count-le : (p : ℕ → Bool) (n : ℕ) → count p n ≤ n
-unfolding count bit
-count-le p zero = omega arith
-count-le p (suc n) = go (p n) (count-le p n)
-  where
-    go : (b : Bool) → count p n ≤ n → count p n + bit b ≤ suc n
-    go true h = omega arith
-    go false h = omega arith
-
 -- all are counted exactly if all pass
-count-all : (p : ℕ → Bool) (n : ℕ) → count p n ≡ n → every p n ≡ true
-unfolding count bit every
+count-all : (p : ℕ → Bool) (n : ℕ) → howMany p n ≡ n → every p n ≡ true
+unfolding every
 count-all p zero e = refl
-count-all p (suc n) e = go (p n) (λ q. count-all p n q) (count-le p n) e
+count-all p (suc n) e = go (p n) (count-all p n) (how-many-low p n) (sym (how-many-suc p n) ∙ e)
   where
-    go : (b : Bool) → (count p n ≡ n → every p n ≡ true) → count p n ≤ n → count p n + bit b ≡ suc n → (every p n and b) ≡ true
+    go : (b : Bool) → (howMany p n ≡ n → every p n ≡ true) → howMany p n ≤ n → howMany p n + one b ≡ suc n → (every p n and b) ≡ true
     go true ih l q = and-i _ _ (ih (omega arith)) refl
     go false ih l q = absurd (omega arith)
 
-all-count : (p : ℕ → Bool) (n : ℕ) → every p n ≡ true → count p n ≡ n
-unfolding count bit every
+all-count : (p : ℕ → Bool) (n : ℕ) → every p n ≡ true → howMany p n ≡ n
+unfolding every range keep
 all-count p zero t = refl
 all-count p (suc n) t =
-    let i : count p n ≡ n = all-count p n (and-l _ _ t) in
-    let q : p n ≡ true = and-r _ _ t in
-    rw q (omega arith)
-
--- one more passes
-count-same : (p q : ℕ → Bool) (n : ℕ) → ((k : ℕ) → k < n → p k ≡ q k) → count p n ≡ count q n
-unfolding count bit
-count-same p q zero f = refl
-count-same p q (suc n) f = ap₂ _+_ (count-same p q n (λ k h. f k (le-step h))) (ap bit (f n (lt-suc-self n)))
-
-count-more : (p q : ℕ → Bool) (n t : ℕ) → t < n → p t ≡ true → q t ≡ false → ((k : ℕ) → (k ≡ t → ⊥) → p k ≡ q k) → count p n ≡ suc (count q n)
-unfolding count bit
-count-more p q zero t h a b f = absurd (not-suc-le-zero h)
-count-more p q (suc n) t h a b f =
-    ⊎-elim
-    (λ e.
-    let apart : (k : ℕ) → k < n → k ≡ t → ⊥ = λ k l w. omega arith in
-    let c : count p n ≡ count q n = count-same p q n (λ k l. f k (apart k l)) in
-    let pn : p n ≡ true = ap p (sym e) ∙ a in
-    let qn : q n ≡ false = ap q (sym e) ∙ b in
-    rw (pn, qn) (omega arith))
-    (λ l.
-    let c : count p n ≡ suc (count q n) = count-more p q n t l a b f in
-    let apart : n ≡ t → ⊥ = λ w. omega arith in
-    rw (f n apart) (omega arith))
-    (below-cases h)
-
-count-none : (n : ℕ) → count (λ t. false) n ≡ 0
-unfolding count bit
-count-none zero = refl
-count-none (suc n) = rw (count-none n)
+    let here : one (p n) ≡ 1 = ap one (and-r _ _ t) in
+    omega (arith, how-many-suc p n, all-count p n (and-l _ _ t))
 
 -- each place counts once
-count-places : (n : ℕ) (J : List Place) → all (λ p. ltb (p .transaction) n) J ≡ true → distinct J ≡ true → count (λ t. placed t J) n ≡ length J
+count-places : (n : ℕ) (J : List Place) → all (λ p. ltb (p .transaction) n) J ≡ true → distinct J ≡ true → howMany (λ t. placed t J) n ≡ length J
 unfolding all distinct placed any _or_
-count-places n [] k d = count-none n
+count-places n [] k d = how-many-none (λ t. false) n (λ t l. refl)
 count-places n (p ∷ J) k d =
-    count-more (λ t. placed t (p ∷ J)) (λ t. placed t J) n (p .transaction) (ltb-true (p .transaction) n (and-l _ _ k))
-    (rw (eqb-self (p .transaction)))
-    (not-true _ (and-l _ _ d))
-    (λ t u. rw (ne-eqb (p .transaction) t (λ e. u (sym e))))
-    ∙ ap suc (count-places n J (and-r _ _ k) (and-r _ _ d))
+    let T : ℕ = p .transaction in
+    let more =
+    how-many-moved (λ t. placed t J) (λ t. placed t (p ∷ J)) T (λ t u. rw (ne-eqb T t u)) n
+    (ltb-true T n (and-l _ _ k)) in
+    let before : one (placed T J) ≡ 0 = ap one (not-true (placed T J) (and-l _ _ d)) in
+    let after : one (placed T (p ∷ J)) ≡ 1 = ap (λ (b : Bool). one (b or placed T J)) (eqb-self T) in
+    omega (arith, more, before, after, count-places n J (and-r _ _ k) (and-r _ _ d))
 
 -- an order with n places fills all, and one that fills all has n places
 pub fills : (n : ℕ) (J : List Place) → all (λ p. ltb (p .transaction) n) J ≡ true → distinct J ≡ true → length J ≡ n → every (λ t. placed t J) n ≡ true

@@ -22,14 +22,22 @@ status h t =
     (cond (has asksCommit t h) pending
     live))
 
--- the same by its events: recorded as committed or aborted; commit is called and the transaction has not ended; neither
+-- a number for each, to compare them
+abbrev pub statusNumber : Status → ℕ
+statusNumber committed = 3
+statusNumber aborted = 2
+statusNumber pending = 1
+statusNumber live = 0
+
+-- what a status says of the events of a readable history: the end is recorded; commit is called and the transaction has not ended; commit is
+-- not called and it has not ended
 abbrev pub Stands : Status → List Event → ℕ → Type 0
 Stands committed h t = has isCommit t h ≡ true
 Stands aborted h t = has isAbort t h ≡ true
 Stands pending h t = (has asksCommit t h ≡ true) × (ended t h ≡ false)
 Stands live h t = (has asksCommit t h ≡ false) × (ended t h ≡ false)
 
--- the outcomes, true for committed, that this allows: the recorded one; free after a commit called and unanswered; aborted for
+-- the outcomes, true for committed, that a status allows: the recorded one; free after a commit called and unanswered; aborted for
 -- others not ended
 unfoldable pub allows : Status → Bool → Bool
 allows committed c = c

@@ -19,12 +19,12 @@ use Rattle.opacity.specs.declared.verdict.Verdict.{Verdict}
 use Rattle.opacity.specs.declared.verdict.Verdict.the-variants.{Accepted, Broken}
 use Rattle.opacity.specs.declared.verdict.Rule.{Rule}
 use Rattle.opacity.specs.declared.verdict.Rule.the-variants.{A, B, C, D, E}
-use Rattle.opacity.specs.Transactions.{Status, committed, aborted, pending, live, status, allows, precedes, isStoreRead, ownRight}
+use Rattle.opacity.specs.Transactions.{Status, committed, aborted, pending, live, statusNumber, status, allows, precedes, isStoreRead, ownRight}
 use Rattle.opacity.specs.Justification.{Place, placed, before, contents, written, outcomeKept, preceded, realTimeKept}
 use Rattle.opacity.specs.Marking.{gapOf, placeOf, others, between, noWriterBetween, valueAtGap, ruleHolds, broke, verdict, lastEvent, beginOf}
 use Rattle.opacity.proofs.Finder.{gap-marked, before-le}
 use Rattle.links.specs.declared.tables.Fact.the-variants.{LastEvent, LastWrite, LastBegin, FirstBegin, FirstEnd, Standing}
-use Rattle.links.specs.Tables.{standingOf, Slots, Tabled, slot, earlier}
+use Rattle.links.specs.Tables.{Slots, Tabled, slot, earlier}
 use Rattle.links.specs.Writes.{Linked, ownRightBy}
 use Rattle.links.proofs.FilledLaws.{filled-at}
 use Rattle.links.proofs.TableLaws.{precedes-table, status-table, last-event, first-begin}
@@ -43,7 +43,7 @@ begunIn c n = begins (history c n)
 abbrev pub orderIn : Columns → ℕ → List ℕ → List ℕ → List Place
 orderIn c n order outcomes = placesOf order outcomes (begins (history c n))
 
-allows-standing : (s : Status) (c : Bool) → allowsBy (standingOf s) c ≡ allows s c
+allows-standing : (s : Status) (c : Bool) → allowsBy (statusNumber s) c ≡ allows s c
 unfolding allowsBy allows
 allows-standing committed c = refl
 allows-standing aborted c = refl
@@ -100,7 +100,7 @@ module _ {c : Columns} {n : ℕ} {link : List ℕ} {reads : List Bool} {order ou
   unfolding outcomeBy outcomeKept
   outcome-same standing place a v t l =
       let few = y .ground .few-begun in
-      let s : getD standing t 0 ≡ standingOf (status (history c n) t) = a .holds t (omega arith) ∙ status-table c t n in
+      let s : getD standing t 0 ≡ statusNumber (status (history c n) t) = a .holds t (omega arith) ∙ status-table c t n in
       let p = inverse-place order outcomes (begunIn c n) (y .ordered) place v t l in
       ap (λ (x : ℕ). allowsBy x (eqb (getD outcomes (getD place t 0) 0) 1)) s
       ∙ (allows-standing (status (history c n) t) (eqb (getD outcomes (getD place t 0) 0) 1)

@@ -1,20 +1,20 @@
 -- From the tables of a marking in arrays to the straightened marking: the points that the tables move, and where they stand then, are those
 -- of the definition.
 -- Assumes nothing.
-use Prim.Native.Nat.{ℕ, zero, suc, _≤_, _<_}
-use native.Mathlib.Nat.{le-step, lt-suc-self, lt-of-not-le}
+use Prim.Native.Nat.{ℕ, _≤_, _<_}
+use native.Mathlib.Nat.{lt-of-not-le}
 use native.Mathlib.Decide.{decLe}
 use mathlib.Core.Path.{_≡_, refl, sym, ap, ap₂, _∙_}
 use mathlib.Core.Bool.{Bool, true, false, not, cond}
-use mathlib.Core.List.{List, [], _∷_, _++_, map}
+use mathlib.Core.List.{List, [], _∷_, map}
 use lib.Dec.{leb}
 use lib.ListN.{length, getD}
 use borrow.Author.Tests.{le-leb}
 use Rattle.events.specs.declared.event.Event.{Event}
-use Rattle.events.specs.Lists.{_and_, all, keep, push, range}
+use Rattle.events.specs.Lists.{_and_, all, keep, range}
 use Rattle.events.specs.Events.{eventAt, begins}
 use Rattle.events.specs.Columns.{Columns, history}
-use Rattle.events.proofs.ListLaws.{and-l, and-r, and-i, keep-append, clash}
+use Rattle.events.proofs.ListLaws.{and-l, and-r, and-i, keep-same, clash}
 use Rattle.events.proofs.ColumnLaws.{history-length}
 use Rattle.opacity.specs.Transactions.{isStoreRead, storeReads}
 use Rattle.opacity.specs.Marking.{Marking, ReadableFor, gapOf, placeOf}
@@ -31,15 +31,6 @@ use Rattle.straighten.specs.Straight.{straightened, movedEvents}
 use Rattle.straighten.specs.Tables.{breaksBy, gapBy, listed}
 use Rattle.straighten.proofs.PointLaws.{pointWith, map-same}
 use Rattle.straighten.proofs.StraightLaws.{keptAt, gapAfter, straight-points, moved-exactly}
-
--- tests that agree below n keep the same
-keep-same : (p q : ℕ → Bool) (n : ℕ) → ((i : ℕ) → i < n → p i ≡ q i) → keep p (range n) ≡ keep q (range n)
-unfolding keep range
-keep-same p q zero e = refl
-keep-same p q (suc n) e =
-    keep-append p (range n) (n ∷ [])
-    ∙ ap₂ (λ (xs : List ℕ) (b : Bool). xs ++ push b n []) (keep-same p q n (λ i l. e i (le-step l))) (e n (lt-suc-self n))
-    ∙ sym (keep-append q (range n) (n ∷ []))
 
 module _ {c : Columns} {n : ℕ} {link : List ℕ} {reads : List Bool} {order outcomes gaps : List ℕ} (y : Given c n link reads order outcomes gaps) where
   abbrev h : List Event

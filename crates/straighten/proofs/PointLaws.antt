@@ -1,16 +1,16 @@
 -- Points by their events: points whose events rise are those events with their gaps. Laws of `map` and `keep` that this needs.
 -- Assumes nothing.
 use Prim.Native.Nat.{ℕ, zero, suc, _+_, _≤_, _<_}
-use native.Mathlib.Nat.{le-refl, le-step, lt-suc-self, le-of-suc-le-suc}
+use native.Mathlib.Nat.{le-refl, le-of-suc-le-suc}
 use native.Mathlib.Omega.{arith}
-use mathlib.Core.Path.{_≡_, refl, sym, ap, ap₂, _∙_}
+use mathlib.Core.Path.{_≡_, refl, sym, ap, ap₂, _∙_, fun-ext}
 use mathlib.Core.Bool.{Bool, true, false, cond}
 use mathlib.Core.List.{List, [], _∷_, map}
 use mathlib.Core.Option.{none, some}
 use lib.Dec.{eqb, leb}
 use borrow.Author.Tests.{ne-eqb, le-leb, leb-true}
-use Rattle.events.specs.Lists.{all, keep, push, latest, range}
-use Rattle.events.proofs.ListLaws.{and-l, and-r, and-i, eqb-self, orElse-none, keep-append, clash}
+use Rattle.events.specs.Lists.{_and_, all, keep, push, latest}
+use Rattle.events.proofs.ListLaws.{and-l, and-r, and-i, eqb-self, orElse-none, keep-both}
 use Rattle.opacity.specs.Marking.{Point, gapOf}
 use Rattle.marking.proofs.ReadBack.{rising}
 use Rattle.straighten.specs.Straight.{Rises}
@@ -53,21 +53,12 @@ keep-map p f (x ∷ xs) = ap (push (p (f x)) (f x)) (keep-map p f xs) ∙ go (p 
 
 -- a test that follows from another keeps the same of what that one keeps
 pub keep-keep : {A : Type 0} (p q : A → Bool) (xs : List A) → ((x : A) → q x ≡ true → p x ≡ true) → keep q (keep p xs) ≡ keep q xs
-unfolding keep
-keep-keep p q [] e = refl
-keep-keep p q (x ∷ xs) e = go (p x) refl (q x) refl (keep-keep p q xs e)
+unfolding _and_
+keep-keep {A} p q xs e = keep-both p q xs ∙ ap (λ (r : A → Bool). keep r xs) (fun-ext (λ x. go x (q x) refl))
   where
-    go : (a : Bool) → p x ≡ a → (b : Bool) → q x ≡ b → keep q (keep p xs) ≡ keep q xs → keep q (push a x (keep p xs)) ≡ push b x (keep q xs)
-    go true s b t ih = rw t (ap (push b x) ih)
-    go false s true t ih = absurd (clash (e x t) s)
-    go false s false t ih = ih
-
-pub keep-none : (p : ℕ → Bool) (n : ℕ) → ((i : ℕ) → i < n → p i ≡ false) → keep p (range n) ≡ []
-unfolding keep range
-keep-none p zero e = refl
-keep-none p (suc n) e =
-    let q : p n ≡ false = e n (lt-suc-self n) in
-    keep-append p (range n) (n ∷ []) ∙ rw (keep-none p n (λ i l. e i (le-step l)), q)
+    go : (x : A) (b : Bool) → q x ≡ b → (b and p x) ≡ b
+    go x true t = e x t
+    go x false t = refl
 
 -- ---- points
 

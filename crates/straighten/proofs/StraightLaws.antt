@@ -13,7 +13,7 @@ use borrow.Author.Tests.{le-leb}
 use Rattle.events.specs.declared.event.Event.{Event}
 use Rattle.events.specs.Lists.{_and_, all, keep, push, range}
 use Rattle.events.specs.Events.{eventAt, begins}
-use Rattle.events.proofs.ListLaws.{and-l, and-r, and-i, imp-i, not-true, clash, keep-length}
+use Rattle.events.proofs.ListLaws.{and-l, and-r, and-i, imp-i, not-true, clash, keep-length, keep-none}
 use Rattle.opacity.specs.declared.verdict.Rule.the-variants.{D, E}
 use Rattle.opacity.specs.declared.verdict.Verdict.the-variants.{Accepted}
 use Rattle.opacity.specs.Transactions.{isStoreRead, storeReads}
@@ -26,7 +26,7 @@ use Rattle.opacity.proofs.Rules.{legal-gap, accepted-justified, justified-accep
 use Rattle.opacity.proofs.VerdictLaws.{accepted-rules}
 use Rattle.marking.proofs.ReadBack.{rising, passing-rise}
 use Rattle.straighten.specs.Straight.{stands, atReader, straightPoint, straightened, movedEvents, Rises}
-use Rattle.straighten.proofs.PointLaws.{pointWith, by-event, keep-map, keep-keep, keep-none, map-none, rises}
+use Rattle.straighten.proofs.PointLaws.{pointWith, by-event, keep-map, keep-keep, map-none, rises}
 
 -- ---- an event that is no store read breaks neither D nor E at any gap, and nothing breaks D at its reader's place
 
