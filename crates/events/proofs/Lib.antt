@@ -7,5 +7,6 @@ pub mod RecordLaws
 pub mod StateLaws
 pub mod StepLaws
 pub mod CheckLaws
+pub mod StartLaws
 pub mod ReadableLaws
 pub mod FieldLaws

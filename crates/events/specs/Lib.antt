@@ -1,5 +1,6 @@
 pub mod Lists
 pub mod Bytes
+pub mod Starts
 pub mod Events
 pub mod Columns
 pub mod Questions
