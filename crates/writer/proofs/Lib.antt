@@ -1,3 +1,4 @@
+pub mod StartLaws
 pub mod FileLaws
 pub mod FieldLaws
 pub mod ReadBack

@@ -1,0 +1,83 @@
+-- `put_start` meets its contract. Assumes nothing.
+use Rattle.events.specs.Bytes.{u16Bytes, u32Bytes, placed}
+use Rattle.events.proofs.BufferLaws.{placed-more}
+use Rattle.writer.specs.Writing.{startBytes, startRecord}
+use Rattle.writer.proofs.FileLaws.{placed-none}
+use Rattle.writer.proofs.StartLaws.{no-record, whole-record}
+use borrow.Author.Needs.{needs}
+use mathlib.Core.Path.{_≡_, refl, sym, ap, _∙_}
+use Prim.Native.Nat.{ℕ, _+_, _≤_}
+use native.Mathlib.Omega.{arith}
+use denote.Ref.{now}
+use lib.ListN.{length}
+use mathlib.Core.List.{List, _++_}
+use Rattle.writer.proofs.starts.put_start.Statement.{statement}
+use Rattle.writer.proofs.starts.put_start.Tie as tie
+
+-- there is room for the record
+room : (c : tie.Else1) → c .before .before .args .at + 10 ≤ length (now (c .before .before .args .out))
+room c =
+    let a = c .before .before .args in
+    let e : length (startRecord (a .register) (a .value)) ≡ 10 = ap (λ (l : List ℕ). length l) (whole-record (a .register) (a .value) (c .if1 .left)) in
+    rw e at (c .before .before .pre)
+
+returns : tie.Need-returns
+returns c =
+    let a = c .before .before .args in
+    sym (ap (placed (now (a .out)) (a .at)) (no-record (a .register) (a .value) (c .if1 .taken)) ∙ placed-none (now (a .out)) (a .at))
+
+put-u16-requires : tie.Need-put-u16-requires
+put-u16-requires c κs = omega (arith, room (c .before))
+
+add-put-u16 : tie.Need-add-put-u16
+add-put-u16 c = search needs
+
+put-u16-requires-2 : tie.Need-put-u16-requires-2
+put-u16-requires-2 c κs = omega (arith, room (c .before .before .before .before .before), c .before .before .before .put-u16 .kept .0)
+
+add-put-u16-2 : tie.Need-add-put-u16-2
+add-put-u16-2 c = search needs
+
+put-u16-requires-3 : tie.Need-put-u16-requires-3
+put-u16-requires-3 c κs = omega (arith, room (c .before .before .before .before .before .before .before .before .before), c .before .before .before .put-u162 .kept .0, c .before .before .before .before .before .before .before .put-u16 .kept .0)
+
+add-put-u32 : tie.Need-add-put-u32
+add-put-u32 c = search needs
+
+put-u32-requires : tie.Need-put-u32-requires
+put-u32-requires c κs = omega (arith, room (c .before .before .before .before .before .before .before .before .before .before .before .before .before), c .before .before .before .put-u163 .kept .0, c .before .before .before .before .before .before .before .put-u162 .kept .0, c .before .before .before .before .before .before .before .before .before .before .before .put-u16 .kept .0)
+
+same-length : tie.Need-same-length
+same-length c = search needs
+
+returns-2 : tie.Need-returns-2
+returns-2 c =
+    let b = c .before .before .before .before .before .before .before .before .before .before .before .before .before .before .before .before in
+    let a = b .before .before .args in
+    let o = now (a .out) in
+    let h = room b in
+    c .before .before .put-u32 .ensures
+    ∙ (ap (λ (l : List ℕ). placed l (a .at + 6) (u32Bytes (a .value)))
+    (c .before .before .before .before .before .before .put-u163 .ensures
+    ∙ (ap (λ (l : List ℕ). placed l (a .at + 4) (u16Bytes (a .register)))
+    (c .before .before .before .before .before .before .before .before .before .before .put-u162 .ensures
+    ∙ (ap (λ (l : List ℕ). placed l (a .at + 2) (u16Bytes 3)) (c .before .before .before .before .before .before .before .before .before .before .before .before .before .before .put-u16 .ensures)
+    ∙ placed-more o (a .at) (u16Bytes 8) (u16Bytes 3) (a .at + 2) refl (omega arith)))
+    ∙ placed-more o (a .at) (u16Bytes 8 ++ u16Bytes 3) (u16Bytes (a .register)) (a .at + 4) refl (omega arith)))
+    ∙ (placed-more o (a .at) (u16Bytes 8 ++ (u16Bytes 3 ++ u16Bytes (a .register))) (u32Bytes (a .value)) (a .at + 6) refl (omega arith)
+    ∙ sym (ap (placed o (a .at)) (whole-record (a .register) (a .value) (b .if1 .left)))))
+
+pub put-start-spec : {M : Type 1} → statement M
+put-start-spec =
+    tie.close
+    (tie.spec
+    returns
+    put-u16-requires
+    add-put-u16
+    put-u16-requires-2
+    add-put-u16-2
+    put-u16-requires-3
+    add-put-u32
+    put-u32-requires
+    same-length
+    returns-2)
