@@ -2,3 +2,4 @@ pub mod WalkLaws
 pub mod FillLaws
 pub mod AnswerLaws
 pub mod OpeningLaws
+pub mod FirstEdition

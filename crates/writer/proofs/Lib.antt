@@ -4,3 +4,4 @@ pub mod FieldLaws
 pub mod ReadBack
 pub mod WriteBack
 pub mod RoundTrip
+pub mod FirstEdition
