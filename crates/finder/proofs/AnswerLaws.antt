@@ -4,28 +4,28 @@ use mathlib.Core.Path.{_≡_, refl, sym, ap₂, _∙_}
 use Prim.Native.Nat.{ℕ, _≤_, _<_}
 use native.Mathlib.Omega.{arith}
 use mathlib.Core.Bool.{true, false}
-use mathlib.Core.List.{List, [], _∷_}
+use mathlib.Core.List.{List}
 use mathlib.Core.Option.{Option, none, some, Option·none-ne-some, Option·some-ne-none, Option·some-injective}
-use lib.Dec.{leb}
-use lib.ListN.{length, take, replicate}
+use lib.ListN.{length, take}
 use borrow.Author.Tests.{le-leb, lt-leb, leb-true}
 use Rattle.events.specs.declared.event.Event.{Event}
 use Rattle.events.specs.declared.columns.Checked.{Checked}
 use Rattle.events.specs.Bytes.{over}
 use Rattle.events.specs.Events.{begins}
 use Rattle.events.specs.Columns.{Columns, history, hold}
-use Rattle.events.specs.Questions.{ask, readable, eventsAnswer, columnsAnswer}
-use Rattle.events.proofs.ColumnLaws.{history-take}
-use Rattle.events.proofs.QuestionLaws.{answer-readable, readable-answer}
+use Rattle.events.specs.Starts.{startOf, admits}
+use Rattle.events.specs.Questions.{readable, eventsAnswer, columnsAnswer}
+use Rattle.events.proofs.ColumnLaws.{history-take, hold-e}
+use Rattle.events.proofs.QuestionLaws.{answer-readable}
+use Rattle.events.proofs.ReadableLaws.{readable-columns}
 use Rattle.opacity.specs.Justification.{Place}
 use Rattle.opacity.specs.Lowest.{lowestOf}
 use Rattle.opacity.specs.Marking.{marked, markingBytes}
+use Rattle.opacity.specs.Counts.{HoldsReadable}
+use Rattle.opacity.proofs.CountLaws.{checked-readable}
 use Rattle.tables.proofs.CallLaws.{asked-none, asked-yes, asked-no, asked-e, then-readable, then-refused, then-e}
-use Rattle.tables.proofs.JudgedLaws.{start-zero}
-use Rattle.tables.specs.Order.{startOf}
-use Rattle.tables.specs.Calls.{askedOf}
 use Rattle.finder.specs.declared.Found.{Found}
-use Rattle.finder.specs.Answer.{markingSize, gives, decided, prefixRefusal, findRefusal, markingOf, lowestMarking, foundAnswer}
+use Rattle.finder.specs.Answer.{markingSize, gives, decided, prefixRefusal, callRefusal, findRefusal, markingOf, lowestMarking, foundAnswer}
 
 -- ---- what is decided
 
@@ -99,71 +99,102 @@ refused-e (Checked.Refused p f) m o q e w =
 refused-e Checked.Readable none o q e w = let z : _≡_ {A = ℕ} 0 1 = cc in absurd (omega arith)
 refused-e Checked.Readable (some bytes) o q e w = let z : _≡_ {A = ℕ} 0 1 = cc in absurd (omega arith)
 
--- ---- the questions of a call
+-- ---- the questions of a call and of its events
 
--- what it tells that no question refuses a call
-pub record Passed (c : Columns) (count prefix room : ℕ) : Type 0 where
-  pub held : hold c count ≡ true
-  pub inside : prefix ≤ count
-  pub readable : readable (history c count) ≡ true
-  pub few : begins (take prefix (history c count)) ≤ 10
-  pub fits : markingSize (take prefix (history c count)) ≤ room
+module _ (edition : ℕ) (starts : List ℕ) (c : Columns) (count prefix : ℕ) where
+  -- what it tells that none of them refuses
+  pub record Called : Type 0 where
+    pub held : hold c count ≡ true
+    pub admitted : admits edition starts ≡ true
+    pub inside : prefix ≤ count
+    pub readable : readable (history c count) ≡ true
 
-pub passed : (c : Columns) (count prefix room : ℕ) → findRefusal c count prefix room ≡ Checked.Readable → Passed c count prefix room
-unfolding findRefusal
-passed c count prefix room x =
-    let a = then-e _ _ x in
-    let b = then-e _ _ (a .1) in
-    let d = asked-e count 17 _ _ (a .0) in
-    let f = asked-e count 18 _ _ (d .1) in
-    let g = prefix-e (take prefix (history c count)) count room (b .1) in
-    record {
-      held = d .0;
-      inside = leb-true _ _ (f .0);
-      readable = answer-readable (history c count) (b .0);
-      few = g .0;
-      fits = g .1;
-    }
+  called : callRefusal edition starts c count prefix ≡ Checked.Readable → Called
+  unfolding callRefusal
+  called x =
+      let a = then-e _ _ x in
+      let d = asked-e count 17 _ _ (a .0) in
+      let g = asked-e count 3 _ _ (d .1) in
+      let f = asked-e count 18 _ _ (g .1) in
+      record { held = d .0; admitted = g .0; inside = leb-true _ _ (f .0); readable = answer-readable (history c count) (a .1) }
 
-pub passes : (c : Columns) (count prefix room : ℕ) → Passed c count prefix room → findRefusal c count prefix room ≡ Checked.Readable
-unfolding findRefusal
-passes c count prefix room p =
-    then-readable _ (asked-yes count 17 _ _ (p .held) ∙ asked-yes count 18 _ _ (le-leb _ _ (p .inside)) ∙ asked-none count)
-    ∙ then-readable _ (readable-answer (history c count) (p .readable))
-    ∙ passes-31-32 (take prefix (history c count)) count room (p .few) (p .fits)
+  -- one after the other, as `check_call` puts them
+  pub not-held : hold c count ≡ false → Checked.Refused 17 count ≡ callRefusal edition starts c count prefix
+  unfolding callRefusal
+  not-held e = sym (then-refused _ (asked-no count 17 _ _ e))
 
--- ---- the questions one after the other, as `find_marking` puts them
+  pub not-admitted : hold c count ≡ true → admits edition starts ≡ false → Checked.Refused 3 count ≡ callRefusal edition starts c count prefix
+  unfolding callRefusal
+  not-admitted e a = sym (then-refused _ (asked-yes count 17 _ _ e ∙ asked-no count 3 _ _ a))
 
-module _ (c : Columns) (count prefix : ℕ) (o : List ℕ) where
-  pub not-held : hold c count ≡ false → gives (Found.Refused 17 count) o ≡ foundAnswer c count prefix o
-  unfolding foundAnswer findRefusal
-  not-held e = decided-refused _ o (then-refused _ (asked-no count 17 _ _ e))
-
-  pub too-long : hold c count ≡ true → count < prefix → gives (Found.Refused 18 count) o ≡ foundAnswer c count prefix o
-  unfolding foundAnswer findRefusal
-  too-long e l = decided-refused _ o (then-refused _ (asked-yes count 17 _ _ e ∙ asked-no count 18 _ _ (lt-leb prefix count l)))
+  pub too-long : hold c count ≡ true → admits edition starts ≡ true → count < prefix → Checked.Refused 18 count ≡ callRefusal edition starts c count prefix
+  unfolding callRefusal
+  too-long e a l =
+      sym (then-refused _ (asked-yes count 17 _ _ e ∙ asked-yes count 3 _ _ a ∙ asked-no count 18 _ _ (lt-leb prefix count l)))
 
   held-events : hold c count ≡ true → columnsAnswer c count ≡ eventsAnswer (history c count)
   unfolding columnsAnswer
   held-events e = rw e
 
-  first-asked : hold c count ≡ true → prefix ≤ count → askedOf count (ask 17 (hold c count) ∷ ask 18 (leb prefix count) ∷ []) ≡ Checked.Readable
-  first-asked e l = asked-yes count 17 _ _ e ∙ asked-yes count 18 _ _ (le-leb prefix count l) ∙ asked-none count
+  pub events-asked : hold c count ≡ true → admits edition starts ≡ true → prefix ≤ count → columnsAnswer c count ≡ callRefusal edition starts c count prefix
+  unfolding callRefusal
+  events-asked e a l =
+      held-events e
+      ∙ sym (then-readable _ (asked-yes count 17 _ _ e ∙ asked-yes count 3 _ _ a ∙ asked-yes count 18 _ _ (le-leb prefix count l) ∙ asked-none count))
 
-  pub event-refused : {q i : ℕ} → hold c count ≡ true → prefix ≤ count → columnsAnswer c count ≡ Checked.Refused q i
-      → gives (Found.Refused q i) o ≡ foundAnswer c count prefix o
+  pub called-readable : callRefusal edition starts c count prefix ≡ Checked.Readable → HoldsReadable c count × (prefix ≤ count)
+  called-readable x =
+      let p = called x in
+      (checked-readable c count (events-asked (p .held) (p .admitted) (p .inside) ∙ x), p .inside)
+
+-- ---- all questions
+
+-- what it tells that no question refuses a call
+pub record Passed (edition : ℕ) (starts : List ℕ) (c : Columns) (count prefix room : ℕ) : Type 0 where
+  pub held : hold c count ≡ true
+  pub admitted : admits edition starts ≡ true
+  pub inside : prefix ≤ count
+  pub readable : readable (history c count) ≡ true
+  pub few : begins (take prefix (history c count)) ≤ 10
+  pub fits : markingSize (take prefix (history c count)) ≤ room
+
+module _ (edition : ℕ) (starts : List ℕ) (c : Columns) (count prefix room : ℕ) where
+  pub passed : findRefusal edition starts c count prefix room ≡ Checked.Readable → Passed edition starts c count prefix room
+  unfolding findRefusal
+  passed x =
+      let a = then-e _ _ x in
+      let p = called edition starts c count prefix (a .0) in
+      let g = prefix-e (take prefix (history c count)) count room (a .1) in
+      record {
+        held = p .held;
+        admitted = p .admitted;
+        inside = p .inside;
+        readable = p .readable;
+        few = g .0;
+        fits = g .1;
+      }
+
+  pub passes : Passed edition starts c count prefix room → findRefusal edition starts c count prefix room ≡ Checked.Readable
+  unfolding findRefusal
+  passes p =
+      let k : columnsAnswer c count ≡ Checked.Readable = readable-columns c count (hold-e c count (p .held)) (p .readable) in
+      then-readable _ (sym (events-asked edition starts c count prefix (p .held) (p .admitted) (p .inside)) ∙ k)
+      ∙ passes-31-32 (take prefix (history c count)) count room (p .few) (p .fits)
+
+-- ---- what is decided of a call
+
+module _ (edition : ℕ) (starts : List ℕ) (c : Columns) (count prefix : ℕ) (o : List ℕ) where
+  pub call-refused : {q i : ℕ} → callRefusal edition starts c count prefix ≡ Checked.Refused q i → gives (Found.Refused q i) o ≡ foundAnswer edition starts c count prefix o
   unfolding foundAnswer findRefusal
-  event-refused e l x =
-      decided-refused _ o (then-readable _ (first-asked e l) ∙ then-refused _ (sym (held-events e) ∙ x))
+  call-refused x = decided-refused _ o (then-refused _ x)
 
   -- where the events are readable, what is left is asked and decided of the prefix alone
-  pub prefix-decides : hold c count ≡ true → prefix ≤ count → columnsAnswer c count ≡ Checked.Readable
-      → decided (prefixRefusal (history c prefix) count (length o)) (lowestMarking (startOf (replicate 32 0)) (history c prefix)) o ≡ foundAnswer c count prefix o
+  pub prefix-decides : callRefusal edition starts c count prefix ≡ Checked.Readable
+      → decided (prefixRefusal (history c prefix) count (length o)) (lowestMarking (startOf starts) (history c prefix)) o ≡ foundAnswer edition starts c count prefix o
   unfolding foundAnswer findRefusal
-  prefix-decides e l x =
-      let a : findRefusal c count prefix (length o) ≡ prefixRefusal (take prefix (history c count)) count (length o) =
-      then-readable _ (first-asked e l) ∙ then-readable _ (sym (held-events e) ∙ x) in
-      rw (a, history-take c count prefix l, start-zero)
+  prefix-decides x =
+      let a : findRefusal edition starts c count prefix (length o) ≡ prefixRefusal (take prefix (history c count)) count (length o) = then-readable _ x in
+      rw (a, history-take c count prefix (called edition starts c count prefix x .inside))
 
 -- ---- the lowest marking
 

@@ -3,8 +3,8 @@
 use mathlib.Core.Path.{_≡_, refl, sym, ap, ap₂, _∙_}
 use mathlib.Core.Logic.{_↔_}
 use Prim.Native.Nat.{ℕ, _≤_}
-use mathlib.Core.Bool.{true}
-use mathlib.Core.List.{List}
+use mathlib.Core.Bool.{Bool, true, false}
+use mathlib.Core.List.{List, [], _∷_}
 use mathlib.Core.Option.{Option, none, some}
 use lib.ListN.{length, take, drop}
 use Rattle.events.proofs.BufferLaws.{take-over, drop-over}
@@ -12,98 +12,102 @@ use Rattle.events.specs.declared.event.Event.{Event}
 use Rattle.events.specs.declared.columns.Checked.{Checked}
 use Rattle.events.specs.Bytes.{over}
 use Rattle.events.specs.Columns.{Columns, history, hold}
-use Rattle.events.specs.Questions.{readable}
+use Rattle.events.specs.Starts.{startOf, noStarts}
+use Rattle.events.specs.Questions.{Question, ask, readable, eventsAnswer}
 use Rattle.events.proofs.ColumnLaws.{history-length}
 use Rattle.events.proofs.QuestionLaws.{readable-take}
-use Rattle.opacity.specs.Justification.{Place, Justified, zeros}
+use Rattle.events.proofs.StartLaws.{no-starts, first-admitted}
+use Rattle.opacity.specs.Justification.{Place, Justified}
 use Rattle.opacity.specs.Lowest.{LowestJustified}
 use Rattle.opacity.specs.Serial.{Serial, LowestSerial}
 use Rattle.opacity.specs.Marking.{ReadableFor, marked, markingBytes, verdict}
 use Rattle.opacity.specs.declared.verdict.Verdict.{Verdict}
 use Rattle.opacity.proofs.Least.{lowest-least}
 use Rattle.opacity.proofs.Theorems.{lowest-some, lowest-none, prefix-lowest-serial, prefix-none-serial, marked-is-readable, marked-is-accepted}
+use Rattle.tables.specs.Calls.{askedOf, thenChecked}
+use Rattle.tables.proofs.CallLaws.{asked-yes, asked-no, then-then}
 use Rattle.finder.specs.declared.Found.{Found}
-use Rattle.finder.specs.Answer.{Given, gives, decided, findRefusal, lowestMarking, foundAnswer}
+use Rattle.finder.specs.Answer.{Given, gives, decided, prefixRefusal, callRefusal, findRefusal, lowestMarking, foundAnswer, firstEditionRefusal, firstEditionAnswer}
 use Rattle.finder.proofs.AnswerLaws.{decided-refused, decided-marking, decided-none, marking-e, none-e, refused-e, passed, marking-some, some-marking, none-marking, marking-none}
 
--- a call: columns, count, prefix length, and the output as it was
-module _ (c : Columns) (count prefix : ℕ) (output : List ℕ) where
-  -- the events judged: the first `prefix` of the first `count`
+-- a call: edition, start values, columns, count, prefix length, and the output as it was
+module _ (edition : ℕ) (starts : List ℕ) (c : Columns) (count prefix : ℕ) (output : List ℕ) where
+  -- the events judged: the first `prefix` of the first `count`, with the start values of the whole
   abbrev pub judged : List Event
   judged = take prefix (history c count)
 
   -- no question says no
   abbrev pub Passes : Type 0
-  Passes = findRefusal c count prefix (length output) ≡ Checked.Readable
+  Passes = findRefusal edition starts c count prefix (length output) ≡ Checked.Readable
 
   inside : Passes → prefix ≤ length (history c count)
-  inside x = rw (history-length c count) (passed c count prefix (length output) x .inside)
+  inside x = rw (history-length c count) (passed edition starts c count prefix (length output) x .inside)
 
   judged-readable : Passes → readable judged ≡ true
-  judged-readable x = readable-take (history c count) prefix (inside x) (passed c count prefix (length output) x .readable)
+  judged-readable x = readable-take (history c count) prefix (inside x) (passed edition starts c count prefix (length output) x .readable)
 
   -- A question refuses exactly where it is the first that says no, and then the output is as it was.
-  pub refused-exactly : (q e : ℕ) → (foundAnswer c count prefix output .result ≡ Found.Refused q e) ↔ (findRefusal c count prefix (length output) ≡ Checked.Refused q e)
+  pub refused-exactly : (q e : ℕ) → (foundAnswer edition starts c count prefix output .result ≡ Found.Refused q e) ↔ (findRefusal edition starts c count prefix (length output) ≡ Checked.Refused q e)
   unfolding foundAnswer
   refused-exactly q e = (
     λ x. refused-e _ _ output q e x .0,
-    λ x. ap (λ (g : Given). g .result) (sym (decided-refused (lowestMarking zeros judged) output x)),
+    λ x. ap (λ (g : Given). g .result) (sym (decided-refused (lowestMarking (startOf starts) judged) output x)),
   )
 
-  pub refused-unchanged : (q e : ℕ) → foundAnswer c count prefix output .result ≡ Found.Refused q e → foundAnswer c count prefix output .output ≡ output
+  pub refused-unchanged : (q e : ℕ) → foundAnswer edition starts c count prefix output .result ≡ Found.Refused q e → foundAnswer edition starts c count prefix output .output ≡ output
   unfolding foundAnswer
   refused-unchanged q e x = refused-e _ _ output q e x .1
 
   -- A marking is found exactly where the prefix has a justification,
-  pub marking-exactly : Passes → ((n : ℕ) × (foundAnswer c count prefix output .result ≡ Found.Marking n)) ↔ ((J : List Place) × Justified zeros judged J)
+  pub marking-exactly : Passes → ((n : ℕ) × (foundAnswer edition starts c count prefix output .result ≡ Found.Marking n)) ↔ ((J : List Place) × Justified (startOf starts) judged J)
   unfolding foundAnswer
   marking-exactly x = (
     λ w.
         let m = marking-e _ _ output (w .0) (w .1) in
-        let s = marking-some zeros judged (m .found) in
-        (s .0, lowest-some zeros judged (judged-readable x) (s .0) .0 (s .1) .justifies),
+        let s = marking-some (startOf starts) judged (m .found) in
+        (s .0, lowest-some (startOf starts) judged (judged-readable x) (s .0) .0 (s .1) .justifies),
     λ w.
-        let l = lowest-least zeros judged (w .1) in
-        let g = decided-marking _ output _ x (some-marking zeros judged (l .1)) refl refl in
+        let l = lowest-least (startOf starts) judged (w .1) in
+        let g = decided-marking _ output _ x (some-marking (startOf starts) judged (l .1)) refl refl in
         (length (markingBytes (marked judged (l .0))), ap (λ (v : Given). v .result) (sym g)),
   )
 
   -- and none exactly where it has none; with none the output is as it was.
-  pub none-exactly : Passes → (foundAnswer c count prefix output .result ≡ Found.None) ↔ ((J : List Place) → Justified zeros judged J → ⊥)
+  pub none-exactly : Passes → (foundAnswer edition starts c count prefix output .result ≡ Found.None) ↔ ((J : List Place) → Justified (startOf starts) judged J → ⊥)
   unfolding foundAnswer
   none-exactly x =
-      let e = lowest-none zeros judged (judged-readable x) in (
-        λ w. e .0 (marking-none zeros judged (none-e _ _ output w .1)),
-        λ f. ap (λ (v : Given). v .result) (sym (decided-none output x (none-marking zeros judged (e .1 f)))),
+      let e = lowest-none (startOf starts) judged (judged-readable x) in (
+        λ w. e .0 (marking-none (startOf starts) judged (none-e _ _ output w .1)),
+        λ f. ap (λ (v : Given). v .result) (sym (decided-none output x (none-marking (startOf starts) judged (e .1 f)))),
       )
 
-  pub none-unchanged : foundAnswer c count prefix output .result ≡ Found.None → foundAnswer c count prefix output .output ≡ output
+  pub none-unchanged : foundAnswer edition starts c count prefix output .result ≡ Found.None → foundAnswer edition starts c count prefix output .output ≡ output
   unfolding foundAnswer
   none-unchanged x = none-e _ _ output x .2
 
   -- The lowest justification's marking is what is written, from the output's first byte, and its length is what is returned.
-  pub lowest-written : Passes → (J : List Place) → LowestJustified zeros judged J
-      → foundAnswer c count prefix output ≡ gives (Found.Marking (length (markingBytes (marked judged J)))) (over (markingBytes (marked judged J)) output)
+  pub lowest-written : Passes → (J : List Place) → LowestJustified (startOf starts) judged J
+      → foundAnswer edition starts c count prefix output ≡ gives (Found.Marking (length (markingBytes (marked judged J)))) (over (markingBytes (marked judged J)) output)
   unfolding foundAnswer
-  lowest-written x J j = sym (decided-marking _ output _ x (some-marking zeros judged (lowest-some zeros judged (judged-readable x) J .1 j)) refl refl)
+  lowest-written x J j = sym (decided-marking _ output _ x (some-marking (startOf starts) judged (lowest-some (startOf starts) judged (judged-readable x) J .1 j)) refl refl)
 
   -- What is written is the marking of the lowest justification. It is readable for the prefix, and the rules accept it.
   pub record Written (n : ℕ) : Type 0 where
     pub passes : Passes
     pub order : List Place
-    pub lowest : LowestJustified zeros judged order
-    pub bytes : take n (foundAnswer c count prefix output .output) ≡ markingBytes (marked judged order)
-    pub behind : drop n (foundAnswer c count prefix output .output) ≡ drop n output
+    pub lowest : LowestJustified (startOf starts) judged order
+    pub bytes : take n (foundAnswer edition starts c count prefix output .output) ≡ markingBytes (marked judged order)
+    pub behind : drop n (foundAnswer edition starts c count prefix output .output) ≡ drop n output
     pub readable : ReadableFor judged (marked judged order)
-    pub accepted : verdict zeros judged (marked judged order) ≡ Verdict.Accepted
+    pub accepted : verdict (startOf starts) judged (marked judged order) ≡ Verdict.Accepted
 
-  pub written : (n : ℕ) → foundAnswer c count prefix output .result ≡ Found.Marking n → Written n
+  pub written : (n : ℕ) → foundAnswer edition starts c count prefix output .result ≡ Found.Marking n → Written n
   unfolding foundAnswer
   written n x =
       let m = marking-e _ _ output n x in
-      let s = marking-some zeros judged (m .found) in
+      let s = marking-some (startOf starts) judged (m .found) in
       let r = judged-readable (m .passes) in
-      let l = lowest-some zeros judged r (s .0) .0 (s .1) in
+      let l = lowest-some (startOf starts) judged r (s .0) .0 (s .1) in
       let k : length (m .bytes) ≡ n = sym (m .size) in
       record {
         passes = m .passes;
@@ -111,31 +115,31 @@ module _ (c : Columns) (count prefix : ℕ) (output : List ℕ) where
         lowest = l;
         bytes = rw (m .output) (take-over (m .bytes) output n k ∙ s .2);
         behind = rw (m .output) (drop-over (m .bytes) output n k);
-        readable = marked-is-readable zeros judged r (s .0) (l .justifies);
-        accepted = marked-is-accepted zeros judged r (s .0) (l .justifies);
+        readable = marked-is-readable (startOf starts) judged r (s .0) (l .justifies);
+        accepted = marked-is-accepted (startOf starts) judged r (s .0) (l .justifies);
       }
 
   -- The same in the words of a machine that runs the transactions one at a time: the marking is that of the lowest order that explains
   -- the prefix, and none is found exactly where no order explains it.
-  pub lowest-serial-written : Passes → (J : List Place) → LowestSerial zeros judged J
-      → foundAnswer c count prefix output ≡ gives (Found.Marking (length (markingBytes (marked judged J)))) (over (markingBytes (marked judged J)) output)
+  pub lowest-serial-written : Passes → (J : List Place) → LowestSerial (startOf starts) judged J
+      → foundAnswer edition starts c count prefix output ≡ gives (Found.Marking (length (markingBytes (marked judged J)))) (over (markingBytes (marked judged J)) output)
   unfolding foundAnswer
   lowest-serial-written x J s =
-      let e = prefix-lowest-serial zeros (history c count) (passed c count prefix (length output) x .readable) prefix (inside x) J .1 s in
-      sym (decided-marking _ output _ x (some-marking zeros judged e) refl refl)
+      let e = prefix-lowest-serial (startOf starts) (history c count) (passed edition starts c count prefix (length output) x .readable) prefix (inside x) J .1 s in
+      sym (decided-marking _ output _ x (some-marking (startOf starts) judged e) refl refl)
 
-  pub none-serial : Passes → (foundAnswer c count prefix output .result ≡ Found.None) ↔ ((K : List Place) → Serial zeros judged K → ⊥)
+  pub none-serial : Passes → (foundAnswer edition starts c count prefix output .result ≡ Found.None) ↔ ((K : List Place) → Serial (startOf starts) judged K → ⊥)
   unfolding foundAnswer
   none-serial x =
-      let e = prefix-none-serial zeros (history c count) (passed c count prefix (length output) x .readable) prefix (inside x) in (
-        λ w. e .0 (marking-none zeros judged (none-e _ _ output w .1)),
-        λ f. ap (λ (v : Given). v .result) (sym (decided-none output x (none-marking zeros judged (e .1 f)))),
+      let e = prefix-none-serial (startOf starts) (history c count) (passed edition starts c count prefix (length output) x .readable) prefix (inside x) in (
+        λ w. e .0 (marking-none (startOf starts) judged (none-e _ _ output w .1)),
+        λ f. ap (λ (v : Given). v .result) (sym (decided-none output x (none-marking (startOf starts) judged (e .1 f)))),
       )
 
-refusal-same : (c d : Columns) (count prefix : ℕ) {m n : ℕ} → hold c count ≡ hold d count → history c count ≡ history d count → m ≡ n
-    → findRefusal c count prefix m ≡ findRefusal d count prefix n
-unfolding findRefusal
-refusal-same c d count prefix e f g = rw (e, f, g)
+refusal-same : (edition : ℕ) (starts : List ℕ) (c d : Columns) (count prefix : ℕ) {m n : ℕ} → hold c count ≡ hold d count → history c count ≡ history d count → m ≡ n
+    → findRefusal edition starts c count prefix m ≡ findRefusal edition starts d count prefix n
+unfolding findRefusal callRefusal
+refusal-same edition starts c d count prefix e f g = rw (e, f, g)
 
 result-same : (x : Checked) (m : Option (List ℕ)) (o p : List ℕ) → decided x m o .result ≡ decided x m p .result
 unfolding decided
@@ -145,9 +149,27 @@ result-same Checked.Readable (some bytes) o p = refl
 
 -- What stands in the columns past the count, and what the output held, make no difference: columns that hold the same events below the
 -- count, and an output of the same length, give the same result.
-pub past-count : (c d : Columns) (count prefix : ℕ) (output before : List ℕ) → hold c count ≡ hold d count → history c count ≡ history d count → length output ≡ length before
-    → foundAnswer c count prefix output .result ≡ foundAnswer d count prefix before .result
+pub past-count : (edition : ℕ) (starts : List ℕ) (c d : Columns) (count prefix : ℕ) (output before : List ℕ) → hold c count ≡ hold d count → history c count ≡ history d count → length output ≡ length before
+    → foundAnswer edition starts c count prefix output .result ≡ foundAnswer edition starts d count prefix before .result
 unfolding foundAnswer
-past-count c d count prefix output before e f g =
-    ap₂ (λ (x : Checked) (m : Option (List ℕ)). decided x m output .result) (refusal-same c d count prefix e f g) (ap (λ (h : List Event). lowestMarking zeros (take prefix h)) f)
-    ∙ result-same (findRefusal d count prefix (length before)) (lowestMarking zeros (take prefix (history d count))) output before
+past-count edition starts c d count prefix output before e f g =
+    ap₂ (λ (x : Checked) (m : Option (List ℕ)). decided x m output .result) (refusal-same edition starts c d count prefix e f g) (ap (λ (h : List Event). lowestMarking (startOf starts) (take prefix h)) f)
+    ∙ result-same (findRefusal edition starts d count prefix (length before)) (lowestMarking (startOf starts) (take prefix (history d count))) output before
+
+-- ---- edition 1
+
+-- a question that says yes may be left out
+left-out : (count n : ℕ) (a b : Bool) (q : Question) → b ≡ true → askedOf count (ask 17 a ∷ ask n b ∷ q ∷ []) ≡ askedOf count (ask 17 a ∷ q ∷ [])
+left-out count n true b q e = asked-yes count 17 _ _ refl ∙ asked-yes count n b _ e ∙ sym (asked-yes count 17 _ _ refl)
+left-out count n false b q e = asked-no count 17 _ _ refl ∙ sym (asked-no count 17 _ _ refl)
+
+-- A history of edition 1 is answered as it was before there were start values.
+pub first-edition : (c : Columns) (count prefix : ℕ) (output : List ℕ) → foundAnswer 1 noStarts c count prefix output ≡ firstEditionAnswer c count prefix output
+unfolding foundAnswer findRefusal callRefusal firstEditionAnswer firstEditionRefusal
+first-edition c count prefix output =
+    ap₂ (λ (x : Checked) (s : ℕ → ℕ). decided x (lowestMarking s (take prefix (history c count))) output) asked no-starts
+  where
+    asked : findRefusal 1 noStarts c count prefix (length output) ≡ firstEditionRefusal c count prefix (length output)
+    asked =
+        ap (λ (x : Checked). thenChecked (thenChecked x (eventsAnswer (history c count))) (prefixRefusal (take prefix (history c count)) count (length output))) (left-out count 3 _ _ _ first-admitted)
+        ∙ then-then _ _ _

@@ -10,6 +10,7 @@ use Rattle.events.specs.declared.columns.Checked.{Checked}
 use Rattle.events.specs.Bytes.{over}
 use Rattle.events.specs.Events.{begins}
 use Rattle.events.specs.Columns.{Columns, history, hold}
+use Rattle.events.specs.Starts.{startOf, admits}
 use Rattle.events.specs.Questions.{ask, eventsAnswer}
 use Rattle.opacity.specs.Transactions.{storeReads}
 use Rattle.opacity.specs.Justification.{Place, zeros}
@@ -46,12 +47,17 @@ unfoldable pub prefixRefusal : List Event → ℕ → ℕ → Checked
 prefixRefusal h count room =
     askedOf count (ask 31 (leb (begins h) 10) ∷ ask 32 (leb (markingSize h) room) ∷ [])
 
--- 17 and 18; every event below the count; 31 and 32: the first that says no, with its event
-unfoldable pub findRefusal : Columns → ℕ → ℕ → ℕ → Checked
-findRefusal c count prefix room =
-    thenChecked (askedOf count (ask 17 (hold c count) ∷ ask 18 (leb prefix count) ∷ []))
-    (thenChecked (eventsAnswer (history c count))
-    (prefixRefusal (take prefix (history c count)) count room))
+-- 17, 3 and 18, and then every event below the count
+unfoldable pub callRefusal : ℕ → List ℕ → Columns → ℕ → ℕ → Checked
+callRefusal edition starts c count prefix =
+    thenChecked (askedOf count (ask 17 (hold c count) ∷ ask 3 (admits edition starts) ∷ ask 18 (leb prefix count) ∷ []))
+    (eventsAnswer (history c count))
+
+-- the call and its events; 31 and 32: the first that says no, with its event
+unfoldable pub findRefusal : ℕ → List ℕ → Columns → ℕ → ℕ → ℕ → Checked
+findRefusal edition starts c count prefix room =
+    thenChecked (callRefusal edition starts c count prefix)
+    (prefixRefusal (take prefix (history c count)) count room)
 
 abbrev pub markingOf : List Event → Option (List Place) → Option (List ℕ)
 markingOf h none = none
@@ -67,6 +73,19 @@ decided (Checked.Refused q e) m o = gives (Found.Refused q e) o
 decided Checked.Readable none o = gives Found.None o
 decided Checked.Readable (some bytes) o = gives (Found.Marking (length bytes)) (over bytes o)
 
-unfoldable pub foundAnswer : Columns → ℕ → ℕ → List ℕ → Given
-foundAnswer c count prefix output =
-    decided (findRefusal c count prefix (length output)) (lowestMarking zeros (take prefix (history c count))) output
+-- a prefix keeps the edition and the start values of its history
+unfoldable pub foundAnswer : ℕ → List ℕ → Columns → ℕ → ℕ → List ℕ → Given
+foundAnswer edition starts c count prefix output =
+    decided (findRefusal edition starts c count prefix (length output)) (lowestMarking (startOf starts) (take prefix (history c count))) output
+
+-- The answer of edition 1, where every register starts at 0, as it was before there were start values: 17 and 18 and no 3, and 0 in
+-- every register before any writer.
+unfoldable pub firstEditionRefusal : Columns → ℕ → ℕ → ℕ → Checked
+firstEditionRefusal c count prefix room =
+    thenChecked (askedOf count (ask 17 (hold c count) ∷ ask 18 (leb prefix count) ∷ []))
+    (thenChecked (eventsAnswer (history c count))
+    (prefixRefusal (take prefix (history c count)) count room))
+
+unfoldable pub firstEditionAnswer : Columns → ℕ → ℕ → List ℕ → Given
+firstEditionAnswer c count prefix output =
+    decided (firstEditionRefusal c count prefix (length output)) (lowestMarking zeros (take prefix (history c count))) output

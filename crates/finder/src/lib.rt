@@ -4,9 +4,10 @@ ghost use Prim.Native.Nat.{_≤_};
 ghost use lib.ListN.{length};
 ghost use Rattle.events.specs.Columns.{columns, history};
 ghost use Rattle.events.specs.declared.columns.Checked.{Checked};
+ghost use Rattle.events.specs.Starts.{startOf};
 ghost use Rattle.opacity.specs.Counts.{HoldsReadable};
-ghost use Rattle.tables.specs.Order.{startOf, Judged};
-ghost use Rattle.finder.specs.Answer.{markingSize, lowestMarking, gives, decided, prefixRefusal, foundAnswer};
+ghost use Rattle.tables.specs.Order.{Judged};
+ghost use Rattle.finder.specs.Answer.{markingSize, lowestMarking, gives, decided, callRefusal, prefixRefusal, foundAnswer};
 
 pub mod writer;
 
@@ -24,7 +25,7 @@ pub enum Found {
 
 // The lowest marking of the first n events, if they have one, put into an output that has room for any.
 fn find_lowest(
-    initial: &[u32; 32],
+    starts: &[u32; 32],
     kinds: &[u16],
     transactions: &[u16],
     registers: &[u16],
@@ -34,9 +35,9 @@ fn find_lowest(
 ) -> Found
     requires { ⌜ Judged (columns (now kinds) (now transactions) (now registers) (now values)) n ⌝ }
     requires { ⌜ markingSize (history (columns (now kinds) (now transactions) (now registers) (now values)) n) ≤ length (now output) ⌝ }
-    ensures { λ r. ⌜ gives r (now (output .exit)) ≡ decided Checked.Readable (lowestMarking (startOf (now (initial .entry))) (history (columns (now (kinds .entry)) (now (transactions .entry)) (now (registers .entry)) (now (values .entry))) n)) (now (output .entry)) ⌝ }
+    ensures { λ r. ⌜ gives r (now (output .exit)) ≡ decided Checked.Readable (lowestMarking (startOf (now (starts .entry))) (history (columns (now (kinds .entry)) (now (transactions .entry)) (now (registers .entry)) (now (values .entry))) n)) (now (output .entry)) ⌝ }
 {
-    let a = tables::find_order(initial, kinds, transactions, registers, values, n);
+    let a = tables::find_order(starts, kinds, transactions, registers, values, n);
     if !a.found {
         return Found::None;
     }
@@ -58,7 +59,7 @@ fn find_lowest(
 
 // Questions 31 and 32, with the count as their event, and then the lowest marking, of the first n events.
 fn find_readable(
-    initial: &[u32; 32],
+    starts: &[u32; 32],
     kinds: &[u16],
     transactions: &[u16],
     registers: &[u16],
@@ -69,7 +70,7 @@ fn find_readable(
 ) -> Found
     requires { ⌜ HoldsReadable (columns (now kinds) (now transactions) (now registers) (now values)) count ⌝ }
     requires { ⌜ n ≤ count ⌝ }
-    ensures { λ r. ⌜ gives r (now (output .exit)) ≡ decided (prefixRefusal (history (columns (now (kinds .entry)) (now (transactions .entry)) (now (registers .entry)) (now (values .entry))) n) count (length (now (output .entry)))) (lowestMarking (startOf (now (initial .entry))) (history (columns (now (kinds .entry)) (now (transactions .entry)) (now (registers .entry)) (now (values .entry))) n)) (now (output .entry)) ⌝ }
+    ensures { λ r. ⌜ gives r (now (output .exit)) ≡ decided (prefixRefusal (history (columns (now (kinds .entry)) (now (transactions .entry)) (now (registers .entry)) (now (values .entry))) n) count (length (now (output .entry)))) (lowestMarking (startOf (now (starts .entry))) (history (columns (now (kinds .entry)) (now (transactions .entry)) (now (registers .entry)) (now (values .entry))) n)) (now (output .entry)) ⌝ }
 {
     let begun = opacity::counts::transactions_begun(kinds, transactions, registers, values, n);
     if begun > SEARCHED {
@@ -85,12 +86,48 @@ fn find_readable(
             event: count,
         };
     }
-    find_lowest(initial, kinds, transactions, registers, values, n, output)
+    find_lowest(starts, kinds, transactions, registers, values, n, output)
 }
 
-// The lowest marking of the first `prefix` of the first `count` events, written from the output's first byte. Every register
-// is 0 before any writer.
+// The questions of the call and of its events: 17, 3 and 18, with the count as their event, and then each event's own.
+fn check_call(
+    edition: u16,
+    starts: &[u32; 32],
+    kinds: &[u16],
+    transactions: &[u16],
+    registers: &[u16],
+    values: &[u32],
+    count: usize,
+    prefix: usize,
+) -> Checked
+    ensures { λ r. ⌜ r ≡ callRefusal edition (now (starts .entry)) (columns (now (kinds .entry)) (now (transactions .entry)) (now (registers .entry)) (now (values .entry))) count prefix ⌝ }
+{
+    if !events::columns::columns_hold(kinds, transactions, registers, values, count) {
+        return Checked::Refused {
+            question: 17,
+            event: count,
+        };
+    }
+    if !events::starts::is_admitted(edition, starts) {
+        return Checked::Refused {
+            question: 3,
+            event: count,
+        };
+    }
+    if prefix > count {
+        return Checked::Refused {
+            question: 18,
+            event: count,
+        };
+    }
+    events::columns::check_columns(kinds, transactions, registers, values, count)
+}
+
+// The lowest marking of the first `prefix` of the first `count` events, written from the output's first byte. The prefix keeps
+// the edition and the start values of its history.
 pub fn find_marking(
+    edition: u16,
+    starts: &[u32; 32],
     kinds: &[u16],
     transactions: &[u16],
     registers: &[u16],
@@ -99,27 +136,23 @@ pub fn find_marking(
     prefix: usize,
     output: &mut [u8],
 ) -> Found
-    ensures { λ r. ⌜ gives r (now (output .exit)) ≡ foundAnswer (columns (now (kinds .entry)) (now (transactions .entry)) (now (registers .entry)) (now (values .entry))) count prefix (now (output .entry)) ⌝ }
+    ensures { λ r. ⌜ gives r (now (output .exit)) ≡ foundAnswer edition (now (starts .entry)) (columns (now (kinds .entry)) (now (transactions .entry)) (now (registers .entry)) (now (values .entry))) count prefix (now (output .entry)) ⌝ }
 {
-    if !events::columns::columns_hold(kinds, transactions, registers, values, count) {
-        return Found::Refused {
-            question: 17,
-            event: count,
-        };
-    }
-    if prefix > count {
-        return Found::Refused {
-            question: 18,
-            event: count,
-        };
-    }
-    let checked = events::columns::check_columns(kinds, transactions, registers, values, count);
+    let checked = check_call(
+        edition,
+        starts,
+        kinds,
+        transactions,
+        registers,
+        values,
+        count,
+        prefix,
+    );
     if let Checked::Refused { question, event } = checked {
         return Found::Refused { question, event };
     }
-    let initial = [0u32; 32];
     find_readable(
-        &initial,
+        starts,
         kinds,
         transactions,
         registers,

@@ -10,11 +10,12 @@ use Rattle.events.specs.declared.event.Event.{Event}
 use Rattle.events.specs.declared.columns.Checked.{Checked}
 use Rattle.events.specs.Events.{begins}
 use Rattle.events.specs.Columns.{Columns, history, hold}
-use Rattle.events.specs.Questions.{readable, columnsAnswer}
+use Rattle.events.specs.Starts.{startOf, admits}
+use Rattle.events.specs.Questions.{readable, historyAnswer}
 use Rattle.events.proofs.ColumnLaws.{hold-e, hold-i}
+use Rattle.events.proofs.StartLaws.{fine, fine-answer}
 use Rattle.events.proofs.ReadableLaws.{columns-readable, readable-columns}
 use Rattle.opacity.specs.declared.verdict.Scanned.{Scanned}
-use Rattle.opacity.specs.Justification.{zeros}
 use Rattle.opacity.specs.Scan.{scan}
 use Rattle.tables.proofs.CallLaws.{asked-none, asked-yes, asked-no, asked-e, then-readable, then-refused, then-e}
 use Rattle.scan.specs.declared.Judgement.{Judgement}
@@ -59,29 +60,34 @@ module _ (h : List Event) (count : ℕ) where
   passes-31-e x = leb-true _ _ (asked-e count 31 _ _ x .0)
 
 -- what it tells that no question refuses the scan
-pub record Passed (c : Columns) (count : ℕ) : Type 0 where
+pub record Passed (edition : ℕ) (starts : List ℕ) (c : Columns) (count : ℕ) : Type 0 where
   pub held : hold c count ≡ true
+  pub admitted : admits edition starts ≡ true
   pub readable : readable (history c count) ≡ true
   pub few : begins (history c count) ≤ 10
 
-pub passed : (c : Columns) (count : ℕ) → scanRefusal c count ≡ Checked.Readable → Passed c count
-unfolding scanRefusal
-passed c count x =
-    let a = then-e _ _ x in
-    let b = columns-readable c count (a .0) in
-    record { held = hold-i c count (b .0); readable = b .1; few = passes-31-e (history c count) count (a .1) }
+module _ (edition : ℕ) (starts : List ℕ) (c : Columns) (count : ℕ) where
+  pub passed : scanRefusal edition starts c count ≡ Checked.Readable → Passed edition starts c count
+  unfolding scanRefusal
+  passed x =
+      let a = then-e _ _ x in
+      let f = fine edition starts c count (a .0) in
+      let b = columns-readable c count (f .columns) in
+      record { held = hold-i c count (b .0); admitted = f .admitted; readable = b .1; few = passes-31-e (history c count) count (a .1) }
 
-pub passes : (c : Columns) (count : ℕ) → Passed c count → scanRefusal c count ≡ Checked.Readable
-unfolding scanRefusal
-passes c count p = then-readable _ (readable-columns c count (hold-e c count (p .held)) (p .readable)) ∙ passes-31 (history c count) count (p .few)
+  pub passes : Passed edition starts c count → scanRefusal edition starts c count ≡ Checked.Readable
+  unfolding scanRefusal
+  passes p =
+      then-readable _ (fine-answer edition starts c count (p .admitted) (readable-columns c count (hold-e c count (p .held)) (p .readable)))
+      ∙ passes-31 (history c count) count (p .few)
 
--- ---- the questions one after the other, as `scan_history` puts them
+  -- ---- the questions one after the other, as `scan_history` puts them
 
-module _ (c : Columns) (count : ℕ) where
-  pub event-refused : {q e : ℕ} → columnsAnswer c count ≡ Checked.Refused q e → Judgement.Refused q e ≡ scanAnswer c count
+  pub history-refused : {q e : ℕ} → historyAnswer edition starts c count ≡ Checked.Refused q e → Judgement.Refused q e ≡ scanAnswer edition starts c count
   unfolding scanAnswer scanRefusal
-  event-refused x = decided-refused _ (then-refused _ x)
+  history-refused x = decided-refused _ (then-refused _ x)
 
-  pub events-decide : columnsAnswer c count ≡ Checked.Readable → decided (sizeRefusal (history c count) count) (scan zeros (history c count)) ≡ scanAnswer c count
+  pub events-decide : historyAnswer edition starts c count ≡ Checked.Readable
+      → decided (sizeRefusal (history c count) count) (scan (startOf starts) (history c count)) ≡ scanAnswer edition starts c count
   unfolding scanAnswer scanRefusal
-  events-decide x = ap (λ (y : Checked). decided y (scan zeros (history c count))) (sym (then-readable _ x))
+  events-decide x = ap (λ (y : Checked). decided y (scan (startOf starts) (history c count))) (sym (then-readable _ x))

@@ -14,6 +14,7 @@ use lib.Dec.{eqb}
 use Rattle.events.specs.Lists.{isNone, first, keep}
 use Rattle.events.specs.Events.{begins, isBegin, isRead, isCommit, isAbort}
 use Rattle.events.specs.Columns.{Columns, entry, history}
+use Rattle.events.specs.Starts.{startOf}
 use Rattle.opacity.specs.Lowest.{lowestOf}
 use Rattle.opacity.specs.Scan.{cause, scan}
 use Rattle.opacity.specs.declared.verdict.Scanned.the-variants.{Opaque, Faulted}
@@ -23,7 +24,7 @@ use Rattle.search.specs.declared.Answer.{Answer}
 use Rattle.search.specs.Tree.{firstCompletion, readAnswer}
 use Rattle.opacity.specs.Counts.{ofKind}
 use Rattle.tables.specs.Tables.{Tables, empty, goThrough, next, tablesOf}
-use Rattle.tables.specs.Order.{startOf, constraintsOf, decoded, Judged}
+use Rattle.tables.specs.Order.{constraintsOf, decoded, Judged}
 use Rattle.tables.proofs.TableLaws.{tables-more}
 use Rattle.tables.proofs.Link.{found-by}
 use Rattle.tables.proofs.JudgedLaws.{judged-prefix}

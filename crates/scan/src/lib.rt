@@ -4,10 +4,10 @@ ghost use mathlib.Core.Bool.{cond};
 ghost use Prim.Native.Nat.{_+_, _<_};
 ghost use Rattle.events.specs.Columns.{columns, history};
 ghost use Rattle.events.specs.Events.{isBegin};
-ghost use Rattle.opacity.specs.Justification.{zeros};
+ghost use Rattle.events.specs.Starts.{startOf};
 ghost use Rattle.opacity.specs.Scan.{scan, cause};
 ghost use Rattle.opacity.specs.Counts.{ofKind, HoldsReadable};
-ghost use Rattle.tables.specs.Order.{startOf, Judged};
+ghost use Rattle.tables.specs.Order.{Judged};
 ghost use Rattle.scan.specs.Answer.{sizeRefusal, decided, scanAnswer};
 use events::columns::Checked;
 use events::record::Record;
@@ -51,7 +51,7 @@ fn cause_of(kind: u16) -> u32
 
 // The prefixes of the first n events, of at most ten transactions, by rising length: the tables grow by one event each time.
 fn scan_prefixes(
-    initial: &[u32; 32],
+    starts: &[u32; 32],
     kinds: &[u16],
     transactions: &[u16],
     registers: &[u16],
@@ -59,7 +59,7 @@ fn scan_prefixes(
     n: usize,
 ) -> Scanned
     requires { ⌜ Judged (columns (now kinds) (now transactions) (now registers) (now values)) n ⌝ }
-    ensures { λ r. ⌜ r ≡ scan (startOf (now (initial .entry))) (history (columns (now (kinds .entry)) (now (transactions .entry)) (now (registers .entry)) (now (values .entry))) n) ⌝ }
+    ensures { λ r. ⌜ r ≡ scan (startOf (now (starts .entry))) (history (columns (now (kinds .entry)) (now (transactions .entry)) (now (registers .entry)) (now (values .entry))) n) ⌝ }
 {
     let mut required = [0u64; 320];
     let mut written = [0u64; 320];
@@ -77,7 +77,7 @@ fn scan_prefixes(
             values[i],
         );
         begun = counted(begun, kind);
-        let a = tables::complete(initial, s, &required, &written, begun);
+        let a = tables::complete(starts, s, &required, &written, begun);
         if !a.found {
             return Scanned::Faulted {
                 event: i,
@@ -91,6 +91,7 @@ fn scan_prefixes(
 
 // Question 31, and then the prefixes of the first count events.
 fn scan_readable(
+    starts: &[u32; 32],
     kinds: &[u16],
     transactions: &[u16],
     registers: &[u16],
@@ -98,7 +99,7 @@ fn scan_readable(
     count: usize,
 ) -> Judgement
     requires { ⌜ HoldsReadable (columns (now kinds) (now transactions) (now registers) (now values)) count ⌝ }
-    ensures { λ r. ⌜ r ≡ decided (sizeRefusal (history (columns (now (kinds .entry)) (now (transactions .entry)) (now (registers .entry)) (now (values .entry))) count) count) (scan zeros (history (columns (now (kinds .entry)) (now (transactions .entry)) (now (registers .entry)) (now (values .entry))) count)) ⌝ }
+    ensures { λ r. ⌜ r ≡ decided (sizeRefusal (history (columns (now (kinds .entry)) (now (transactions .entry)) (now (registers .entry)) (now (values .entry))) count) count) (scan (startOf (now (starts .entry))) (history (columns (now (kinds .entry)) (now (transactions .entry)) (now (registers .entry)) (now (values .entry))) count)) ⌝ }
 {
     let begun = opacity::counts::transactions_begun(kinds, transactions, registers, values, count);
     if begun > SEARCHED {
@@ -107,25 +108,34 @@ fn scan_readable(
             event: count,
         };
     }
-    let initial = [0u32; 32];
-    let scanned = scan_prefixes(&initial, kinds, transactions, registers, values, count);
+    let scanned = scan_prefixes(starts, kinds, transactions, registers, values, count);
     Judgement::Scanned(scanned)
 }
 
-// Is every prefix of the first count events justified? If not, the last event of the first that is not, and the cause. Every
-// register is 0 before any writer.
+// Is every prefix of the first count events justified? If not, the last event of the first that is not, and the cause. Each
+// prefix keeps the edition and the start values of its history.
 pub fn scan_history(
+    edition: u16,
+    starts: &[u32; 32],
     kinds: &[u16],
     transactions: &[u16],
     registers: &[u16],
     values: &[u32],
     count: usize,
 ) -> Judgement
-    ensures { λ r. ⌜ r ≡ scanAnswer (columns (now (kinds .entry)) (now (transactions .entry)) (now (registers .entry)) (now (values .entry))) count ⌝ }
+    ensures { λ r. ⌜ r ≡ scanAnswer edition (now (starts .entry)) (columns (now (kinds .entry)) (now (transactions .entry)) (now (registers .entry)) (now (values .entry))) count ⌝ }
 {
-    let checked = events::columns::check_columns(kinds, transactions, registers, values, count);
+    let checked = events::columns::check_history(
+        edition,
+        starts,
+        kinds,
+        transactions,
+        registers,
+        values,
+        count,
+    );
     if let Checked::Refused { question, event } = checked {
         return Judgement::Refused { question, event };
     }
-    scan_readable(kinds, transactions, registers, values, count)
+    scan_readable(starts, kinds, transactions, registers, values, count)
 }

@@ -52,29 +52,29 @@ placed-length s long h = length-take-le (s .filled) (s .placed) (omega (arith, h
 -- ---- the store
 
 -- one place more
-pub content-more : (initial written : List ℕ) (s : Search) (r i code v res : ℕ) → i < s .filled → code ≡ getD (s .placed) i 0
-    → v ≡ contentTo initial written (placedOf s) r i → res ≡ contentAfter written r code v → res ≡ contentTo initial written (placedOf s) r (i + 1)
+pub content-more : (starts written : List ℕ) (s : Search) (r i code v res : ℕ) → i < s .filled → code ≡ getD (s .placed) i 0
+    → v ≡ contentTo starts written (placedOf s) r i → res ≡ contentAfter written r code v → res ≡ contentTo starts written (placedOf s) r (i + 1)
 unfolding contentTo
-content-more initial written s r i code v res l ec ev e =
+content-more starts written s r i code v res l ec ev e =
     rw (add-one, getD-take (s .filled) (s .placed) i 0 l, ← ec, ← ev) e
 
 -- one register more is legal
-pub legal-more : (initial required written p : List ℕ) (m t r : ℕ) → legalTo initial required written p m t r ≡ true → legalAt initial required written p m t r ≡ true → legalTo initial required written p m t (r + 1) ≡ true
+pub legal-more : (starts required written p : List ℕ) (m t r : ℕ) → legalTo starts required written p m t r ≡ true → legalAt starts required written p m t r ≡ true → legalTo starts required written p m t (r + 1) ≡ true
 unfolding legalTo
-legal-more initial required written p m t r a b = rw (add-one, b) a
+legal-more starts required written p m t r a b = rw (add-one, b) a
 
 -- one that is not makes all not
-pub legal-fails : (initial required written p : List ℕ) (m t n r : ℕ) → r < n → legalAt initial required written p m t r ≡ false → legalTo initial required written p m t n ≡ false
+pub legal-fails : (starts required written p : List ℕ) (m t n r : ℕ) → r < n → legalAt starts required written p m t r ≡ false → legalTo starts required written p m t n ≡ false
 unfolding legalTo
-legal-fails initial required written p m t zero r l b = absurd (omega arith)
-legal-fails initial required written p m t (suc n) r l b = ⊎-elim at (λ h. below (legal-fails initial required written p m t n r h b)) (eq-or-lt-of-le (le-of-suc-le-suc l))
+legal-fails starts required written p m t zero r l b = absurd (omega arith)
+legal-fails starts required written p m t (suc n) r l b = ⊎-elim at (λ h. below (legal-fails starts required written p m t n r h b)) (eq-or-lt-of-le (le-of-suc-le-suc l))
   where
     ends : (x : Bool) → cond x false false ≡ false
     ends true = refl
     ends false = refl
 
-    at : r ≡ n → cond (legalAt initial required written p m t n) (legalTo initial required written p m t n) false ≡ false
+    at : r ≡ n → cond (legalAt starts required written p m t n) (legalTo starts required written p m t n) false ≡ false
     at e = rw (← e, b)
 
-    below : legalTo initial required written p m t n ≡ false → cond (legalAt initial required written p m t n) (legalTo initial required written p m t n) false ≡ false
-    below h = rw h (ends (legalAt initial required written p m t n))
+    below : legalTo starts required written p m t n ≡ false → cond (legalAt starts required written p m t n) (legalTo starts required written p m t n) false ≡ false
+    below h = rw h (ends (legalAt starts required written p m t n))

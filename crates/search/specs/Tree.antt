@@ -12,18 +12,18 @@ use Rattle.search.specs.declared.Search.{Search}
 use Rattle.search.specs.declared.Answer.{Answer}
 use Rattle.search.specs.Bits.{bitAt}
 
--- What the search is told of the transactions. At r: `initial`, the value of register r before any writer. At t: `predecessors`, the
+-- What the search is told of the transactions. At r: `starts`, the value of register r before any writer. At t: `predecessors`, the
 -- transactions that ended before t began, one bit each; `allowed`, its outcome, 0 aborted, 1 committed, 2 either. At 32 * t + r:
 -- `required`, what its store reads of r return, and `written`, its last write to r, each as the value plus 1, with 0 for none.
 pub record Constraints : Type 0 where
-  pub initial : List ℕ
+  pub starts : List ℕ
   pub predecessors : List ℕ
   pub allowed : List ℕ
   pub required : List ℕ
   pub written : List ℕ
 
 abbrev pub constraints : List ℕ → List ℕ → List ℕ → List ℕ → List ℕ → Constraints
-constraints o b a w v = record { initial = o; predecessors = b; allowed = a; required = w; written = v }
+constraints o b a w v = record { starts = o; predecessors = b; allowed = a; required = w; written = v }
 
 -- the places of all transactions, each as its transaction times 2 plus its outcome, or none
 abbrev pub Completion : Type 0
@@ -50,17 +50,17 @@ contentAfter written r code v =
 
 -- what r holds after the first n of the places p
 unfoldable pub contentTo : List ℕ → List ℕ → List ℕ → ℕ → ℕ → ℕ
-contentTo initial written p r zero = getD initial r 0
-contentTo initial written p r (suc i) = contentAfter written r (getD p i 0) (contentTo initial written p r i)
+contentTo starts written p r zero = getD starts r 0
+contentTo starts written p r (suc i) = contentAfter written r (getD p i 0) (contentTo starts written p r i)
 
 -- is the store read of r by t, if there is one, legal after the m places p
 unfoldable pub legalAt : List ℕ → List ℕ → List ℕ → List ℕ → ℕ → ℕ → ℕ → Bool
-legalAt initial required written p m t r = cond (eqb (getD required (t * 32 + r) 0) 0) true (eqb (contentTo initial written p r m) (getD required (t * 32 + r) 0 - 1))
+legalAt starts required written p m t r = cond (eqb (getD required (t * 32 + r) 0) 0) true (eqb (contentTo starts written p r m) (getD required (t * 32 + r) 0 - 1))
 
 -- are those of the first n registers
 unfoldable pub legalTo : List ℕ → List ℕ → List ℕ → List ℕ → ℕ → ℕ → ℕ → Bool
-legalTo initial required written p m t zero = true
-legalTo initial required written p m t (suc r) = cond (legalAt initial required written p m t r) (legalTo initial required written p m t r) false
+legalTo starts required written p m t zero = true
+legalTo starts required written p m t (suc r) = cond (legalAt starts required written p m t r) (legalTo starts required written p m t r) false
 
 -- none of the list is in the set
 unfoldable pub noneIn : ℕ → List ℕ → Bool
@@ -74,7 +74,7 @@ allowsOutcome rule o = cond (eqb rule o) true (eqb rule 2)
 -- may t be placed next, with outcome o, after the places p and before the rest of u
 unfoldable pub fitsAt : Constraints → List ℕ → List ℕ → ℕ → ℕ → Bool
 fitsAt D p u t o =
-    cond (allowsOutcome (getD (D .allowed) t 0) o) (cond (noneIn (getD (D .predecessors) t 0) u) (legalTo (D .initial) (D .required) (D .written) p (length p) t 32) false) false
+    cond (allowsOutcome (getD (D .allowed) t 0) o) (cond (noneIn (getD (D .predecessors) t 0) u) (legalTo (D .starts) (D .required) (D .written) p (length p) t 32) false) false
 
 unfoldable pub firstOf : (ℕ → Completion) → List ℕ → Completion
 firstOf f [] = none

@@ -69,21 +69,21 @@ fn value_of(x: u32) -> u64
 }
 
 // What register holds before any writer.
-fn initial_value(initial: &[u32; 32], register: usize) -> u64
+fn start_value(starts: &[u32; 32], register: usize) -> u64
     requires { ⌜ register < 32 ⌝ }
-    ensures { λ r. ⌜ r ≡ getD (now (initial .entry)) register 0 ⌝ }
+    ensures { λ r. ⌜ r ≡ getD (now (starts .entry)) register 0 ⌝ }
 {
-    value_of(initial[register])
+    value_of(starts[register])
 }
 
-// What register holds after the places filled: the value of the last committed writer, or the initial one.
-fn content(initial: &[u32; 32], written: &[u64; 320], s: Search, register: usize) -> u64
+// What register holds after the places filled: the value of the last committed writer, or the start value.
+fn content(starts: &[u32; 32], written: &[u64; 320], s: Search, register: usize) -> u64
     requires { ⌜ Sound s ⌝ }
     requires { ⌜ register < 32 ⌝ }
-    ensures { λ r. ⌜ r ≡ contentTo (now (initial .entry)) (now (written .entry)) (placedOf s) register (s .filled) ⌝ }
+    ensures { λ r. ⌜ r ≡ contentTo (now (starts .entry)) (now (written .entry)) (placedOf s) register (s .filled) ⌝ }
 {
     let places = s.placed;
-    let mut value = initial_value(initial, register);
+    let mut value = start_value(starts, register);
     let mut i = 0;
     while i < s.filled {
         let code = wide(places[i]);
@@ -95,7 +95,7 @@ fn content(initial: &[u32; 32], written: &[u64; 320], s: Search, register: usize
 
 // Is the store read of register by t, if there is one, that of the register's content?
 fn legal_at(
-    initial: &[u32; 32],
+    starts: &[u32; 32],
     required: &[u64; 320],
     written: &[u64; 320],
     s: Search,
@@ -105,18 +105,18 @@ fn legal_at(
     requires { ⌜ Sound s ⌝ }
     requires { ⌜ t < 10 ⌝ }
     requires { ⌜ register < 32 ⌝ }
-    ensures { λ r. ⌜ r ≡ legalAt (now (initial .entry)) (now (required .entry)) (now (written .entry)) (placedOf s) (s .filled) t register ⌝ }
+    ensures { λ r. ⌜ r ≡ legalAt (now (starts .entry)) (now (required .entry)) (now (written .entry)) (placedOf s) (s .filled) t register ⌝ }
 {
     let w = required[t * REGISTERS + register];
     if w == 0 {
         return true;
     }
-    content(initial, written, s, register) == w - 1
+    content(starts, written, s, register) == w - 1
 }
 
 // Is each store read of t that of its register's content?
 fn legal(
-    initial: &[u32; 32],
+    starts: &[u32; 32],
     required: &[u64; 320],
     written: &[u64; 320],
     s: Search,
@@ -124,11 +124,11 @@ fn legal(
 ) -> bool
     requires { ⌜ Sound s ⌝ }
     requires { ⌜ t < 10 ⌝ }
-    ensures { λ r. ⌜ r ≡ legalTo (now (initial .entry)) (now (required .entry)) (now (written .entry)) (placedOf s) (s .filled) t 32 ⌝ }
+    ensures { λ r. ⌜ r ≡ legalTo (now (starts .entry)) (now (required .entry)) (now (written .entry)) (placedOf s) (s .filled) t 32 ⌝ }
 {
     let mut r = 0;
     while r < REGISTERS {
-        if !legal_at(initial, required, written, s, t, r) {
+        if !legal_at(starts, required, written, s, t, r) {
             return false;
         }
         r += 1;
@@ -148,7 +148,7 @@ fn allows(rule: u8, outcome: u8) -> bool
 
 // May t be placed next with this outcome?
 fn fits(
-    initial: &[u32; 32],
+    starts: &[u32; 32],
     predecessors: &[u64; 10],
     allowed: &[u8; 10],
     required: &[u64; 320],
@@ -159,7 +159,7 @@ fn fits(
 ) -> bool
     requires { ⌜ Sound s ⌝ }
     requires { ⌜ t < 10 ⌝ }
-    ensures { λ r. ⌜ r ≡ fitsAt (constraints (now (initial .entry)) (now (predecessors .entry)) (now (allowed .entry)) (now (required .entry)) (now (written .entry))) (placedOf s) (members (s .unplaced)) t outcome ⌝ }
+    ensures { λ r. ⌜ r ≡ fitsAt (constraints (now (starts .entry)) (now (predecessors .entry)) (now (allowed .entry)) (now (required .entry)) (now (written .entry))) (placedOf s) (members (s .unplaced)) t outcome ⌝ }
 {
     if !allows(allowed[t], outcome) {
         return false;
@@ -167,12 +167,12 @@ fn fits(
     if predecessors[t] & s.unplaced != 0 {
         return false;
     }
-    legal(initial, required, written, s, t)
+    legal(starts, required, written, s, t)
 }
 
 // The first completion whose next transaction is one of the candidates, lowest first.
 fn choose_transaction(
-    initial: &[u32; 32],
+    starts: &[u32; 32],
     predecessors: &[u64; 10],
     allowed: &[u8; 10],
     required: &[u64; 320],
@@ -181,7 +181,7 @@ fn choose_transaction(
     candidates: u64,
 ) -> Answer
     requires { ⌜ Within s candidates ⌝ }
-    ensures { λ r. ⌜ readAnswer r ≡ fromCandidates (constraints (now (initial .entry)) (now (predecessors .entry)) (now (allowed .entry)) (now (required .entry)) (now (written .entry))) (ones (s .unplaced)) (placedOf s) (members (s .unplaced)) (members candidates) ⌝ }
+    ensures { λ r. ⌜ readAnswer r ≡ fromCandidates (constraints (now (starts .entry)) (now (predecessors .entry)) (now (allowed .entry)) (now (required .entry)) (now (written .entry))) (ones (s .unplaced)) (placedOf s) (members (s .unplaced)) (members candidates) ⌝ }
 {
     if sets::count(s.unplaced) == 0 {
         return Answer {
@@ -196,12 +196,12 @@ fn choose_transaction(
         };
     }
     let t = sets::lowest(candidates);
-    let a = choose_outcome(initial, predecessors, allowed, required, written, s, t);
+    let a = choose_outcome(starts, predecessors, allowed, required, written, s, t);
     if a.found {
         return a;
     }
     choose_transaction(
-        initial,
+        starts,
         predecessors,
         allowed,
         required,
@@ -213,7 +213,7 @@ fn choose_transaction(
 
 // The first completion whose next transaction is t, aborted first.
 fn choose_outcome(
-    initial: &[u32; 32],
+    starts: &[u32; 32],
     predecessors: &[u64; 10],
     allowed: &[u8; 10],
     required: &[u64; 320],
@@ -222,12 +222,12 @@ fn choose_outcome(
     t: usize,
 ) -> Answer
     requires { ⌜ Placeable s t ⌝ }
-    ensures { λ r. ⌜ readAnswer r ≡ atTransaction (constraints (now (initial .entry)) (now (predecessors .entry)) (now (allowed .entry)) (now (required .entry)) (now (written .entry))) (ones (s .unplaced - 2 ^ t)) (placedOf s) (members (s .unplaced)) t ⌝ }
+    ensures { λ r. ⌜ readAnswer r ≡ atTransaction (constraints (now (starts .entry)) (now (predecessors .entry)) (now (allowed .entry)) (now (required .entry)) (now (written .entry))) (ones (s .unplaced - 2 ^ t)) (placedOf s) (members (s .unplaced)) t ⌝ }
 {
-    if fits(initial, predecessors, allowed, required, written, s, t, 0) {
+    if fits(starts, predecessors, allowed, required, written, s, t, 0) {
         let next = s.place(t, 0);
         let a = choose_transaction(
-            initial,
+            starts,
             predecessors,
             allowed,
             required,
@@ -239,10 +239,10 @@ fn choose_outcome(
             return a;
         }
     }
-    if fits(initial, predecessors, allowed, required, written, s, t, 1) {
+    if fits(starts, predecessors, allowed, required, written, s, t, 1) {
         let next = s.place(t, 1);
         return choose_transaction(
-            initial,
+            starts,
             predecessors,
             allowed,
             required,
@@ -259,7 +259,7 @@ fn choose_outcome(
 
 // The lowest completion of n transactions, from nothing placed.
 pub fn find(
-    initial: &[u32; 32],
+    starts: &[u32; 32],
     predecessors: &[u64; 10],
     allowed: &[u8; 10],
     required: &[u64; 320],
@@ -267,7 +267,7 @@ pub fn find(
     n: usize,
 ) -> Answer
     requires { ⌜ n ≤ 10 ⌝ }
-    ensures { λ r. ⌜ readAnswer r ≡ firstCompletion (constraints (now (initial .entry)) (now (predecessors .entry)) (now (allowed .entry)) (now (required .entry)) (now (written .entry))) n ⌝ }
+    ensures { λ r. ⌜ readAnswer r ≡ firstCompletion (constraints (now (starts .entry)) (now (predecessors .entry)) (now (allowed .entry)) (now (required .entry)) (now (written .entry))) n ⌝ }
 {
     let s = Search {
         unplaced: sets::bit(n) - 1,
@@ -275,7 +275,7 @@ pub fn find(
         placed: [0u8; 10],
     };
     choose_transaction(
-        initial,
+        starts,
         predecessors,
         allowed,
         required,

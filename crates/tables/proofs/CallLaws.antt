@@ -51,3 +51,8 @@ pub then-e : (a b : Checked) → thenChecked a b ≡ Checked.Readable → (a ≡
 unfolding thenChecked
 then-e Checked.Readable b x = (refl, x)
 then-e (Checked.Refused q e) b x = absurd (refused-readable q e x)
+
+pub then-then : (a b c : Checked) → thenChecked (thenChecked a b) c ≡ thenChecked a (thenChecked b c)
+unfolding thenChecked
+then-then Checked.Readable b c = refl
+then-then (Checked.Refused q e) b c = refl

@@ -15,6 +15,7 @@ use borrow.Author.Tests.{eqb-true, eqb-false, eq-eqb, ne-eqb, lt-ltb}
 use Rattle.events.specs.Lists.{_and_, _implies_, orElse, push, keep, latest, every}
 use Rattle.events.specs.declared.event.Event.{Event}
 use Rattle.events.specs.Events.{eventAt, begins}
+use Rattle.events.specs.Starts.{startOf}
 use Rattle.opacity.specs.Transactions.{precedes, Status, status, allows, lastWrite, isStoreRead}
 use Rattle.opacity.specs.Justification.{Place, placed, written, contents, preceded, legalOver}
 use Rattle.opacity.specs.Lowest.{place, fits}
@@ -22,7 +23,7 @@ use Rattle.events.proofs.ListLaws.{imp-e, imp-i, not-true, clash, below-cases, 
 use Rattle.search.specs.Bits.{bitAt}
 use Rattle.search.specs.Tree.{upFrom, contentAfter, contentTo, legalAt, legalTo, noneIn, allowsOutcome, fitsAt}
 use Rattle.tables.specs.Tables.{tablesOf}
-use Rattle.tables.specs.Order.{coded, decode, constraintsOf, startOf}
+use Rattle.tables.specs.Order.{coded, decode, constraintsOf}
 use Rattle.tables.proofs.Meaning.{digit, Good, plus, rule, predecessors-holds, allowed-holds, written-holds}
 use Rattle.tables.proofs.ReadMeaning.{Reads, Wanted, reads-hold}
 use Rattle.tables.proofs.TreeLink.{free, State, decode-snoc}

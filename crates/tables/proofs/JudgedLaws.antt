@@ -1,16 +1,16 @@
--- Columns that hold a readable history, of at most ten transactions, hold each of its prefixes so. Every register is 0 before any writer.
+-- Columns that hold a readable history, of at most ten transactions, hold each of its prefixes so.
 -- Assumes nothing.
-use Prim.Native.Nat.{ℕ, zero, suc, _≤_}
+use Prim.Native.Nat.{ℕ, _≤_}
 use native.Mathlib.Omega.{arith}
-use mathlib.Core.Path.{_≡_, refl, ap, fun-ext}
-use lib.ListN.{take, getD, replicate}
+use mathlib.Core.Path.{_≡_, ap}
+use lib.ListN.{take}
 use Rattle.events.specs.Events.{begins}
 use Rattle.events.specs.Columns.{Columns, history}
 use Rattle.events.specs.Questions.{readable}
 use Rattle.events.proofs.ColumnLaws.{history-take, begins-take}
 use Rattle.events.proofs.ReadableLaws.{readable-fewer}
 use Rattle.opacity.specs.Counts.{HoldsReadable}
-use Rattle.tables.specs.Order.{Judged, startOf}
+use Rattle.tables.specs.Order.{Judged}
 
 pub readable-prefix : (c : Columns) (n k : ℕ) → k ≤ n → HoldsReadable c n → HoldsReadable c k
 readable-prefix c n k l r =
@@ -47,14 +47,3 @@ pub judged-prefix : (c : Columns) (n k : ℕ) → k ≤ n → Judged c n → Jud
 judged-prefix c n k l j =
     let b : begins (take k (history c n)) ≡ begins (history c k) = ap begins (history-take c n k l) in
     few-judged c k (readable-prefix c n k l (judged-readable c n j)) (omega (arith, begins-take k (history c n), j .few))
-
--- ---- the values before any writer
-
-zeros : (n r : ℕ) → _≡_ {A = ℕ} (getD (replicate n 0) r 0) 0
-zeros zero r = refl
-zeros (suc n) zero = refl
-zeros (suc n) (suc r) = zeros n r
-
-pub start-zero : startOf (replicate 32 0) ≡ (λ r. 0)
-unfolding startOf
-start-zero = fun-ext (λ r. zeros 32 r)

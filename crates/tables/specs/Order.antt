@@ -6,7 +6,7 @@ use mathlib.Core.Bool.{Bool, true, false, cond}
 use mathlib.Core.List.{List, [], _∷_}
 use mathlib.Core.Option.{Option, none, some}
 use lib.Dec.{eqb}
-use lib.ListN.{length, getD}
+use lib.ListN.{length}
 use Rattle.events.specs.Columns.{Columns, history}
 use Rattle.events.specs.Questions.{readable}
 use Rattle.search.specs.declared.Answer.{Answer}
@@ -34,10 +34,6 @@ constraintsOf o s = constraints o (s .predecessors) (s .allowed) (s .required) (
 
 unfoldable pub foundOrder : List ℕ → List Event → Option (List Place)
 foundOrder o h = cond (tablesOf h .contradictory) none (decoded (firstCompletion (constraintsOf o (tablesOf h)) (begins h)))
-
--- the value of each register before any writer, from a table
-unfoldable pub startOf : List ℕ → ℕ → ℕ
-startOf o r = getD o r 0
 
 -- what is judged: the first n entries of the columns are a readable history of at most ten transactions
 pub record Judged (c : Columns) (n : ℕ) : Type 0 where

@@ -3,12 +3,13 @@ ghost use mathlib.Core.Path.{_≡_};
 ghost use Prim.Native.Nat.{_+_, _*_, _≤_, _<_};
 ghost use Rattle.events.specs.Lists.{_or_};
 ghost use Rattle.events.specs.Columns.{columns, history};
+ghost use Rattle.events.specs.Starts.{startOf};
 ghost use mathlib.Core.Bool.{cond};
 ghost use mathlib.Core.Option.{none};
 ghost use lib.ListN.{replicate};
 ghost use Rattle.opacity.specs.Lowest.{lowestOf};
 ghost use Rattle.search.specs.Tree.{readAnswer, firstCompletion};
-ghost use Rattle.tables.specs.Order.{constraintsOf, startOf, Judged, orderOf};
+ghost use Rattle.tables.specs.Order.{constraintsOf, Judged, orderOf};
 ghost use Rattle.tables.specs.Tables.{tablesBy, Becomes, event, clashes, begun, settled, readAt, next, empty};
 use events::record::Record;
 
@@ -153,14 +154,14 @@ pub fn no_events() -> Standing
 
 // The first completion that the tables of so many transactions allow.
 pub fn complete(
-    initial: &[u32; 32],
+    starts: &[u32; 32],
     s: Standing,
     required: &[u64; 320],
     written: &[u64; 320],
     transactions: usize,
 ) -> search::Answer
     requires { ⌜ transactions ≤ 10 ⌝ }
-    ensures { λ r. ⌜ readAnswer r ≡ cond (s .contradictory) none (firstCompletion (constraintsOf (now (initial .entry)) (tablesBy s (now (required .entry)) (now (written .entry)))) transactions) ⌝ }
+    ensures { λ r. ⌜ readAnswer r ≡ cond (s .contradictory) none (firstCompletion (constraintsOf (now (starts .entry)) (tablesBy s (now (required .entry)) (now (written .entry)))) transactions) ⌝ }
 {
     if s.contradictory {
         return search::Answer {
@@ -175,7 +176,7 @@ pub fn complete(
     let predecessors = s.predecessors;
     let allowed = s.allowed;
     search::find(
-        initial,
+        starts,
         &predecessors,
         &allowed,
         required,
@@ -186,7 +187,7 @@ pub fn complete(
 
 // The lowest justification of the first n events.
 pub fn find_order(
-    initial: &[u32; 32],
+    starts: &[u32; 32],
     kinds: &[u16],
     transactions: &[u16],
     registers: &[u16],
@@ -194,7 +195,7 @@ pub fn find_order(
     n: usize,
 ) -> search::Answer
     requires { ⌜ Judged (columns (now kinds) (now transactions) (now registers) (now values)) n ⌝ }
-    ensures { λ r. ⌜ orderOf r ≡ lowestOf (startOf (now (initial .entry))) (history (columns (now (kinds .entry)) (now (transactions .entry)) (now (registers .entry)) (now (values .entry))) n) ⌝ }
+    ensures { λ r. ⌜ orderOf r ≡ lowestOf (startOf (now (starts .entry))) (history (columns (now (kinds .entry)) (now (transactions .entry)) (now (registers .entry)) (now (values .entry))) n) ⌝ }
 {
     let mut required = [0u64; 320];
     let mut written = [0u64; 320];
@@ -212,5 +213,5 @@ pub fn find_order(
         i += 1;
     }
     let begun = opacity::counts::transactions_begun(kinds, transactions, registers, values, n);
-    complete(initial, s, &required, &written, begun)
+    complete(starts, s, &required, &written, begun)
 }

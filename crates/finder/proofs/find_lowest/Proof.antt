@@ -5,7 +5,7 @@ use native.Mathlib.Omega.{arith}
 use denote.Ref.{now}
 use borrow.Author.Tests.{not-true, not-false}
 use Rattle.events.specs.Columns.{columns}
-use Rattle.tables.specs.Order.{startOf}
+use Rattle.events.specs.Starts.{startOf}
 use Rattle.finder.proofs.OrderLaws.{marking-none, marking-found, marking-fits, answer-none, answer-some}
 use Rattle.finder.proofs.AnswerLaws.{decided-none, decided-marking}
 use borrow.Author.Needs.{needs}
@@ -21,7 +21,7 @@ returns c =
     let cs = columns (now (start .args .kinds)) (now (start .args .transactions)) (now (start .args .registers)) (now (start .args .values)) in
     let a = c .before .before .find-order .result in
     let e = answer-none a (not-true _ (c .if1 .taken)) (c .before .before .find-order .ensures) in
-    decided-none (now (start .args .output)) refl (marking-none (startOf (now (start .args .initial))) cs (start .args .n) (start .pre .0) e)
+    decided-none (now (start .args .output)) refl (marking-none (startOf (now (start .args .starts))) cs (start .args .n) (start .pre .0) e)
 
 transactions-begun-requires : tie.Need-transactions-begun-requires
 transactions-begun-requires c κs = search needs
@@ -34,7 +34,7 @@ write-marking-requires c κs =
     let e = answer-some a (not-false _ (c .before .before .before .before .if1 .left)) (c .before .before .before .before .before .before .find-order .ensures) in
     let k = c .before .transactions-begun .ensures in
     let f = start .pre .0 .few in
-    (start .pre .0, (omega arith, marking-fits (startOf (now (start .args .initial))) cs (start .args .n) (start .pre .0) (a .search .placed) (a .search .filled) _ _ e k (start .pre .1)))
+    (start .pre .0, (omega arith, marking-fits (startOf (now (start .args .starts))) cs (start .args .n) (start .pre .0) (a .search .placed) (a .search .filled) _ _ e k (start .pre .1)))
 
 same-length : tie.Need-same-length
 same-length c = search needs
@@ -46,7 +46,7 @@ returns-2 c =
     let a = c .before .before .before .before .before .before .before .before .before .find-order .result in
     let e = answer-some a (not-false _ (c .before .before .before .before .before .before .before .if1 .left)) (c .before .before .before .before .before .before .before .before .before .find-order .ensures) in
     let k = c .before .before .before .before .transactions-begun .ensures in
-    decided-marking _ (now (start .args .output)) _ refl (marking-found (startOf (now (start .args .initial))) cs (start .args .n) (start .pre .0) (a .search .placed) (a .search .filled) _ e k)
+    decided-marking _ (now (start .args .output)) _ refl (marking-found (startOf (now (start .args .starts))) cs (start .args .n) (start .pre .0) (a .search .placed) (a .search .filled) _ e k)
     (c .before .before .write-marking .ensures .1) (c .before .before .write-marking .ensures .0)
 
 pub find-lowest-spec : {M : Type 1} → statement M

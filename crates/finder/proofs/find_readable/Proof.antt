@@ -8,7 +8,7 @@ use lib.ListN.{length}
 use Rattle.events.specs.declared.columns.Checked.{Checked}
 use Rattle.events.specs.Columns.{columns, history}
 use Rattle.events.specs.Events.{begins}
-use Rattle.tables.specs.Order.{startOf}
+use Rattle.events.specs.Starts.{startOf}
 use Rattle.finder.specs.Answer.{lowestMarking, decided}
 use Rattle.tables.proofs.JudgedLaws.{few-judged, readable-prefix}
 use Rattle.opacity.proofs.Bounds.{reads-low}
@@ -25,7 +25,7 @@ returns c =
     let start = c .before .before .before .before .before .before .before in
     let cs = columns (now (start .args .kinds)) (now (start .args .transactions)) (now (start .args .registers)) (now (start .args .values)) in
     let h = history cs (start .args .n) in
-    let o = startOf (now (start .args .initial)) in
+    let o = startOf (now (start .args .starts)) in
     let d = now (start .args .output) in
     let e = c .before .transactions-begun .ensures in
     decided-refused (lowestMarking o h) d (refused-31 h (start .args .count) (length d) (omega (arith, c .if1 .taken)))
@@ -63,7 +63,7 @@ returns-2 c =
     let start = c .before .before .before .before .before .before .before .before .before in
     let cs = columns (now (start .args .kinds)) (now (start .args .transactions)) (now (start .args .registers)) (now (start .args .values)) in
     let h = history cs (start .args .n) in
-    let o = startOf (now (start .args .initial)) in
+    let o = startOf (now (start .args .starts)) in
     let d = now (start .args .output) in
     let e = c .before .before .before .transactions-begun .ensures in
     let q = c .before .store-reads .ensures in
@@ -75,7 +75,7 @@ find-lowest-requires c κs =
     let start = c .before .before .before .before .before .before .before .before .before .before in
     let cs = columns (now (start .args .kinds)) (now (start .args .transactions)) (now (start .args .registers)) (now (start .args .values)) in
     let h = history cs (start .args .n) in
-    let o = startOf (now (start .args .initial)) in
+    let o = startOf (now (start .args .starts)) in
     let d = now (start .args .output) in
     let e = c .before .before .before .before .transactions-begun .ensures in
     let q = c .before .before .store-reads .ensures in
@@ -90,7 +90,7 @@ returns-3 c =
     let start = c .before .before .before .before .before .before .before .before .before .before .before .before .before in
     let cs = columns (now (start .args .kinds)) (now (start .args .transactions)) (now (start .args .registers)) (now (start .args .values)) in
     let h = history cs (start .args .n) in
-    let o = startOf (now (start .args .initial)) in
+    let o = startOf (now (start .args .starts)) in
     let d = now (start .args .output) in
     let e = c .before .before .before .before .before .before .before .transactions-begun .ensures in
     let q = c .before .before .before .before .before .store-reads .ensures in

@@ -15,11 +15,11 @@ use Rattle.scan.proofs.scan_prefixes.Statement.{statement}
 use Rattle.scan.proofs.scan_prefixes.Tie as tie
 
 abbrev Inv-loop : tie.InvT-loop
-Inv-loop initial kinds transactions registers values n required₀ written₀ s₀ begun₀ i₀ required written s begun i =
-    Scanning initial (columns kinds transactions registers values) n i (tablesBy s required written) begun
+Inv-loop starts kinds transactions registers values n required₀ written₀ s₀ begun₀ i₀ required written s begun i =
+    Scanning starts (columns kinds transactions registers values) n i (tablesBy s required written) begun
 
 abbrev μ-loop : tie.MeasureT-loop
-μ-loop initial kinds transactions registers values n required₀ written₀ s₀ begun₀ i₀ required written s begun i =
+μ-loop starts kinds transactions registers values n required₀ written₀ s₀ begun₀ i₀ required written s begun i =
     n - i
 
 no-events-requires : tie.Need-no-events-requires Inv-loop μ-loop
@@ -28,7 +28,7 @@ no-events-requires c κs = search needs
 loop-holds : tie.Need-loop-holds Inv-loop μ-loop
 loop-holds c =
     let start = c .before .before .before .before .before in
-    let o = now (start .args .initial) in
+    let o = now (start .args .starts) in
     let cs = columns (now (start .args .kinds)) (now (start .args .transactions)) (now (start .args .registers)) (now (start .args .values)) in
     scanning-none o cs (start .args .n) _ (c .no-events .ensures)
 
@@ -69,7 +69,7 @@ counted-requires : tie.Need-counted-requires Inv-loop μ-loop
 counted-requires c κs =
     let start = c .before .before .before .before .before .before .before .before .before .before .before .before .before .before in
     let at = c .before .before .before .before .before .before .before .before .loop in
-    let o = now (start .args .initial) in
+    let o = now (start .args .starts) in
     let cs = columns (now (start .args .kinds)) (now (start .args .transactions)) (now (start .args .registers)) (now (start .args .values)) in
     let s = tablesBy (at .s) (at .required) (at .written) in
     let q = few-before o cs (start .args .n) (at .i) s (at .begun) (start .pre) (at .inv) in
@@ -80,7 +80,7 @@ complete-requires c κs =
     let start = c .before .before .before .before .before .before .before .before .before .before .before .before .before .before .before .before .before in
     let at = c .before .before .before .before .before .before .before .before .before .before .before .loop in
     let l = c .before .before .before .before .before .before .before .before .before .before .loop-test .taken in
-    let o = now (start .args .initial) in
+    let o = now (start .args .starts) in
     let cs = columns (now (start .args .kinds)) (now (start .args .transactions)) (now (start .args .registers)) (now (start .args .values)) in
     let s = tablesBy (at .s) (at .required) (at .written) in
     let few = few-begun o cs (start .args .n) (start .pre) (at .i) l s (at .begun) (at .inv) _ (c .before .before .counted .result) (c .before .before .before .step .ensures) (c .before .before .counted .ensures) in
@@ -94,7 +94,7 @@ returns c =
     let start = c .before .before .before .before .before .before .before .before .before .before .before .before .before .before .before .before .before .before .before .before .before in
     let at = c .before .before .before .before .before .before .before .before .before .before .before .before .before .before .before .loop in
     let l = c .before .before .before .before .before .before .before .before .before .before .before .before .before .before .loop-test .taken in
-    let o = now (start .args .initial) in
+    let o = now (start .args .starts) in
     let cs = columns (now (start .args .kinds)) (now (start .args .transactions)) (now (start .args .registers)) (now (start .args .values)) in
     let s = tablesBy (at .s) (at .required) (at .written) in
     scanning-fault o cs (start .args .n) (start .pre) (at .i) l s (at .begun) (at .inv) _ (c .before .before .before .before .before .before .counted .result) (c .before .before .before .before .before .before .before .step .ensures) (c .before .before .before .before .before .before .counted .ensures) (c .before .before .before .complete .result) (c .before .before .before .complete .ensures) _ (c .cause-of .ensures) (not-true _ (c .before .if1 .taken))
@@ -115,7 +115,7 @@ loop-again c =
     let start = c .before .before .before .before .before .before .before .before .before .before .before .before .before .before .before .before .before .before .before .before in
     let at = c .before .before .before .before .before .before .before .before .before .before .before .before .before .before .loop in
     let l = c .before .before .before .before .before .before .before .before .before .before .before .before .before .loop-test .taken in
-    let o = now (start .args .initial) in
+    let o = now (start .args .starts) in
     let cs = columns (now (start .args .kinds)) (now (start .args .transactions)) (now (start .args .registers)) (now (start .args .values)) in
     let s = tablesBy (at .s) (at .required) (at .written) in
     scanning-more o cs (start .args .n) (start .pre) (at .i) l s (at .begun) (at .inv) _ (c .before .before .before .before .before .counted .result) (c .before .before .before .before .before .before .step .ensures) (c .before .before .before .before .before .counted .ensures) (c .before .before .complete .result) (c .before .before .complete .ensures) (not-false _ (c .if1 .left))
@@ -124,7 +124,7 @@ returns-2 : tie.Need-returns-2 Inv-loop μ-loop
 returns-2 c =
     let start = c .before .before .before .before .before .before .before in
     let at = c .before .loop in
-    let o = now (start .args .initial) in
+    let o = now (start .args .starts) in
     let cs = columns (now (start .args .kinds)) (now (start .args .transactions)) (now (start .args .registers)) (now (start .args .values)) in
     let s = tablesBy (at .s) (at .required) (at .written) in
     let q = at .inv .passed in

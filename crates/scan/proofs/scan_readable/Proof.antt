@@ -1,13 +1,10 @@
 -- `scan::scan_readable` meets its contract.
 -- Assumes nothing.
 use mathlib.Core.Path.{ap, _∙_}
-use Prim.Native.Nat.{ℕ}
 use native.Mathlib.Omega.{arith}
 use denote.Ref.{now}
 use borrow.Author.Needs.{needs}
 use Rattle.events.specs.Columns.{columns, history}
-use Rattle.opacity.specs.Scan.{scan}
-use Rattle.tables.proofs.JudgedLaws.{start-zero}
 use Rattle.scan.specs.declared.Judgement.{Judgement}
 use Rattle.scan.proofs.AnswerLaws.{decided-refused, decided-scanned, refused-31, passes-31}
 use Rattle.scan.proofs.scan_readable.Statement.{statement}
@@ -28,12 +25,12 @@ scan-prefixes-requires c κs = search needs
 
 returns-2 : tie.Need-returns-2
 returns-2 c =
-    let start = c .before .before .before .before .before .before .before .before in
+    let start = c .before .before .before .before .before .before .before in
     let cs = columns (now (start .args .kinds)) (now (start .args .transactions)) (now (start .args .registers)) (now (start .args .values)) in
     let h = history cs (start .args .count) in
-    let e = c .before .before .before .transactions-begun .ensures in
-    ap Judgement.Scanned (c .scan-prefixes .ensures ∙ ap (λ (s : ℕ → ℕ). scan s h) start-zero)
-    ∙ decided-scanned _ (passes-31 h (start .args .count) (omega (arith, c .before .before .if1 .left)))
+    let e = c .before .before .transactions-begun .ensures in
+    ap Judgement.Scanned (c .scan-prefixes .ensures)
+    ∙ decided-scanned _ (passes-31 h (start .args .count) (omega (arith, c .before .if1 .left)))
 
 pub scan-readable-spec : {M : Type 1} → statement M
 scan-readable-spec =

@@ -102,7 +102,7 @@ choose-outcome-choose-transaction-requires t c κs =
 choose-outcome-returns : (t : ℕ) → choose-outcome-lts.Need-returns (outcome-claims t) (choose-outcome-at t) choose-outcome.Post
 choose-outcome-returns t c =
     let start = c .before .before .before .before .before in
-    let D = constraints (start .args .initial .now) (start .args .predecessors .now) (start .args .allowed .now) (start .args .required .now) (start .args .written .now) in
+    let D = constraints (start .args .starts .now) (start .args .predecessors .now) (start .args .allowed .now) (start .args .required .now) (start .args .written .now) in
     outcome-first D (start .args .s) (start .args .t) (c .before .choose-transaction .result) (c .if2 .taken)
     (attempt-next D (start .args .s) (c .before .before .place .result) (start .args .t) 0 (start .pre .1) (c .before .before .place .ensures)
     (c .before .before .before .before .fits2 .ensures) (c .before .before .before .if1 .taken) (c .before .choose-transaction .ensures))
@@ -125,10 +125,10 @@ choose-outcome-choose-transaction-requires-2 t c κs =
     )
 
 -- where the second outcome is tried, the first led to nothing
-missed : (t : ℕ) (c : choose-outcome-lts.Joined1 (outcome-claims t) (choose-outcome-at t) choose-outcome.Post) → attempt (constraints (c .before .before .args .initial .now) (c .before .before .args .predecessors .now) (c .before .before .args .allowed .now) (c .before .before .args .required .now) (c .before .before .args .written .now)) (c .before .before .args .s) (c .before .before .args .t) 0 ≡ none
+missed : (t : ℕ) (c : choose-outcome-lts.Joined1 (outcome-claims t) (choose-outcome-at t) choose-outcome.Post) → attempt (constraints (c .before .before .args .starts .now) (c .before .before .args .predecessors .now) (c .before .before .args .allowed .now) (c .before .before .args .required .now) (c .before .before .args .written .now)) (c .before .before .args .s) (c .before .before .args .t) 0 ≡ none
 missed t c =
     let start = c .before .before in
-    let D = constraints (start .args .initial .now) (start .args .predecessors .now) (start .args .allowed .now) (start .args .required .now) (start .args .written .now) in
+    let D = constraints (start .args .starts .now) (start .args .predecessors .now) (start .args .allowed .now) (start .args .required .now) (start .args .written .now) in
     ⊎-elim
     (λ w. sym (attempt-next D (start .args .s) (w .1 .result) (start .args .t) 0 (start .pre .1) (w .1 .ensures) (c .before .fits2 .ensures) (w .0 .taken) (w .2 .ensures))
     ∙ answer-none (w .2 .result) (w .3 .left))
@@ -138,7 +138,7 @@ missed t c =
 choose-outcome-returns-2 : (t : ℕ) → choose-outcome-lts.Need-returns-2 (outcome-claims t) (choose-outcome-at t) choose-outcome.Post
 choose-outcome-returns-2 t c =
     let start = c .before .before .before .before .before .before in
-    let D = constraints (start .args .initial .now) (start .args .predecessors .now) (start .args .allowed .now) (start .args .required .now) (start .args .written .now) in
+    let D = constraints (start .args .starts .now) (start .args .predecessors .now) (start .args .allowed .now) (start .args .required .now) (start .args .written .now) in
     outcome-second D (start .args .s) (start .args .t) (missed t (c .before .before .before .before))
     (attempt-next D (start .args .s) (c .before .place2 .result) (start .args .t) 1 (start .pre .1) (c .before .place2 .ensures)
     (c .before .before .before .fits3 .ensures) (c .before .before .if3 .taken) (c .choose-transaction2 .ensures))
@@ -146,7 +146,7 @@ choose-outcome-returns-2 t c =
 choose-outcome-returns-3 : (t : ℕ) → choose-outcome-lts.Need-returns-3 (outcome-claims t) (choose-outcome-at t) choose-outcome.Post
 choose-outcome-returns-3 t c =
     let start = c .before .before .before .before in
-    let D = constraints (start .args .initial .now) (start .args .predecessors .now) (start .args .allowed .now) (start .args .required .now) (start .args .written .now) in
+    let D = constraints (start .args .starts .now) (start .args .predecessors .now) (start .args .allowed .now) (start .args .required .now) (start .args .written .now) in
     outcome-second D (start .args .s) (start .args .t) (missed t (c .before .before))
     (sym (attempt-none D (start .args .s) (start .args .t) 1 (c .before .fits3 .ensures) (c .if3 .left)))
 
@@ -157,12 +157,12 @@ choose-transaction-count-requires t c κs =
 choose-transaction-returns : (t : ℕ) → choose-transaction-lts.Need-returns (transaction-claims t) (choose-transaction-at t) choose-transaction.Post
 choose-transaction-returns t c =
     let start = c .before .before in
-    all-placed (constraints (start .args .initial .now) (start .args .predecessors .now) (start .args .allowed .now) (start .args .required .now) (start .args .written .now)) (ones (start .args .s .unplaced)) (placedOf (start .args .s)) (members (start .args .s .unplaced)) (members (start .args .candidates)) (sym (c .before .count .ensures) ∙ c .if1 .taken)
+    all-placed (constraints (start .args .starts .now) (start .args .predecessors .now) (start .args .allowed .now) (start .args .required .now) (start .args .written .now)) (ones (start .args .s .unplaced)) (placedOf (start .args .s)) (members (start .args .s .unplaced)) (members (start .args .candidates)) (sym (c .before .count .ensures) ∙ c .if1 .taken)
 
 choose-transaction-returns-2 : (t : ℕ) → choose-transaction-lts.Need-returns-2 (transaction-claims t) (choose-transaction-at t) choose-transaction.Post
 choose-transaction-returns-2 t c =
     let start = c .before .before .before in
-    no-candidate (constraints (start .args .initial .now) (start .args .predecessors .now) (start .args .allowed .now) (start .args .required .now) (start .args .written .now)) (ones (start .args .s .unplaced)) (placedOf (start .args .s)) (members (start .args .s .unplaced)) (start .args .candidates) (λ e. c .before .if1 .left (c .before .before .count .ensures ∙ e)) (c .if2 .taken)
+    no-candidate (constraints (start .args .starts .now) (start .args .predecessors .now) (start .args .allowed .now) (start .args .required .now) (start .args .written .now)) (ones (start .args .s .unplaced)) (placedOf (start .args .s)) (members (start .args .s .unplaced)) (start .args .candidates) (λ e. c .before .if1 .left (c .before .before .count .ensures ∙ e)) (c .if2 .taken)
 
 choose-transaction-lowest-requires : (t : ℕ) → choose-transaction-lts.Need-lowest-requires (transaction-claims t) (choose-transaction-at t) choose-transaction.Post
 choose-transaction-lowest-requires t c κs =
@@ -180,7 +180,7 @@ choose-transaction-choose-outcome-requires t c κs =
 choose-transaction-returns-3 : (t : ℕ) → choose-transaction-lts.Need-returns-3 (transaction-claims t) (choose-transaction-at t) choose-transaction.Post
 choose-transaction-returns-3 t c =
     let start = c .before .before .before .before .before .before in
-    candidate-found (constraints (start .args .initial .now) (start .args .predecessors .now) (start .args .allowed .now) (start .args .required .now) (start .args .written .now)) (start .args .s) (start .args .candidates) (c .before .before .lowest .result) (c .before .choose-outcome .result)
+    candidate-found (constraints (start .args .starts .now) (start .args .predecessors .now) (start .args .allowed .now) (start .args .required .now) (start .args .written .now)) (start .args .s) (start .args .candidates) (c .before .before .lowest .result) (c .before .choose-outcome .result)
     (start .pre .1) (start .fits .candidates .fits) (c .before .before .before .if2 .left) (c .before .before .lowest .ensures) (c .if3 .taken) (c .before .choose-outcome .ensures)
 
 choose-transaction-without-requires : (t : ℕ) → choose-transaction-lts.Need-without-requires (transaction-claims t) (choose-transaction-at t) choose-transaction.Post
@@ -202,7 +202,7 @@ choose-transaction-choose-transaction-requires t c κs =
 choose-transaction-returns-4 : (t : ℕ) → choose-transaction-lts.Need-returns-4 (transaction-claims t) (choose-transaction-at t) choose-transaction.Post
 choose-transaction-returns-4 t c =
     let start = c .before .before .before .before .before .before .before .before in
-    candidate-missed (constraints (start .args .initial .now) (start .args .predecessors .now) (start .args .allowed .now) (start .args .required .now) (start .args .written .now)) (start .args .s) (start .args .candidates) (c .before .before .before .before .lowest .result) (c .before .without .result) (c .before .before .before .choose-outcome .result)
+    candidate-missed (constraints (start .args .starts .now) (start .args .predecessors .now) (start .args .allowed .now) (start .args .required .now) (start .args .written .now)) (start .args .s) (start .args .candidates) (c .before .before .before .before .lowest .result) (c .before .without .result) (c .before .before .before .choose-outcome .result)
     (start .pre .1) (start .fits .candidates .fits) (c .before .before .before .before .before .if2 .left) (c .before .before .before .before .lowest .ensures) (c .before .before .if3 .left)
     (c .before .before .before .choose-outcome .ensures) (c .before .without .ensures) (c .choose-transaction .ensures)
 

@@ -10,17 +10,17 @@ use Rattle.search.proofs.content.Statement.{statement}
 use Rattle.search.proofs.content.Tie as tie
 
 abbrev Inv-loop : tie.InvT-loop
-Inv-loop initial written s register places value₀ i₀ value i = (i ≤ s .filled) × (value ≡ contentTo initial written (placedOf s) register i)
+Inv-loop starts written s register places value₀ i₀ value i = (i ≤ s .filled) × (value ≡ contentTo starts written (placedOf s) register i)
 
 abbrev μ-loop : tie.MeasureT-loop
-μ-loop initial written s register places value₀ i₀ value i = s .filled - i
+μ-loop starts written s register places value₀ i₀ value i = s .filled - i
 
-initial-value-requires : tie.Need-initial-value-requires Inv-loop μ-loop
-initial-value-requires c κs = search needs
+start-value-requires : tie.Need-start-value-requires Inv-loop μ-loop
+start-value-requires c κs = search needs
 
 loop-holds : tie.Need-loop-holds Inv-loop μ-loop
 unfolding contentTo
-loop-holds c = (omega arith, c .initial-value .ensures)
+loop-holds c = (omega arith, c .start-value .ensures)
 
 array-read-wide : tie.Need-array-read-wide Inv-loop μ-loop
 array-read-wide c = omega arith
@@ -44,14 +44,14 @@ loop-again : tie.Need-loop-again Inv-loop μ-loop
 loop-again c =
     let start = c .before .before .before .before .before .before .before in
     let at = c .before .before .before .before .loop in
-    (omega arith, content-more (start .args .initial .now) (start .args .written .now) (start .args .s) (start .args .register) (at .i) _ (at .value) (c .after .result) (omega arith) (c .before .wide .ensures) (at .inv .1) (c .after .ensures))
+    (omega arith, content-more (start .args .starts .now) (start .args .written .now) (start .args .s) (start .args .register) (at .i) _ (at .value) (c .after .result) (omega arith) (c .before .wide .ensures) (at .inv .1) (c .after .ensures))
 
 returns : tie.Need-returns Inv-loop μ-loop
 returns c =
     let start = c .before .before .before .before .before in
     let at = c .before .before .loop in
     let e : at .i ≡ start .args .s .filled = omega arith in
-    at .inv .1 ∙ ap (contentTo (start .args .initial .now) (start .args .written .now) (placedOf (start .args .s)) (start .args .register)) e
+    at .inv .1 ∙ ap (contentTo (start .args .starts .now) (start .args .written .now) (placedOf (start .args .s)) (start .args .register)) e
 
 pub content-spec : {M : Type 1} → statement M
 content-spec =
@@ -59,7 +59,7 @@ content-spec =
     (tie.spec
     Inv-loop
     μ-loop
-    initial-value-requires
+    start-value-requires
     loop-holds
     array-read-wide
     wide-requires

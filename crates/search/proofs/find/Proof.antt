@@ -22,7 +22,7 @@ choose-transaction-requires c κs = start-within (c .before .args .n) (c .bit .r
 returns : tie.Need-returns
 returns c =
     let start = c .before .before in
-    let D = constraints (start .args .initial .now) (start .args .predecessors .now) (start .args .allowed .now) (start .args .required .now) (start .args .written .now) in
+    let D = constraints (start .args .starts .now) (start .args .predecessors .now) (start .args .allowed .now) (start .args .required .now) (start .args .written .now) in
     c .choose-transaction .ensures
     ∙ start-completes D (start .args .n) (c .before .bit .result - 1) (start .pre) (ap (λ (k : ℕ). k - 1) (c .before .bit .ensures))
 

@@ -14,11 +14,11 @@ use Rattle.tables.proofs.find_order.Statement.{statement}
 use Rattle.tables.proofs.find_order.Tie as tie
 
 abbrev Inv-loop : tie.InvT-loop
-Inv-loop initial kinds transactions registers values n required₀ written₀ s₀ i₀ required written s i =
+Inv-loop starts kinds transactions registers values n required₀ written₀ s₀ i₀ required written s i =
     (i ≤ n) × (tablesBy s required written ≡ tablesOf (history (columns kinds transactions registers values) i))
 
 abbrev μ-loop : tie.MeasureT-loop
-μ-loop initial kinds transactions registers values n required₀ written₀ s₀ i₀ required written s i =
+μ-loop starts kinds transactions registers values n required₀ written₀ s₀ i₀ required written s i =
     n - i
 
 no-events-requires : tie.Need-no-events-requires Inv-loop μ-loop
@@ -85,7 +85,7 @@ returns c =
     let cs = columns (now (start .args .kinds)) (now (start .args .transactions)) (now (start .args .registers)) (now (start .args .values)) in
     let at = c .before .before .before .before .before .loop in
     let e : at .i ≡ start .args .n = omega arith in
-    found-by (now (start .args .initial)) cs (start .args .n) _ _ _ (start .pre) (at .inv .1 ∙ ap (λ (k : ℕ). tablesOf (history cs k)) e) (c .before .before .before .transactions-begun .ensures) (c .complete .ensures)
+    found-by (now (start .args .starts)) cs (start .args .n) _ _ _ (start .pre) (at .inv .1 ∙ ap (λ (k : ℕ). tablesOf (history cs k)) e) (c .before .before .before .transactions-begun .ensures) (c .complete .ensures)
 
 pub find-order-spec : {M : Type 1} → statement M
 find-order-spec =
