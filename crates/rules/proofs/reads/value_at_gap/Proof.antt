@@ -2,10 +2,11 @@
 -- Assumes nothing.
 use mathlib.Core.Option.{Option·getD}
 use Prim.Native.Nat.{_<_}
-use mathlib.Core.Path.{_≡_, sym, _∙_}
+use mathlib.Core.Path.{_≡_, sym, ap, _∙_}
 use mathlib.Core.Bool.{true, false}
 use native.Mathlib.Omega.{arith}
 use borrow.Author.Tests.{not-true, not-false}
+use lib.Dec.{eqb}
 use lib.ListN.{getD}
 use Rattle.events.specs.Lists.{_implies_}
 use Rattle.events.specs.Starts.{startOf}
@@ -99,8 +100,8 @@ returns-2 c =
     let w : c .before .before .before .before .before .last-writer .result ≡ plusOne o = c .before .before .before .before .before .last-writer .ensures ∙ rw (ep, eg) in
     let q : getD (start .args .reads .now) (start .args .i) false ≡ true = not-false _ (c .before .before .before .before .before .before .before .before .before .before .if1 .left) in
     let z : Option·getD o (startOf (start .args .starts .now) r) ≡ startOf (start .args .starts .now) r = value-none o (startOf (start .args .starts .now) r) (sym (c .before .before .before .before .if2 .taken) ∙ w) in
-    let er : c .before .before .wide2 .result ≡ r = c .before .before .wide2 .ensures in
-    rw (q, z, er)
+    let es : getD (start .args .starts .now) (c .before .before .wide2 .result) 0 ≡ startOf (start .args .starts .now) r = ap (startOf (start .args .starts .now)) (c .before .before .wide2 .ensures) in
+    rw (q, z) (ap (eqb (getD (start .args .values .now) (start .args .i) 0)) es)
 
 mul-stored : tie.Need-mul-stored
 mul-stored c =
