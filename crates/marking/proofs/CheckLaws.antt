@@ -4,7 +4,7 @@ use Prim.Native.Nat.{ℕ, zero, suc, _≤_, _<_}
 use native.Mathlib.Nat.{le-step, lt-suc-self, lt-of-not-le}
 use native.Mathlib.Decide.{decLe}
 use native.Mathlib.Omega.{arith}
-use mathlib.Core.Path.{_≡_, refl, sym, ap, _∙_, fun-ext}
+use mathlib.Core.Path.{_≡_, refl, sym, ap, _∙_, subst, fun-ext}
 use mathlib.Core.Bool.{Bool, true, false, not, cond, true≢false, false≢true}
 use mathlib.Core.List.{List, [], _∷_, _++_, map, map-append}
 use lib.Dec.{eqb}
@@ -13,12 +13,14 @@ use Rattle.events.specs.declared.event.Event.{Event}
 use Rattle.events.specs.Lists.{_and_, keep, push, range}
 use Rattle.events.specs.Events.{eventAt, noEvent, begins, isRead}
 use Rattle.events.specs.Columns.{Columns, history}
-use Rattle.events.specs.Questions.{readable}
+use Rattle.events.specs.declared.columns.Checked.the-variants.{Readable}
+use Rattle.events.specs.Questions.{readable, historyAnswer}
 use Rattle.events.proofs.ListLaws.{keep-append}
 use Rattle.events.proofs.ColumnLaws.{history-length, history-at, begins-take, Held}
-use Rattle.events.proofs.ReadableLaws.{readable-most}
+use Rattle.events.proofs.ReadableLaws.{readable-most, columns-readable}
+use Rattle.events.proofs.StartLaws.{fine}
 use Rattle.events.proofs.QuestionLaws.{begun}
-use Rattle.opacity.proofs.Bounds.{at-most-64}
+use Rattle.opacity.proofs.Bounds.{at-most-64, register-low}
 use Rattle.opacity.specs.Transactions.{isStoreRead, storeReads}
 use Rattle.opacity.specs.Marking.{Point}
 use Rattle.links.specs.Writes.{Links, Reads}
@@ -31,6 +33,10 @@ use Rattle.marking.specs.State.{knownBy, pointsOf, soFar, readAs, Kept}
 use Rattle.marking.proofs.WalkLaws.{refused-as, content-as}
 
 -- ---- a readable history
+
+-- where no question refuses the history, the columns hold it and it is readable
+pub history-readable : (edition : ℕ) (starts : List ℕ) (c : Columns) (n : ℕ) → historyAnswer edition starts c n ≡ Readable → Held c n × (readable (history c n) ≡ true)
+history-readable edition starts c n e = columns-readable c n (fine edition starts c n e .columns)
 
 module _ (c : Columns) (n : ℕ) (r : readable (history c n) ≡ true) where
   few-events : n ≤ 2048
@@ -46,6 +52,7 @@ module _ (c : Columns) (n : ℕ) (r : readable (history c n) ≡ true) where
         few = few-events;
         few-begun = at-most-64 (history c n) r;
         begun = λ i l. known-transaction i l;
+        registers-low = λ i l. subst (λ (e : Event). e .register < 32) (history-at c n i l) (register-low (history c n) r i (rw (history-length c n) l));
       }
     where
       known-transaction : (i : ℕ) → i < n → getD (c .transactions) i 0 < begins (history c n)

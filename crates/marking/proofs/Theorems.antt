@@ -1,5 +1,5 @@
--- The theorems about the checker's answer, gathered: each says what the paper says. The words are those of specs/ here and in `opacity`; the start
--- values are a parameter, and `verdictAnswer` is `answerFrom` with 0 everywhere.
+-- The theorems about the checker's answer, gathered: each says what the paper says. The words are those of specs/ here and in `opacity`; the
+-- edition and the start values are the caller's, whichever they are.
 -- Assumes nothing.
 use Prim.Native.Nat.{ℕ}
 use native.Mathlib.Omega.{arith}
@@ -12,17 +12,19 @@ use Rattle.events.specs.declared.columns.Checked.the-variants.{Readable, Refuse
 use Rattle.events.specs.declared.event.Event.{Event}
 use Rattle.events.specs.Bytes.{Bytes}
 use Rattle.events.specs.Columns.{Columns, history}
-use Rattle.events.specs.Questions.{readable, columnsAnswer}
-use Rattle.events.proofs.ReadableLaws.{columns-readable}
+use Rattle.events.specs.Starts.{startOf, noStarts}
+use Rattle.events.specs.Questions.{readable, historyAnswer}
+use Rattle.events.proofs.StartLaws.{no-starts, first-edition as first-asked}
 use Rattle.opacity.specs.declared.verdict.Verdict.{Verdict}
 use Rattle.opacity.specs.declared.verdict.Verdict.the-variants.{Accepted, Broken}
 use Rattle.opacity.specs.declared.verdict.Rule.{Rule}
-use Rattle.opacity.specs.Justification.{Justified, zeros}
+use Rattle.opacity.specs.Justification.{Justified}
 use Rattle.opacity.specs.Marking.{Marking, ReadableFor, markingBytes, verdict, AllHold, RuleD, FirstBroken, namedEvent, namedTransaction}
 use Rattle.opacity.proofs.Theorems.{accepted-iff-rules, accepted-iff-justified, broken-iff-first}
 use Rattle.marking.specs.declared.check.Judged.the-variants.{Ruled, HistoryRefused, MarkingRefused}
 use Rattle.marking.specs.File.{known, FileRead, content, refused, fileRead}
-use Rattle.marking.specs.Answer.{ruled, afterColumns, answerFrom, verdictAnswer}
+use Rattle.marking.specs.Answer.{ruled, afterColumns, verdictAnswer, firstEditionAnswer}
+use Rattle.marking.proofs.CheckLaws.{history-readable}
 use Rattle.marking.proofs.ContentLaws.{content-readable}
 use Rattle.marking.proofs.ReadBack.{bytes-content}
 use Rattle.marking.proofs.WriteBack.{content-bytes}
@@ -40,100 +42,106 @@ readable-iff-bytes h r file by m = (
 
 -- ---- which answer comes when
 
-module _ (start : ℕ → ℕ) (c : Columns) (n : ℕ) (file : List ℕ) where
-  -- 17 or an event's own question comes before all else, with its event.
-  pub history-refused : (q event : ℕ) → (answerFrom start c n file ≡ HistoryRefused q event) ↔ (columnsAnswer c n ≡ Refused q event)
-  unfolding answerFrom
-  history-refused q event = (go (columnsAnswer c n), λ e. rw e)
+module _ (edition : ℕ) (starts : List ℕ) (c : Columns) (n : ℕ) (file : List ℕ) where
+  -- 17, 3 of the start values or an event's own question comes before all else, with its event; for 17 and 3 that is the count.
+  pub history-refused : (q event : ℕ) → (verdictAnswer edition starts c n file ≡ HistoryRefused q event) ↔ (historyAnswer edition starts c n ≡ Refused q event)
+  unfolding verdictAnswer
+  history-refused q event = (go (historyAnswer edition starts c n), λ e. rw e)
     where
-      not-ruled : (x : FileRead) → ruled start (history c n) x ≡ HistoryRefused q event → ⊥
+      not-ruled : (x : FileRead) → ruled (startOf starts) (history c n) x ≡ HistoryRefused q event → ⊥
       not-ruled (content m) d = let z : _≡_ {A = ℕ} 0 1 = cc in omega arith
       not-ruled (refused a b) d = let z : _≡_ {A = ℕ} 0 1 = cc in omega arith
 
-      go : (x : Checked) → afterColumns start (history c n) file x ≡ HistoryRefused q event → x ≡ Refused q event
+      go : (x : Checked) → afterColumns (startOf starts) (history c n) file x ≡ HistoryRefused q event → x ≡ Refused q event
       go Readable d = absurd (not-ruled (fileRead (known (history c n)) file) d)
       go (Refused a b) d = cc
 
-  module _ (fine : columnsAnswer c n ≡ Readable) where
-    after : answerFrom start c n file ≡ ruled start (history c n) (fileRead (known (history c n)) file)
-    unfolding answerFrom
+  module _ (fine : historyAnswer edition starts c n ≡ Readable) where
+    after : verdictAnswer edition starts c n file ≡ ruled (startOf starts) (history c n) (fileRead (known (history c n)) file)
+    unfolding verdictAnswer
     after = rw fine
 
     -- Then the marking's questions, with the byte.
-    pub marking-refused : (q byte : ℕ) → (answerFrom start c n file ≡ MarkingRefused q byte) ↔ (fileRead (known (history c n)) file ≡ refused q byte)
-    marking-refused q byte = (λ e. go (fileRead (known (history c n)) file) (sym after ∙ e), λ e. after ∙ ap (ruled start (history c n)) e)
+    pub marking-refused : (q byte : ℕ) → (verdictAnswer edition starts c n file ≡ MarkingRefused q byte) ↔ (fileRead (known (history c n)) file ≡ refused q byte)
+    marking-refused q byte = (λ e. go (fileRead (known (history c n)) file) (sym after ∙ e), λ e. after ∙ ap (ruled (startOf starts) (history c n)) e)
       where
-        go : (x : FileRead) → ruled start (history c n) x ≡ MarkingRefused q byte → x ≡ refused q byte
+        go : (x : FileRead) → ruled (startOf starts) (history c n) x ≡ MarkingRefused q byte → x ≡ refused q byte
         go (content m) d = absurd (let z : _≡_ {A = ℕ} 0 1 = cc in omega arith)
         go (refused a b) d = cc
 
     -- Then the rules, on the content m of the file.
     module _ (m : Marking) (holds : fileRead (known (history c n)) file ≡ content m) where
-      answered : answerFrom start c n file ≡ Ruled (verdict start (history c n) m)
-      answered = after ∙ ap (ruled start (history c n)) holds
+      answered : verdictAnswer edition starts c n file ≡ Ruled (verdict (startOf starts) (history c n) m)
+      answered = after ∙ ap (ruled (startOf starts) (history c n)) holds
 
-      pub by-verdict : (v : Verdict) → (answerFrom start c n file ≡ Ruled v) ↔ (verdict start (history c n) m ≡ v)
+      pub by-verdict : (v : Verdict) → (verdictAnswer edition starts c n file ≡ Ruled v) ↔ (verdict (startOf starts) (history c n) m ≡ v)
       by-verdict v = (λ e. same (sym answered ∙ e), λ e. answered ∙ ap Ruled e)
         where
-          same : Ruled (verdict start (history c n) m) ≡ Ruled v → verdict start (history c n) m ≡ v
+          same : Ruled (verdict (startOf starts) (history c n) m) ≡ Ruled v → verdict (startOf starts) (history c n) m ≡ v
           same d = cc
 
       content-is-readable : ReadableFor (history c n) m
-      content-is-readable = content-readable (history c n) file m (columns-readable c n fine .1) holds
+      content-is-readable = content-readable (history c n) file m (history-readable edition starts c n fine .1) holds
 
       -- Accepted exactly if all five rules hold,
-      pub accepted-rules : (answerFrom start c n file ≡ Ruled Accepted) ↔ AllHold start (history c n) m
+      pub accepted-rules : (verdictAnswer edition starts c n file ≡ Ruled Accepted) ↔ AllHold (startOf starts) (history c n) m
       accepted-rules = (
-        λ e. accepted-iff-rules start (history c n) (columns-readable c n fine .1) m .0 (by-verdict Accepted .0 e),
-        λ a. by-verdict Accepted .1 (accepted-iff-rules start (history c n) (columns-readable c n fine .1) m .1 a),
+        λ e. accepted-iff-rules (startOf starts) (history c n) (history-readable edition starts c n fine .1) m .0 (by-verdict Accepted .0 e),
+        λ a. by-verdict Accepted .1 (accepted-iff-rules (startOf starts) (history c n) (history-readable edition starts c n fine .1) m .1 a),
       )
 
       -- exactly if the outcomes and order are a justification of the history and no committed writer of the register but the reader stands
       -- between a read's point and its reader;
-      pub accepted-justified : (answerFrom start c n file ≡ Ruled Accepted) ↔ (Justified start (history c n) (m .places) × RuleD (history c n) m)
+      pub accepted-justified : (verdictAnswer edition starts c n file ≡ Ruled Accepted) ↔ (Justified (startOf starts) (history c n) (m .places) × RuleD (history c n) m)
       accepted-justified = (
-        λ e. accepted-iff-justified start (history c n) (columns-readable c n fine .1) m content-is-readable .0 (by-verdict Accepted .0 e),
-        λ a. by-verdict Accepted .1 (accepted-iff-justified start (history c n) (columns-readable c n fine .1) m content-is-readable .1 a),
+        λ e. accepted-iff-justified (startOf starts) (history c n) (history-readable edition starts c n fine .1) m content-is-readable .0 (by-verdict Accepted .0 e),
+        λ a. by-verdict Accepted .1 (accepted-iff-justified (startOf starts) (history c n) (history-readable edition starts c n fine .1) m content-is-readable .1 a),
       )
 
       -- otherwise the first broken rule, where it is broken lowest, with its event and transaction.
-      pub broken-first : (q : Rule) (i t : ℕ) → (answerFrom start c n file ≡ Ruled (Broken q i t))
-          ↔ ((k : ℕ) × FirstBroken start (history c n) m q k × (i ≡ namedEvent (history c n) q k) × (t ≡ namedTransaction (history c n) q k))
+      pub broken-first : (q : Rule) (i t : ℕ) → (verdictAnswer edition starts c n file ≡ Ruled (Broken q i t))
+          ↔ ((k : ℕ) × FirstBroken (startOf starts) (history c n) m q k × (i ≡ namedEvent (history c n) q k) × (t ≡ namedTransaction (history c n) q k))
       broken-first q i t = (
-        λ e. broken-iff-first start (history c n) (columns-readable c n fine .1) m q i t .0 (by-verdict (Broken q i t) .0 e),
-        λ a. by-verdict (Broken q i t) .1 (broken-iff-first start (history c n) (columns-readable c n fine .1) m q i t .1 a),
+        λ e. broken-iff-first (startOf starts) (history c n) (history-readable edition starts c n fine .1) m q i t .0 (by-verdict (Broken q i t) .0 e),
+        λ a. by-verdict (Broken q i t) .1 (broken-iff-first (startOf starts) (history c n) (history-readable edition starts c n fine .1) m q i t .1 a),
       )
 
 -- ---- the whole
 
 -- the file holds a marking that is readable for the readable history in the columns and justifies it, keeping rule D
-pub record Justifying (start : ℕ → ℕ) (c : Columns) (n : ℕ) (file : List ℕ) : Type 0 where
-  pub fine : columnsAnswer c n ≡ Readable
+pub record Justifying (edition : ℕ) (starts : List ℕ) (c : Columns) (n : ℕ) (file : List ℕ) : Type 0 where
+  pub fine : historyAnswer edition starts c n ≡ Readable
   pub marking : Marking
   pub holds : fileRead (known (history c n)) file ≡ content marking
-  pub justified : Justified start (history c n) (marking .places)
+  pub justified : Justified (startOf starts) (history c n) (marking .places)
   pub ruleD : RuleD (history c n) marking
 
-pub accepted-iff : (start : ℕ → ℕ) (c : Columns) (n : ℕ) (file : List ℕ) → (answerFrom start c n file ≡ Ruled Accepted) ↔ Justifying start c n file
-unfolding answerFrom
-accepted-iff start c n file = (λ e. go (columnsAnswer c n) refl e, λ j. accepted-justified start c n file (j .fine) (j .marking) (j .holds) .1 (j .justified, j .ruleD))
+pub accepted-iff : (edition : ℕ) (starts : List ℕ) (c : Columns) (n : ℕ) (file : List ℕ) → (verdictAnswer edition starts c n file ≡ Ruled Accepted) ↔ Justifying edition starts c n file
+unfolding verdictAnswer
+accepted-iff edition starts c n file = (λ e. go (historyAnswer edition starts c n) refl e, λ j. accepted-justified edition starts c n file (j .fine) (j .marking) (j .holds) .1 (j .justified, j .ruleD))
   where
-    found : (fine : columnsAnswer c n ≡ Readable) (x : FileRead) → fileRead (known (history c n)) file ≡ x → ruled start (history c n) x ≡ Ruled Accepted → Justifying start c n file
+    found : (fine : historyAnswer edition starts c n ≡ Readable) (x : FileRead) → fileRead (known (history c n)) file ≡ x → ruled (startOf starts) (history c n) x ≡ Ruled Accepted → Justifying edition starts c n file
     found fine (content m) q d =
-        let a = accepted-justified start c n file fine m q .0 (rw fine (ap (ruled start (history c n)) q ∙ d)) in
+        let a = accepted-justified edition starts c n file fine m q .0 (rw fine (ap (ruled (startOf starts) (history c n)) q ∙ d)) in
         record { fine = fine; marking = m; holds = q; justified = a .0; ruleD = a .1 }
     found fine (refused a b) q d = absurd (let z : _≡_ {A = ℕ} 0 1 = cc in omega arith)
 
-    go : (x : Checked) → columnsAnswer c n ≡ x → afterColumns start (history c n) file x ≡ Ruled Accepted → Justifying start c n file
+    go : (x : Checked) → historyAnswer edition starts c n ≡ x → afterColumns (startOf starts) (history c n) file x ≡ Ruled Accepted → Justifying edition starts c n file
     go Readable q d = found q (fileRead (known (history c n)) file) refl d
     go (Refused a b) q d = absurd (let z : _≡_ {A = ℕ} 0 1 = cc in omega arith)
 
 -- The bytes of a content that is readable for the history are judged as that content is; where its verdict is accepted, the checker accepts them.
-pub bytes-judged : (start : ℕ → ℕ) (c : Columns) (n : ℕ) (m : Marking) → columnsAnswer c n ≡ Readable → ReadableFor (history c n) m
-    → answerFrom start c n (markingBytes m) ≡ Ruled (verdict start (history c n) m)
-bytes-judged start c n m fine f = answered start c n (markingBytes m) fine m (bytes-content (history c n) m (columns-readable c n fine .1) f)
+pub bytes-judged : (edition : ℕ) (starts : List ℕ) (c : Columns) (n : ℕ) (m : Marking) → historyAnswer edition starts c n ≡ Readable → ReadableFor (history c n) m
+    → verdictAnswer edition starts c n (markingBytes m) ≡ Ruled (verdict (startOf starts) (history c n) m)
+bytes-judged edition starts c n m fine f = answered edition starts c n (markingBytes m) fine m (bytes-content (history c n) m (history-readable edition starts c n fine .1) f)
 
-pub bytes-accepted : (c : Columns) (n : ℕ) (m : Marking) → columnsAnswer c n ≡ Readable → ReadableFor (history c n) m → verdict zeros (history c n) m ≡ Accepted
-    → verdictAnswer c n (markingBytes m) ≡ Ruled Accepted
-unfolding verdictAnswer
-bytes-accepted c n m fine f e = bytes-judged zeros c n m fine f ∙ ap Ruled e
+pub bytes-accepted : (edition : ℕ) (starts : List ℕ) (c : Columns) (n : ℕ) (m : Marking) → historyAnswer edition starts c n ≡ Readable → ReadableFor (history c n) m
+    → verdict (startOf starts) (history c n) m ≡ Accepted → verdictAnswer edition starts c n (markingBytes m) ≡ Ruled Accepted
+bytes-accepted edition starts c n m fine f e = bytes-judged edition starts c n m fine f ∙ ap Ruled e
+
+-- ---- edition 1
+
+-- A history of edition 1 is answered as it was before there were start values.
+pub first-edition : (c : Columns) (n : ℕ) (file : List ℕ) → verdictAnswer 1 noStarts c n file ≡ firstEditionAnswer c n file
+unfolding verdictAnswer firstEditionAnswer
+first-edition c n file = rw (no-starts, first-asked c n)

@@ -7,7 +7,8 @@ use Rattle.events.specs.declared.event.Event.{Event}
 use Rattle.events.specs.declared.columns.Checked.{Checked}
 use Rattle.events.specs.declared.columns.Checked.the-variants.{Readable, Refused}
 use Rattle.events.specs.Columns.{Columns, history}
-use Rattle.events.specs.Questions.{columnsAnswer}
+use Rattle.events.specs.Starts.{startOf}
+use Rattle.events.specs.Questions.{columnsAnswer, historyAnswer}
 use Rattle.opacity.specs.declared.verdict.Verdict.the-variants.{Accepted, Broken}
 use Rattle.opacity.specs.Marking.{verdict, ruleNumber}
 use Rattle.opacity.specs.Justification.{zeros}
@@ -24,16 +25,17 @@ abbrev pub afterColumns : (ℕ → ℕ) → List Event → List ℕ → Checked 
 afterColumns start h file Readable = ruled start h (fileRead (known h) file)
 afterColumns start h file (Refused q event) = HistoryRefused q event
 
--- 17 and each event's own questions, then the marking's, then the rules; the start values are a parameter
-unfoldable pub answerFrom : (ℕ → ℕ) → Columns → ℕ → List ℕ → Judged
-answerFrom start c n file = afterColumns start (history c n) file (columnsAnswer c n)
+-- 17, 3 of the edition and the start values, and each event's own questions, then the marking's, then the rules
+unfoldable pub verdictAnswer : ℕ → List ℕ → Columns → ℕ → List ℕ → Judged
+verdictAnswer edition starts c n file = afterColumns (startOf starts) (history c n) file (historyAnswer edition starts c n)
 
--- with start value 0 everywhere
-unfoldable pub verdictAnswer : Columns → ℕ → List ℕ → Judged
-verdictAnswer c n file = answerFrom zeros c n file
+-- the answer of edition 1, where every register starts at 0, as it was before there were start values
+unfoldable pub firstEditionAnswer : Columns → ℕ → List ℕ → Judged
+firstEditionAnswer c n file = afterColumns zeros (history c n) file (columnsAnswer c n)
 
--- What the answer says in the paper's words, 0 for what a case lacks: the question that says no (1 to 29), with the event for 17 and an
--- event's own question and the byte for one of the marking; or the broken rule (1 for A to 5 for E) with its event and transaction.
+-- What the answer says in the paper's words, 0 for what a case lacks: the question that says no (1 to 29), with the event for 17, 3 of the
+-- start values and an event's own question and the byte for one of the marking; or the broken rule (1 for A to 5 for E) with its event and
+-- transaction.
 pub record Said : Type 0 where
   pub accepted : Bool
   pub question : ℕ

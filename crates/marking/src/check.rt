@@ -1,13 +1,13 @@
-// The checker: the questions of columns, those of the marking file, and the verdict.
+// The checker: the questions of the history, those of the marking file, and the verdict.
 ghost use mathlib.Core.Path.{_≡_};
 ghost use Rattle.events.specs.Columns.{columns, history};
-ghost use Rattle.opacity.specs.Justification.{zeros};
+ghost use Rattle.events.specs.Starts.{startOf};
 ghost use Rattle.rules.specs.Judge.{Ground};
 ghost use Rattle.marking.specs.File.{known, fileRead};
 ghost use Rattle.marking.specs.Answer.{ruled, verdictAnswer};
 use crate::read::read_marking;
 use events::columns::Checked;
-use events::columns::check_columns;
+use events::columns::check_history;
 use links::writes::links;
 use links::writes::store_reads;
 use opacity::counts::transactions_begun;
@@ -24,6 +24,7 @@ pub enum Judged {
 
 // The answer for a readable history.
 fn check_file(
+    starts: &[u32; 32],
     kinds: &[u16],
     transactions: &[u16],
     registers: &[u16],
@@ -32,7 +33,7 @@ fn check_file(
     file: &[u8],
 ) -> Judged
     requires { ⌜ Ground (columns (now kinds) (now transactions) (now registers) (now values)) count ⌝ }
-    ensures { λ r. ⌜ r ≡ ruled zeros (history (columns (now (kinds .entry)) (now (transactions .entry)) (now (registers .entry)) (now (values .entry))) count) (fileRead (known (history (columns (now (kinds .entry)) (now (transactions .entry)) (now (registers .entry)) (now (values .entry))) count)) (now (file .entry))) ⌝ }
+    ensures { λ r. ⌜ r ≡ ruled (startOf (now (starts .entry))) (history (columns (now (kinds .entry)) (now (transactions .entry)) (now (registers .entry)) (now (values .entry))) count) (fileRead (known (history (columns (now (kinds .entry)) (now (transactions .entry)) (now (registers .entry)) (now (values .entry))) count)) (now (file .entry))) ⌝ }
 {
     let begun = transactions_begun(kinds, transactions, registers, values, count);
     let link = links(kinds, transactions, count);
@@ -48,6 +49,7 @@ fn check_file(
     let outcomes = reading.outcomes;
     let gaps = reading.gaps;
     let verdict = judge(
+        starts,
         kinds,
         transactions,
         registers,
@@ -62,9 +64,11 @@ fn check_file(
     Judged::Ruled(verdict)
 }
 
-// Checks a marking file against the history in the first `count` entries of the columns. Writes to
-// none of them.
+// Checks a marking file against the history in the first `count` entries of the columns, of this
+// edition and with these start values. Writes to none of them.
 pub fn check_marking(
+    edition: u16,
+    starts: &[u32; 32],
     kinds: &[u16],
     transactions: &[u16],
     registers: &[u16],
@@ -72,11 +76,27 @@ pub fn check_marking(
     count: usize,
     file: &[u8],
 ) -> Judged
-    ensures { λ r. ⌜ r ≡ verdictAnswer (columns (now (kinds .entry)) (now (transactions .entry)) (now (registers .entry)) (now (values .entry))) count (now (file .entry)) ⌝ }
+    ensures { λ r. ⌜ r ≡ verdictAnswer edition (now (starts .entry)) (columns (now (kinds .entry)) (now (transactions .entry)) (now (registers .entry)) (now (values .entry))) count (now (file .entry)) ⌝ }
 {
-    let checked = check_columns(kinds, transactions, registers, values, count);
+    let checked = check_history(
+        edition,
+        starts,
+        kinds,
+        transactions,
+        registers,
+        values,
+        count,
+    );
     match checked {
         Checked::Refused { question, event } => Judged::HistoryRefused { question, event },
-        Checked::Readable => check_file(kinds, transactions, registers, values, count, file),
+        Checked::Readable => check_file(
+            starts,
+            kinds,
+            transactions,
+            registers,
+            values,
+            count,
+            file,
+        ),
     }
 }

@@ -56,15 +56,46 @@ fn show(label: &[u8], answer: Judged) {
     put(b"\n");
 }
 
+// The answer for a history of edition 1, in which every register starts at 0.
+fn check(
+    label: &[u8],
+    kinds: &[u16],
+    transactions: &[u16],
+    registers: &[u16],
+    values: &[u32],
+    count: usize,
+    file: &[u8],
+) {
+    let starts = [0u32; 32];
+    show(
+        label,
+        check_marking(
+            1,
+            &starts,
+            kinds,
+            transactions,
+            registers,
+            values,
+            count,
+            file,
+        ),
+    );
+}
+
 // H0 with this value at event 9, of which the first `count` events are given.
 fn h0_with(label: &[u8], value: u32, count: usize, file: &[u8]) {
     let kinds = [16u16, 19, 20, 16, 17, 18, 21, 22, 17, 18];
     let transactions = [0u16, 0, 0, 1, 1, 1, 0, 0, 1, 1];
     let registers = [0u16, 3, 0, 1, 3, 3, 0, 0, 3, 3];
     let values = [0u32, 7, 0, 0, 0, 0, 0, 0, 0, value];
-    show(
+    check(
         label,
-        check_marking(&kinds, &transactions, &registers, &values, count, file),
+        &kinds,
+        &transactions,
+        &registers,
+        &values,
+        count,
+        file,
     );
 }
 
@@ -83,10 +114,7 @@ fn late(label: &[u8], file: &[u8]) {
     let transactions = [0u16, 0, 0, 0, 0, 1, 1, 1];
     let registers = [0u16, 0, 0, 0, 0, 1, 0, 0];
     let values = [0u32, 1, 0, 0, 0, 0, 0, 0];
-    show(
-        label,
-        check_marking(&kinds, &transactions, &registers, &values, 8, file),
-    );
+    check(label, &kinds, &transactions, &registers, &values, 8, file);
 }
 
 // A read of 0 after an own write of 5.
@@ -95,10 +123,7 @@ fn own(label: &[u8], file: &[u8]) {
     let transactions = [0u16, 0, 0, 0, 0];
     let registers = [0u16, 2, 0, 2, 2];
     let values = [0u32, 5, 0, 0, 0];
-    show(
-        label,
-        check_marking(&kinds, &transactions, &registers, &values, 5, file),
-    );
+    check(label, &kinds, &transactions, &registers, &values, 5, file);
 }
 
 // A head is 6 bytes, a place 8 and a read point 10.

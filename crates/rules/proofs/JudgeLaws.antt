@@ -133,6 +133,7 @@ module _ {c : Columns} {n : ℕ} {link : List ℕ} {reads : List Bool} {order ou
           linked = linked;
           transactions-long = y .ground .transactions-long;
           low = λ i l. (let a = y .ground .begun i l in let b = y .ground .few-begun in omega arith);
+          registers-low = y .ground .registers-low;
           writers-low = λ k. rw (table .holds k) (low k (ltb k (begunIn c n)) refl);
           places-low = v .low;
           gaps-low = λ i l r. (let a = y .gaps-fit i l (sym (read-same i l) ∙ r) in let b = y .ground .few-begun in omega arith);

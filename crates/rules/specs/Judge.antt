@@ -37,6 +37,7 @@ pub record Ground (c : Columns) (n : ℕ) : Type 0 where
   pub few : n ≤ 2048
   pub few-begun : begins (history c n) ≤ 64
   pub begun : (i : ℕ) → i < n → getD (c .transactions) i 0 < begins (history c n)
+  pub registers-low : (i : ℕ) → i < n → getD (c .registers) i 0 < 32
 
 -- a readable history, with its writes linked and its store reads tabled, and a readable marking
 pub record Given (c : Columns) (n : ℕ) (link : List ℕ) (reads : List Bool) (order outcomes gaps : List ℕ) : Type 0 where

@@ -27,6 +27,7 @@ pub record Walkable (transactions registers values : List ℕ) (n : ℕ) (link w
   pub linked : Linked registers values link n
   pub transactions-long : n ≤ length transactions
   pub low : (i : ℕ) → i < n → getD transactions i 0 < 64
+  pub registers-low : (i : ℕ) → i < n → getD registers i 0 < 32
   pub writers-low : (k : ℕ) → getD writers k 0 ≤ n
   pub places-low : (t : ℕ) → getD place t 0 < 64
   pub gaps-low : (i : ℕ) → i < n → getD reads i false ≡ true → getD gaps i 0 ≤ 64

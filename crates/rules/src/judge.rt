@@ -6,7 +6,7 @@ ghost use Rattle.events.specs.Columns.{columns, history};
 ghost use Rattle.opacity.specs.declared.verdict.Verdict.the-variants.{Broken};
 ghost use Rattle.opacity.specs.Marking.{verdict};
 ghost use Rattle.rules.specs.Walks.{Walkable};
-ghost use Rattle.opacity.specs.Justification.{zeros};
+ghost use Rattle.events.specs.Starts.{startOf};
 ghost use Rattle.rules.specs.Judge.{content, Given, readRule, readsVerdict};
 use crate::order::rule_a;
 use crate::order::rule_b;
@@ -47,6 +47,7 @@ fn read_rule(k: usize) -> Rule
 
 // Rules C to E.
 fn judge_reads(
+    starts: &[u32; 32],
     kinds: &[u16],
     transactions: &[u16],
     registers: &[u16],
@@ -60,13 +61,14 @@ fn judge_reads(
 ) -> Verdict
     requires { ⌜ Walkable (now transactions) (now registers) (now values) count (now link) (now writers) (now place) (now reads) (now gaps) ⌝ }
     requires { ⌜ count ≤ length (now kinds) ⌝ }
-    ensures { λ v. ⌜ v ≡ readsVerdict zeros (columns (now (kinds .entry)) (now (transactions .entry)) (now (registers .entry)) (now (values .entry))) count (now (link .entry)) (now (writers .entry)) (now (place .entry)) (now (reads .entry)) (now (gaps .entry)) ⌝ }
+    ensures { λ v. ⌜ v ≡ readsVerdict (startOf (now (starts .entry))) (columns (now (kinds .entry)) (now (transactions .entry)) (now (registers .entry)) (now (values .entry))) count (now (link .entry)) (now (writers .entry)) (now (place .entry)) (now (reads .entry)) (now (gaps .entry)) ⌝ }
 {
     let mut k: usize = 0;
     while k < 3 {
         let rule = read_rule(k);
         let i = first_broken(
             rule,
+            starts,
             kinds,
             transactions,
             registers,
@@ -99,6 +101,7 @@ fn less_one(x: u16) -> usize
 // The verdict on a readable marking of a readable history, whose writes are linked and whose store
 // reads are tabled.
 pub fn judge(
+    starts: &[u32; 32],
     kinds: &[u16],
     transactions: &[u16],
     registers: &[u16],
@@ -111,7 +114,7 @@ pub fn judge(
     gaps: &[u16; 2048],
 ) -> Verdict
     requires { ⌜ Given (columns (now kinds) (now transactions) (now registers) (now values)) count (now link) (now reads) (now order) (now outcomes) (now gaps) ⌝ }
-    ensures { λ v. ⌜ v ≡ verdict zeros (history (columns (now (kinds .entry)) (now (transactions .entry)) (now (registers .entry)) (now (values .entry))) count) (content (history (columns (now (kinds .entry)) (now (transactions .entry)) (now (registers .entry)) (now (values .entry))) count) (now (order .entry)) (now (outcomes .entry)) (now (gaps .entry))) ⌝ }
+    ensures { λ v. ⌜ v ≡ verdict (startOf (now (starts .entry))) (history (columns (now (kinds .entry)) (now (transactions .entry)) (now (registers .entry)) (now (values .entry))) count) (content (history (columns (now (kinds .entry)) (now (transactions .entry)) (now (registers .entry)) (now (values .entry))) count) (now (order .entry)) (now (outcomes .entry)) (now (gaps .entry))) ⌝ }
 {
     let begun = transactions_begun(kinds, transactions, registers, values, count);
     let place = places_of(order, begun);
@@ -139,6 +142,7 @@ pub fn judge(
     let written = table(kinds, transactions, count, Fact::LastWrite);
     let writers = writers_of(order, outcomes, &written, begun);
     judge_reads(
+        starts,
         kinds,
         transactions,
         registers,

@@ -7,15 +7,12 @@ ghost use Rattle.links.specs.Writes.{Linked, plusOne};
 ghost use Rattle.rules.specs.Orders.{broken};
 ghost use Rattle.rules.specs.Walks.{startAt, lastIn, Walkable, noWriterBy, valueBy};
 ghost use Rattle.events.specs.Columns.{columns};
-ghost use Rattle.opacity.specs.Justification.{zeros};
+ghost use Rattle.events.specs.Starts.{startOf};
 ghost use Rattle.rules.specs.Judge.{readRuleBy};
 use links::tables::wide;
 use links::writes::own_right;
 use links::writes::stored;
 use opacity::verdict::Rule;
-
-// What a register holds before any writer.
-const START: u32 = 0;
 
 // Where the walk over the writes at place k starts: nowhere, where that is the reader's own place.
 fn start_at(writers: &[u16; 64], own: usize, k: usize) -> usize
@@ -126,8 +123,9 @@ fn no_writer_between(
 }
 
 // Rule E at event i: the value is that of the last writer but the reader before the gap, or the
-// start value.
+// register's start value.
 fn value_at_gap(
+    starts: &[u32; 32],
     transactions: &[u16],
     registers: &[u16],
     values: &[u32],
@@ -141,7 +139,7 @@ fn value_at_gap(
 ) -> bool
     requires { ⌜ Walkable (now transactions) (now registers) (now values) count (now link) (now writers) (now place) (now reads) (now gaps) ⌝ }
     requires { ⌜ i < count ⌝ }
-    ensures { λ b. ⌜ b ≡ valueBy zeros (now (transactions .entry)) (now (registers .entry)) (now (values .entry)) (now (link .entry)) (now (writers .entry)) (now (place .entry)) (now (reads .entry)) (now (gaps .entry)) i ⌝ }
+    ensures { λ b. ⌜ b ≡ valueBy (startOf (now (starts .entry))) (now (transactions .entry)) (now (registers .entry)) (now (values .entry)) (now (link .entry)) (now (writers .entry)) (now (place .entry)) (now (reads .entry)) (now (gaps .entry)) i ⌝ }
 {
     if !reads[i] {
         return true;
@@ -160,7 +158,9 @@ fn value_at_gap(
         g,
     );
     if w == 0 {
-        return values[i] == START;
+        let r = wide(registers[i]);
+        let start = starts[r];
+        return values[i] == start;
     }
     stored(values[i]) == w
 }
@@ -168,6 +168,7 @@ fn value_at_gap(
 // Does a rule of reads hold at event i?
 pub fn holds_at(
     rule: Rule,
+    starts: &[u32; 32],
     kinds: &[u16],
     transactions: &[u16],
     registers: &[u16],
@@ -182,7 +183,7 @@ pub fn holds_at(
 ) -> bool
     requires { ⌜ Walkable (now transactions) (now registers) (now values) count (now link) (now writers) (now place) (now reads) (now gaps) ⌝ }
     requires { ⌜ (i < count) × (count ≤ length (now kinds)) ⌝ }
-    ensures { λ b. ⌜ b ≡ readRuleBy zeros (columns (now (kinds .entry)) (now (transactions .entry)) (now (registers .entry)) (now (values .entry))) (now (link .entry)) (now (writers .entry)) (now (place .entry)) (now (reads .entry)) (now (gaps .entry)) rule i ⌝ }
+    ensures { λ b. ⌜ b ≡ readRuleBy (startOf (now (starts .entry))) (columns (now (kinds .entry)) (now (transactions .entry)) (now (registers .entry)) (now (values .entry))) (now (link .entry)) (now (writers .entry)) (now (place .entry)) (now (reads .entry)) (now (gaps .entry)) rule i ⌝ }
 {
     match rule {
         Rule::C => own_right(kinds, registers, values, link, count, i),
@@ -199,6 +200,7 @@ pub fn holds_at(
             i,
         ),
         Rule::E => value_at_gap(
+            starts,
             transactions,
             registers,
             values,
@@ -218,6 +220,7 @@ pub fn holds_at(
 // The first event that breaks a rule of reads, or their number.
 pub fn first_broken(
     rule: Rule,
+    starts: &[u32; 32],
     kinds: &[u16],
     transactions: &[u16],
     registers: &[u16],
@@ -231,12 +234,13 @@ pub fn first_broken(
 ) -> usize
     requires { ⌜ Walkable (now transactions) (now registers) (now values) count (now link) (now writers) (now place) (now reads) (now gaps) ⌝ }
     requires { ⌜ count ≤ length (now kinds) ⌝ }
-    ensures { λ r. ⌜ r ≡ broken (readRuleBy zeros (columns (now (kinds .entry)) (now (transactions .entry)) (now (registers .entry)) (now (values .entry))) (now (link .entry)) (now (writers .entry)) (now (place .entry)) (now (reads .entry)) (now (gaps .entry)) rule) count ⌝ }
+    ensures { λ r. ⌜ r ≡ broken (readRuleBy (startOf (now (starts .entry))) (columns (now (kinds .entry)) (now (transactions .entry)) (now (registers .entry)) (now (values .entry))) (now (link .entry)) (now (writers .entry)) (now (place .entry)) (now (reads .entry)) (now (gaps .entry)) rule) count ⌝ }
 {
     let mut i: usize = 0;
     while i < count {
         if !holds_at(
             rule,
+            starts,
             kinds,
             transactions,
             registers,

@@ -16,7 +16,8 @@ use Rattle.events.specs.Lists.{_and_, all, lowest}
 use Rattle.events.specs.Bytes.{over}
 use Rattle.events.specs.Events.{eventAt}
 use Rattle.events.specs.Columns.{Columns, history, hold}
-use Rattle.events.specs.Questions.{Question, Past, past, refusal, eventQuestions, columnQuestions, refusedAt, refusedWith, eventsAnswer, columnsAnswer}
+use Rattle.events.specs.Starts.{startOf, admits}
+use Rattle.events.specs.Questions.{Question, Past, past, refusal, eventQuestions, columnQuestions, refusedAt, refusedWith, eventsAnswer, historyAnswer}
 use Rattle.events.proofs.ListLaws.{and-l, and-r, eqb-self, not-true, clash, Lowest, lowest-some}
 use Rattle.opacity.specs.declared.verdict.Rule.{Rule}
 use Rattle.opacity.specs.declared.verdict.Verdict.{Verdict}
@@ -26,10 +27,10 @@ use Rattle.marking.specs.File.{known, FileRead, content, refused, fileRead}
 use Rattle.straighten.specs.declared.Straightening.{Straightening}
 use Rattle.straighten.specs.declared.Straightening.the-variants.{Straightened, Broken, Refused, MarkingRefused}
 use Rattle.straighten.specs.Straight.{straightened, movedEvents}
-use Rattle.straighten.specs.Answer.{Given, gives, settled, judged, roomy, afterFile, afterColumns, straightenedFrom}
+use Rattle.straighten.specs.Answer.{Given, gives, settled, judged, roomy, afterFile, afterColumns, straightenedAnswer}
 use Rattle.straighten.proofs.StraightLaws.{accepted-same}
 
--- ---- 15 is no question of the columns
+-- ---- 15 is no question of the history
 
 not-asked : (n : ℕ) (qs : List Question) → all (λ q. not (eqb (q .number) n)) qs ≡ true → refusal qs ≡ some n → ⊥
 unfolding refusal all
@@ -46,9 +47,9 @@ entry-not-15 : (p : Past) (e : Event) → refusal (columnQuestions p e) ≡ some
 unfolding columnQuestions eventQuestions all _and_
 entry-not-15 p e = not-asked 15 (columnQuestions p e) refl
 
-pub never-15 : (c : Columns) (n e : ℕ) → columnsAnswer c n ≡ Refuses 15 e → ⊥
-unfolding columnsAnswer eventsAnswer refusedAt
-never-15 c n e x = held (hold c n) x
+pub never-15 : (edition : ℕ) (starts : List ℕ) (c : Columns) (n e : ℕ) → historyAnswer edition starts c n ≡ Refuses 15 e → ⊥
+unfolding historyAnswer eventsAnswer refusedAt
+never-15 edition starts c n e x = held (hold c n) (admits edition starts) x
   where
     at-event : (i : ℕ) (o : Option ℕ) → refusedAt (history c n) i ≡ o → refusedWith i o ≡ some (Refuses 15 e) → ⊥
     at-event i none w k = Option·none-ne-some (Refuses 15 e) k
@@ -63,113 +64,114 @@ never-15 c n e x = held (hold c n) x
         let r : Lowest (λ i. refusedWith i (refusedAt (history c n) i)) (length (history c n)) y = lowest-some _ _ w in
         at-event (r .at) (refusedAt (history c n) (r .at)) refl (r .answer ∙ ap some k)
 
-    held : (b : Bool) → cond b (eventsAnswer (history c n)) (Refuses 17 n) ≡ Refuses 15 e → ⊥
-    held true k = events (lowest (λ i. refusedWith i (refusedAt (history c n) i)) (length (history c n))) refl k
-    held false k = let z : _≡_ {A = ℕ} 17 15 = cc in omega arith
+    held : (b a : Bool) → cond b (cond a (eventsAnswer (history c n)) (Refuses 3 n)) (Refuses 17 n) ≡ Refuses 15 e → ⊥
+    held true true k = events (lowest (λ i. refusedWith i (refusedAt (history c n) i)) (length (history c n))) refl k
+    held true false k = let z : _≡_ {A = ℕ} 3 15 = cc in omega arith
+    held false a k = let z : _≡_ {A = ℕ} 17 15 = cc in omega arith
 
 -- ---- the cases
 
 -- no question refuses the call, and m is what the file holds
-pub record Passes (c : Columns) (n : ℕ) (file output list : List ℕ) (m : Marking) : Type 0 where
-  pub fine : columnsAnswer c n ≡ Readable
+pub record Passes (edition : ℕ) (starts : List ℕ) (c : Columns) (n : ℕ) (file output list : List ℕ) (m : Marking) : Type 0 where
+  pub fine : historyAnswer edition starts c n ≡ Readable
   pub holds : fileRead (known (history c n)) file ≡ content m
   pub room : roomy (history c n) file output list ≡ true
 
--- 15: columns and file are readable, and the output or the list is too short
-pub record Short (c : Columns) (n : ℕ) (file output list : List ℕ) : Type 0 where
-  pub fine : columnsAnswer c n ≡ Readable
+-- 15: history and file are readable, and the output or the list is too short
+pub record Short (edition : ℕ) (starts : List ℕ) (c : Columns) (n : ℕ) (file output list : List ℕ) : Type 0 where
+  pub fine : historyAnswer edition starts c n ≡ Readable
   pub marking : Marking
   pub holds : fileRead (known (history c n)) file ≡ content marking
   pub room : roomy (history c n) file output list ≡ false
 
 -- a marking is written
-pub record Done (start : ℕ → ℕ) (c : Columns) (n : ℕ) (file output list : List ℕ) (k l : ℕ) (output′ list′ : List ℕ) : Type 0 where
+pub record Done (edition : ℕ) (starts : List ℕ) (c : Columns) (n : ℕ) (file output list : List ℕ) (k l : ℕ) (output′ list′ : List ℕ) : Type 0 where
   pub marking : Marking
-  pub passes : Passes c n file output list marking
-  pub accepted : verdict start (history c n) (straightened start (history c n) marking) ≡ Accepted
-  pub size : length (markingBytes (straightened start (history c n) marking)) ≡ k
-  pub count : length (movedEvents start (history c n) marking) ≡ l
-  pub bytes : output′ ≡ over (markingBytes (straightened start (history c n) marking)) output
-  pub entries : list′ ≡ over (movedEvents start (history c n) marking) list
+  pub passes : Passes edition starts c n file output list marking
+  pub accepted : verdict (startOf starts) (history c n) (straightened (startOf starts) (history c n) marking) ≡ Accepted
+  pub size : length (markingBytes (straightened (startOf starts) (history c n) marking)) ≡ k
+  pub count : length (movedEvents (startOf starts) (history c n) marking) ≡ l
+  pub bytes : output′ ≡ over (markingBytes (straightened (startOf starts) (history c n) marking)) output
+  pub entries : list′ ≡ over (movedEvents (startOf starts) (history c n) marking) list
 
-module _ (start : ℕ → ℕ) (c : Columns) (n : ℕ) (file output list : List ℕ) where
-  pub history-said : (q e : ℕ) → columnsAnswer c n ≡ Refuses q e → straightenedFrom start c n file output list ≡ gives (Refused q e) output list
-  unfolding straightenedFrom
+module _ (edition : ℕ) (starts : List ℕ) (c : Columns) (n : ℕ) (file output list : List ℕ) where
+  pub history-said : (q e : ℕ) → historyAnswer edition starts c n ≡ Refuses q e → straightenedAnswer edition starts c n file output list ≡ gives (Refused q e) output list
+  unfolding straightenedAnswer
   history-said q e x = rw x
 
-  pub marking-said : (q byte : ℕ) → columnsAnswer c n ≡ Readable → fileRead (known (history c n)) file ≡ refused q byte
-      → straightenedFrom start c n file output list ≡ gives (MarkingRefused q byte) output list
-  unfolding straightenedFrom
+  pub marking-said : (q byte : ℕ) → historyAnswer edition starts c n ≡ Readable → fileRead (known (history c n)) file ≡ refused q byte
+      → straightenedAnswer edition starts c n file output list ≡ gives (MarkingRefused q byte) output list
+  unfolding straightenedAnswer
   marking-said q byte x y = rw (x, y)
 
-  pub short-said : Short c n file output list → straightenedFrom start c n file output list ≡ gives (Refused 15 n) output list
-  unfolding straightenedFrom
+  pub short-said : Short edition starts c n file output list → straightenedAnswer edition starts c n file output list ≡ gives (Refused 15 n) output list
+  unfolding straightenedAnswer
   short-said s = rw (s .fine, s .holds, s .room)
 
-  module _ (m : Marking) (p : Passes c n file output list m) where
-    pub judged-said : straightenedFrom start c n file output list ≡ judged start (history c n) m output list
-    unfolding straightenedFrom
+  module _ (m : Marking) (p : Passes edition starts c n file output list m) where
+    pub judged-said : straightenedAnswer edition starts c n file output list ≡ judged (startOf starts) (history c n) m output list
+    unfolding straightenedAnswer
     judged-said = rw (p .fine, p .holds, p .room)
 
-    pub done-said : verdict start (history c n) (straightened start (history c n) m) ≡ Accepted
-        → straightenedFrom start c n file output list
-        ≡ gives (Straightened (length (markingBytes (straightened start (history c n) m))) (length (movedEvents start (history c n) m)))
-        (over (markingBytes (straightened start (history c n) m)) output) (over (movedEvents start (history c n) m) list)
+    pub done-said : verdict (startOf starts) (history c n) (straightened (startOf starts) (history c n) m) ≡ Accepted
+        → straightenedAnswer edition starts c n file output list
+        ≡ gives (Straightened (length (markingBytes (straightened (startOf starts) (history c n) m))) (length (movedEvents (startOf starts) (history c n) m)))
+        (over (markingBytes (straightened (startOf starts) (history c n) m)) output) (over (movedEvents (startOf starts) (history c n) m) list)
     unfolding judged
     done-said v = judged-said ∙ rw v
 
-    pub broken-said : (q : Rule) (i t : ℕ) → verdict start (history c n) (straightened start (history c n) m) ≡ Breaks q i t
-        → straightenedFrom start c n file output list ≡ gives (Broken q i t) output list
+    pub broken-said : (q : Rule) (i t : ℕ) → verdict (startOf starts) (history c n) (straightened (startOf starts) (history c n) m) ≡ Breaks q i t
+        → straightenedAnswer edition starts c n file output list ≡ gives (Broken q i t) output list
     unfolding judged
     broken-said q i t v = judged-said ∙ rw v
 
     -- a marking that the rules accept is written as it is
-    pub same-said : ReadableFor (history c n) m → verdict start (history c n) m ≡ Accepted → file ≡ markingBytes m
-        → straightenedFrom start c n file output list ≡ gives (Straightened (length file) 0) (over file output) list
+    pub same-said : ReadableFor (history c n) m → verdict (startOf starts) (history c n) m ≡ Accepted → file ≡ markingBytes m
+        → straightenedAnswer edition starts c n file output list ≡ gives (Straightened (length file) 0) (over file output) list
     same-said f v e =
-        let s = accepted-same start (history c n) m f v in
-        done-said (ap (verdict start (history c n)) (s .0) ∙ v)
+        let s = accepted-same (startOf starts) (history c n) m f v in
+        done-said (ap (verdict (startOf starts) (history c n)) (s .0) ∙ v)
         ∙ (λ i. gives (Straightened (length (markingBytes (s .0 i))) (length (s .1 i))) (over (markingBytes (s .0 i)) output) (over (s .1 i) list))
         ∙ ap (λ (b : List ℕ). gives (Straightened (length b) 0) (over b output) list) (sym e)
 
   -- what a result tells
   abbrev pub Tells : Straightening → List ℕ → List ℕ → Type 0
-  Tells (Straightened k l) o s = Done start c n file output list k l o s
+  Tells (Straightened k l) o s = Done edition starts c n file output list k l o s
   Tells (Broken q i t) o s =
-      ((m : Marking) × Passes c n file output list m × (verdict start (history c n) (straightened start (history c n) m) ≡ Breaks q i t))
+      ((m : Marking) × Passes edition starts c n file output list m × (verdict (startOf starts) (history c n) (straightened (startOf starts) (history c n) m) ≡ Breaks q i t))
       × (o ≡ output) × (s ≡ list)
-  Tells (Refused q e) o s = ((columnsAnswer c n ≡ Refuses q e) ⊎ (Short c n file output list × (q ≡ 15) × (e ≡ n))) × (o ≡ output) × (s ≡ list)
+  Tells (Refused q e) o s = ((historyAnswer edition starts c n ≡ Refuses q e) ⊎ (Short edition starts c n file output list × (q ≡ 15) × (e ≡ n))) × (o ≡ output) × (s ≡ list)
   Tells (MarkingRefused q byte) o s =
-      ((columnsAnswer c n ≡ Readable) × (fileRead (known (history c n)) file ≡ refused q byte))
+      ((historyAnswer edition starts c n ≡ Readable) × (fileRead (known (history c n)) file ≡ refused q byte))
       × (o ≡ output) × (s ≡ list)
 
   TellsOf : Given → Type 0
   TellsOf g = Tells (g .result) (g .output) (g .list)
 
-  tells : TellsOf (straightenedFrom start c n file output list)
-  unfolding straightenedFrom judged TellsOf
-  tells = columns (columnsAnswer c n) refl
+  tells : TellsOf (straightenedAnswer edition starts c n file output list)
+  unfolding straightenedAnswer judged TellsOf
+  tells = columns (historyAnswer edition starts c n) refl
     where
-      rules : (m : Marking) → Passes c n file output list m → (v : Verdict) → verdict start (history c n) (straightened start (history c n) m) ≡ v
-          → TellsOf (settled (markingBytes (straightened start (history c n) m)) (movedEvents start (history c n) m) output list v)
+      rules : (m : Marking) → Passes edition starts c n file output list m → (v : Verdict) → verdict (startOf starts) (history c n) (straightened (startOf starts) (history c n) m) ≡ v
+          → TellsOf (settled (markingBytes (straightened (startOf starts) (history c n) m)) (movedEvents (startOf starts) (history c n) m) output list v)
       rules m p Accepted v = record { marking = m; passes = p; accepted = v; size = refl; count = refl; bytes = refl; entries = refl }
       rules m p (Breaks q i t) v = ((m, p, v), refl, refl)
 
-      buffers : (fine : columnsAnswer c n ≡ Readable) (m : Marking) (holds : fileRead (known (history c n)) file ≡ content m) (b : Bool) → roomy (history c n) file output list ≡ b
-          → TellsOf (cond b (judged start (history c n) m output list) (gives (Refused 15 n) output list))
-      buffers fine m holds true r = rules m (record { fine = fine; holds = holds; room = r }) (verdict start (history c n) (straightened start (history c n) m)) refl
+      buffers : (fine : historyAnswer edition starts c n ≡ Readable) (m : Marking) (holds : fileRead (known (history c n)) file ≡ content m) (b : Bool) → roomy (history c n) file output list ≡ b
+          → TellsOf (cond b (judged (startOf starts) (history c n) m output list) (gives (Refused 15 n) output list))
+      buffers fine m holds true r = rules m (record { fine = fine; holds = holds; room = r }) (verdict (startOf starts) (history c n) (straightened (startOf starts) (history c n) m)) refl
       buffers fine m holds false r = (inr (record { fine = fine; marking = m; holds = holds; room = r }, refl, refl), refl, refl)
 
-      marking : (fine : columnsAnswer c n ≡ Readable) (x : FileRead) → fileRead (known (history c n)) file ≡ x
-          → TellsOf (afterFile start (history c n) n file output list x)
+      marking : (fine : historyAnswer edition starts c n ≡ Readable) (x : FileRead) → fileRead (known (history c n)) file ≡ x
+          → TellsOf (afterFile (startOf starts) (history c n) n file output list x)
       marking fine (content m) e = buffers fine m e (roomy (history c n) file output list) refl
       marking fine (refused q byte) e = ((fine, e), refl, refl)
 
-      columns : (x : Checked) → columnsAnswer c n ≡ x → TellsOf (afterColumns start (history c n) n file output list x)
+      columns : (x : Checked) → historyAnswer edition starts c n ≡ x → TellsOf (afterColumns (startOf starts) (history c n) n file output list x)
       columns Readable e = marking e (fileRead (known (history c n)) file) refl
       columns (Refuses q i) e = (inl e, refl, refl)
 
-  pub told : (r : Straightening) → straightenedFrom start c n file output list .result ≡ r
-      → Tells r (straightenedFrom start c n file output list .output) (straightenedFrom start c n file output list .list)
+  pub told : (r : Straightening) → straightenedAnswer edition starts c n file output list .result ≡ r
+      → Tells r (straightenedAnswer edition starts c n file output list .output) (straightenedAnswer edition starts c n file output list .list)
   unfolding TellsOf
-  told r e = subst (λ (x : Straightening). Tells x (straightenedFrom start c n file output list .output) (straightenedFrom start c n file output list .list)) e tells
+  told r e = subst (λ (x : Straightening). Tells x (straightenedAnswer edition starts c n file output list .output) (straightenedAnswer edition starts c n file output list .list)) e tells

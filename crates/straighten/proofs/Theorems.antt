@@ -1,6 +1,6 @@
 -- The theorems about straightened read points, gathered: each says what the request says. The words are those of specs/ here, in `opacity` and in
--- `marking`; the start values are a parameter, and `straightenedAnswer` is `straightenedFrom` with 0 everywhere. What the straightened marking
--- is like for itself, point by point, is in StraightLaws and RuleLaws.
+-- `marking`; the edition and the start values are the caller's, whichever they are. What the straightened marking is like for itself, point by
+-- point, is in StraightLaws and RuleLaws.
 -- Assumes nothing.
 use Prim.Native.Nat.{ℕ, _<_}
 use mathlib.Core.Path.{_≡_, refl, sym, ap, _∙_}
@@ -14,9 +14,10 @@ use Rattle.events.specs.declared.columns.Checked.the-variants.{Readable, Refuse
 use Rattle.events.specs.Bytes.{Bytes, over}
 use Rattle.events.specs.Events.{eventAt}
 use Rattle.events.specs.Columns.{Columns, history, hold}
-use Rattle.events.specs.Questions.{columnsAnswer}
+use Rattle.events.specs.Starts.{startOf, noStarts}
+use Rattle.events.specs.Questions.{historyAnswer}
 use Rattle.events.proofs.BufferLaws.{take-over, drop-over}
-use Rattle.events.proofs.ReadableLaws.{columns-readable}
+use Rattle.events.proofs.StartLaws.{no-starts, first-edition as first-asked}
 use Rattle.opacity.specs.declared.verdict.Rule.{Rule}
 use Rattle.opacity.specs.declared.verdict.Rule.the-variants.{D, E}
 use Rattle.opacity.specs.declared.verdict.Verdict.{Verdict}
@@ -26,7 +27,8 @@ use Rattle.opacity.specs.Marking.{Marking, ReadableFor, markingBytes, verdict, 
 use Rattle.opacity.proofs.Rules.{justified-accepted}
 use Rattle.marking.specs.declared.check.Judged.the-variants.{Ruled}
 use Rattle.marking.specs.File.{known, FileRead, content, refused, fileRead}
-use Rattle.marking.specs.Answer.{answerFrom}
+use Rattle.marking.specs.Answer.{verdictAnswer}
+use Rattle.marking.proofs.CheckLaws.{history-readable}
 use Rattle.marking.proofs.ContentLaws.{content-readable}
 use Rattle.marking.proofs.ReadBack.{bytes-content}
 use Rattle.marking.proofs.WriteBack.{content-bytes}
@@ -34,41 +36,41 @@ use Rattle.marking.proofs.Theorems.{by-verdict, accepted-iff, bytes-judged}
 use Rattle.straighten.specs.declared.Straightening.{Straightening}
 use Rattle.straighten.specs.declared.Straightening.the-variants.{Straightened, Broken, Refused, MarkingRefused}
 use Rattle.straighten.specs.Straight.{straightened, movedEvents, Rises, FirstIllegal}
-use Rattle.straighten.specs.Answer.{Given, gives, settled, judged, roomy, afterFile, afterColumns, straightenedFrom}
+use Rattle.straighten.specs.Answer.{Given, gives, settled, judged, roomy, afterFile, afterColumns, straightenedAnswer, firstEditionAnswer}
 use Rattle.straighten.proofs.StraightLaws.{moved-rise, straight-readable, straight-accepted, straight-length}
 use Rattle.straighten.proofs.RuleLaws.{order-rules-same, never-D, E-first-illegal}
 use Rattle.straighten.proofs.AnswerLaws.{never-15, Passes, Short, Done, history-said, marking-said, short-said, done-said, broken-said, same-said, told}
 
--- a call: columns, count, the marking's file, and the output and the list as they were
-module _ (start : ℕ → ℕ) (c : Columns) (n : ℕ) (file output list : List ℕ) where
+-- a call: edition, start values, columns, count, the marking's file, and the output and the list as they were
+module _ (edition : ℕ) (starts : List ℕ) (c : Columns) (n : ℕ) (file output list : List ℕ) where
   -- the history in the columns, and what the call gives
   abbrev pub events : List Event
   events = history c n
 
   abbrev pub given : Given
-  given = straightenedFrom start c n file output list
+  given = straightenedAnswer edition starts c n file output list
 
   -- ---- which answer comes when
 
-  -- 17 or an event's own question comes before all else, with its event; 15 is not among them.
-  pub history-refused : (q e : ℕ) → (q ≡ 15 → ⊥) → (given .result ≡ Refused q e) ↔ (columnsAnswer c n ≡ Refuses q e)
+  -- 17, 3 of the start values or an event's own question comes before all else, with its event, for 17 and 3 the count; 15 is not among them.
+  pub history-refused : (q e : ℕ) → (q ≡ 15 → ⊥) → (given .result ≡ Refused q e) ↔ (historyAnswer edition starts c n ≡ Refuses q e)
   history-refused q e u = (
-    λ x. ⊎-elim (λ a. a) (λ b. absurd (u (b .1))) (told start c n file output list (Refused q e) x .0),
-    λ x. ap (λ (g : Given). g .result) (history-said start c n file output list q e x),
+    λ x. ⊎-elim (λ a. a) (λ b. absurd (u (b .1))) (told edition starts c n file output list (Refused q e) x .0),
+    λ x. ap (λ (g : Given). g .result) (history-said edition starts c n file output list q e x),
   )
 
   -- Then the marking's questions, with the byte.
-  pub marking-refused : (q byte : ℕ) → (given .result ≡ MarkingRefused q byte) ↔ ((columnsAnswer c n ≡ Readable) × (fileRead (known events) file ≡ refused q byte))
+  pub marking-refused : (q byte : ℕ) → (given .result ≡ MarkingRefused q byte) ↔ ((historyAnswer edition starts c n ≡ Readable) × (fileRead (known events) file ≡ refused q byte))
   marking-refused q byte = (
-    λ x. told start c n file output list (MarkingRefused q byte) x .0,
-    λ w. ap (λ (g : Given). g .result) (marking-said start c n file output list q byte (w .0) (w .1)),
+    λ x. told edition starts c n file output list (MarkingRefused q byte) x .0,
+    λ w. ap (λ (g : Given). g .result) (marking-said edition starts c n file output list q byte (w .0) (w .1)),
   )
 
   -- Then 15, with the count: the output is shorter than the marking, or the list has no entry for every store read.
-  pub short-refused : (e : ℕ) → (given .result ≡ Refused 15 e) ↔ (Short c n file output list × (e ≡ n))
+  pub short-refused : (e : ℕ) → (given .result ≡ Refused 15 e) ↔ (Short edition starts c n file output list × (e ≡ n))
   short-refused e = (
-    λ x. ⊎-elim (λ a. absurd (never-15 c n e a)) (λ b. (b .0, b .2)) (told start c n file output list (Refused 15 e) x .0),
-    λ w. ap (λ (g : Given). g .result) (short-said start c n file output list (w .0)) ∙ ap (Refused 15) (sym (w .1)),
+    λ x. ⊎-elim (λ a. absurd (never-15 edition starts c n e a)) (λ b. (b .0, b .2)) (told edition starts c n file output list (Refused 15 e) x .0),
+    λ w. ap (λ (g : Given). g .result) (short-said edition starts c n file output list (w .0)) ∙ ap (Refused 15) (sym (w .1)),
   )
 
   -- Whatever the answer is but success, output and list are as they were.
@@ -77,66 +79,66 @@ module _ (start : ℕ → ℕ) (c : Columns) (n : ℕ) (file output list : List 
     where
       go : (r : Straightening) → given .result ≡ r → (given .output ≡ output) × (given .list ≡ list)
       go (Straightened k l) x = absurd (u k l x)
-      go (Broken q i t) x = let w = told start c n file output list (Broken q i t) x in (w .1, w .2)
-      go (Refused q e) x = let w = told start c n file output list (Refused q e) x in (w .1, w .2)
-      go (MarkingRefused q byte) x = let w = told start c n file output list (MarkingRefused q byte) x in (w .1, w .2)
+      go (Broken q i t) x = let w = told edition starts c n file output list (Broken q i t) x in (w .1, w .2)
+      go (Refused q e) x = let w = told edition starts c n file output list (Refused q e) x in (w .1, w .2)
+      go (MarkingRefused q byte) x = let w = told edition starts c n file output list (MarkingRefused q byte) x in (w .1, w .2)
 
   -- ---- where no question refuses the call, and m is what the file holds
 
-  module _ (m : Marking) (p : Passes c n file output list m) where
+  module _ (m : Marking) (p : Passes edition starts c n file output list m) where
     readable-for : ReadableFor events m
-    readable-for = content-readable events file m (columns-readable c n (p .fine) .1) (p .holds)
+    readable-for = content-readable events file m (history-readable edition starts c n (p .fine) .1) (p .holds)
 
     the-content : (m′ : Marking) → fileRead (known events) file ≡ content m′ → m′ ≡ m
     the-content m′ e = let z = p .holds in cc
 
-    verdict-of : (m′ : Marking) (v : Verdict) → fileRead (known events) file ≡ content m′ → verdict start events (straightened start events m′) ≡ v
-        → verdict start events (straightened start events m) ≡ v
-    verdict-of m′ v e x = ap (λ (y : Marking). verdict start events (straightened start events y)) (sym (the-content m′ e)) ∙ x
+    verdict-of : (m′ : Marking) (v : Verdict) → fileRead (known events) file ≡ content m′ → verdict (startOf starts) events (straightened (startOf starts) events m′) ≡ v
+        → verdict (startOf starts) events (straightened (startOf starts) events m) ≡ v
+    verdict-of m′ v e x = ap (λ (y : Marking). verdict (startOf starts) events (straightened (startOf starts) events y)) (sym (the-content m′ e)) ∙ x
 
     -- It succeeds exactly if the outcomes and order are a justification.
-    pub succeeds-exactly : ((k : ℕ) × (l : ℕ) × (given .result ≡ Straightened k l)) ↔ Justified start events (m .places)
+    pub succeeds-exactly : ((k : ℕ) × (l : ℕ) × (given .result ≡ Straightened k l)) ↔ Justified (startOf starts) events (m .places)
     succeeds-exactly = (
       λ w.
-          let d = told start c n file output list (Straightened (w .0) (w .1)) (w .2) in
-          straight-accepted start events m readable-for .0 (verdict-of (d .marking) Accepted (d .passes .holds) (d .accepted)),
-      λ j. (_, _, ap (λ (g : Given). g .result) (done-said start c n file output list m p (straight-accepted start events m readable-for .1 j))),
+          let d = told edition starts c n file output list (Straightened (w .0) (w .1)) (w .2) in
+          straight-accepted (startOf starts) events m readable-for .0 (verdict-of (d .marking) Accepted (d .passes .holds) (d .accepted)),
+      λ j. (_, _, ap (λ (g : Given). g .result) (done-said edition starts c n file output list m p (straight-accepted (startOf starts) events m readable-for .1 j))),
     )
 
     -- Otherwise the answer is the checker's verdict on the straightened marking,
-    pub broken-exactly : (q : Rule) (i t : ℕ) → (given .result ≡ Broken q i t) ↔ (verdict start events (straightened start events m) ≡ Breaks q i t)
+    pub broken-exactly : (q : Rule) (i t : ℕ) → (given .result ≡ Broken q i t) ↔ (verdict (startOf starts) events (straightened (startOf starts) events m) ≡ Breaks q i t)
     broken-exactly q i t = (
-      λ x. let w = told start c n file output list (Broken q i t) x .0 in verdict-of (w .0) (Breaks q i t) (w .1 .holds) (w .2),
-      λ v. ap (λ (g : Given). g .result) (broken-said start c n file output list m p q i t v),
+      λ x. let w = told edition starts c n file output list (Broken q i t) x .0 in verdict-of (w .0) (Breaks q i t) (w .1 .holds) (w .2),
+      λ v. ap (λ (g : Given). g .result) (broken-said edition starts c n file output list m p q i t v),
     )
 
     -- for A, B and C that on the file given,
-    pub order-rule-exactly : (q : Rule) → ruleNumber q < 4 → (i t : ℕ) → (given .result ≡ Broken q i t) ↔ (answerFrom start c n file ≡ Ruled (Breaks q i t))
+    pub order-rule-exactly : (q : Rule) → ruleNumber q < 4 → (i t : ℕ) → (given .result ≡ Broken q i t) ↔ (verdictAnswer edition starts c n file ≡ Ruled (Breaks q i t))
     order-rule-exactly q l i t =
         let a = broken-exactly q i t in
-        let b = order-rules-same start events m q l i t in
-        let d = by-verdict start c n file (p .fine) m (p .holds) (Breaks q i t) in
+        let b = order-rules-same (startOf starts) events m q l i t in
+        let d = by-verdict edition starts c n file (p .fine) m (p .holds) (Breaks q i t) in
         (λ x. d .1 (b .0 (a .0 x)), λ x. a .1 (b .1 (d .0 x)))
 
     -- never D,
     pub never-broken-D : (i t : ℕ) → given .result ≡ Broken D i t → ⊥
-    never-broken-D i t x = never-D start events m readable-for i t (broken-exactly D i t .0 x)
+    never-broken-D i t x = never-D (startOf starts) events m readable-for i t (broken-exactly D i t .0 x)
 
     -- and E exactly if A, B and C hold, with the first store read that is not legal in the order and its transaction.
-    pub E-exactly : (i t : ℕ) → (given .result ≡ Broken E i t) ↔ (FirstIllegal start events m i × (t ≡ eventAt events i .transaction))
+    pub E-exactly : (i t : ℕ) → (given .result ≡ Broken E i t) ↔ (FirstIllegal (startOf starts) events m i × (t ≡ eventAt events i .transaction))
     E-exactly i t =
         let a = broken-exactly E i t in
-        let b = E-first-illegal start events m readable-for i t in
+        let b = E-first-illegal (startOf starts) events m readable-for i t in
         (λ x. b .0 (a .0 x), λ w. a .1 (b .1 w))
 
   -- A file that the checker accepts comes back byte by byte, with nothing moved.
-  pub accepted-back : answerFrom start c n file ≡ Ruled Accepted → Bytes file → roomy events file output list ≡ true
+  pub accepted-back : verdictAnswer edition starts c n file ≡ Ruled Accepted → Bytes file → roomy events file output list ≡ true
       → given ≡ gives (Straightened (length file) 0) (over file output) list
   accepted-back x by room =
-      let j = accepted-iff start c n file .0 x in
-      let p : Passes c n file output list (j .marking) = record { fine = j .fine; holds = j .holds; room = room } in
-      same-said start c n file output list (j .marking) p (readable-for (j .marking) p)
-      (justified-accepted start events (j .marking) (j .justified) (j .ruleD)) (content-bytes (known events) file by (j .marking) (j .holds))
+      let j = accepted-iff edition starts c n file .0 x in
+      let p : Passes edition starts c n file output list (j .marking) = record { fine = j .fine; holds = j .holds; room = room } in
+      same-said edition starts c n file output list (j .marking) p (readable-for (j .marking) p)
+      (justified-accepted (startOf starts) events (j .marking) (j .justified) (j .ruleD)) (content-bytes (known events) file by (j .marking) (j .holds))
 
   -- ---- what is written
 
@@ -144,38 +146,38 @@ module _ (start : ℕ → ℕ) (c : Columns) (n : ℕ) (file output list : List 
   -- them both are as they were. The straightened marking is readable for the history, and the checker accepts exactly these bytes.
   pub record Written (k l : ℕ) : Type 0 where
     pub marking : Marking
-    pub passes : Passes c n file output list marking
-    pub justified : Justified start events (marking .places)
+    pub passes : Passes edition starts c n file output list marking
+    pub justified : Justified (startOf starts) events (marking .places)
     pub size : k ≡ length file
-    pub bytes : take k (given .output) ≡ markingBytes (straightened start events marking)
+    pub bytes : take k (given .output) ≡ markingBytes (straightened (startOf starts) events marking)
     pub behind-bytes : drop k (given .output) ≡ drop k output
-    pub moved : take l (given .list) ≡ movedEvents start events marking
+    pub moved : take l (given .list) ≡ movedEvents (startOf starts) events marking
     pub behind-moved : drop l (given .list) ≡ drop l list
     pub rising : Rises (take l (given .list))
-    pub readable : ReadableFor events (straightened start events marking)
-    pub accepted : answerFrom start c n (take k (given .output)) ≡ Ruled Accepted
+    pub readable : ReadableFor events (straightened (startOf starts) events marking)
+    pub accepted : verdictAnswer edition starts c n (take k (given .output)) ≡ Ruled Accepted
 
   module _ (k l : ℕ) (x : given .result ≡ Straightened k l) where
-    done : Done start c n file output list k l (given .output) (given .list)
-    done = told start c n file output list (Straightened k l) x
+    done : Done edition starts c n file output list k l (given .output) (given .list)
+    done = told edition starts c n file output list (Straightened k l) x
 
-    bytes-written : take k (given .output) ≡ markingBytes (straightened start events (done .marking))
-    bytes-written = ap (take k) (done .bytes) ∙ take-over (markingBytes (straightened start events (done .marking))) output k (done .size)
+    bytes-written : take k (given .output) ≡ markingBytes (straightened (startOf starts) events (done .marking))
+    bytes-written = ap (take k) (done .bytes) ∙ take-over (markingBytes (straightened (startOf starts) events (done .marking))) output k (done .size)
 
-    moved-written : take l (given .list) ≡ movedEvents start events (done .marking)
-    moved-written = ap (take l) (done .entries) ∙ take-over (movedEvents start events (done .marking)) list l (done .count)
+    moved-written : take l (given .list) ≡ movedEvents (startOf starts) events (done .marking)
+    moved-written = ap (take l) (done .entries) ∙ take-over (movedEvents (startOf starts) events (done .marking)) list l (done .count)
 
-    written-readable : ReadableFor events (straightened start events (done .marking))
-    written-readable = straight-readable start events (done .marking) (readable-for (done .marking) (done .passes))
+    written-readable : ReadableFor events (straightened (startOf starts) events (done .marking))
+    written-readable = straight-readable (startOf starts) events (done .marking) (readable-for (done .marking) (done .passes))
 
     pub written-behind : (drop k (given .output) ≡ drop k output) × (drop l (given .list) ≡ drop l list)
     written-behind = (
-      ap (drop k) (done .bytes) ∙ drop-over (markingBytes (straightened start events (done .marking))) output k (done .size),
-      ap (drop l) (done .entries) ∙ drop-over (movedEvents start events (done .marking)) list l (done .count),
+      ap (drop k) (done .bytes) ∙ drop-over (markingBytes (straightened (startOf starts) events (done .marking))) output k (done .size),
+      ap (drop l) (done .entries) ∙ drop-over (movedEvents (startOf starts) events (done .marking)) list l (done .count),
     )
 
-    pub written-accepted : answerFrom start c n (take k (given .output)) ≡ Ruled Accepted
-    written-accepted = ap (answerFrom start c n) bytes-written ∙ bytes-judged start c n (straightened start events (done .marking)) (done .passes .fine) written-readable ∙ ap Ruled (done .accepted)
+    pub written-accepted : verdictAnswer edition starts c n (take k (given .output)) ≡ Ruled Accepted
+    written-accepted = ap (verdictAnswer edition starts c n) bytes-written ∙ bytes-judged edition starts c n (straightened (startOf starts) events (done .marking)) (done .passes .fine) written-readable ∙ ap Ruled (done .accepted)
 
     pub written : Bytes file → Written k l
     written by =
@@ -184,24 +186,24 @@ module _ (start : ℕ → ℕ) (c : Columns) (n : ℕ) (file output list : List 
         record {
           marking = m;
           passes = done .passes;
-          justified = straight-accepted start events m f .0 (done .accepted);
-          size = sym (done .size) ∙ straight-length start events m ∙ ap length (sym (content-bytes (known events) file by m (done .passes .holds)));
+          justified = straight-accepted (startOf starts) events m f .0 (done .accepted);
+          size = sym (done .size) ∙ straight-length (startOf starts) events m ∙ ap length (sym (content-bytes (known events) file by m (done .passes .holds)));
           bytes = bytes-written;
           behind-bytes = written-behind .0;
           moved = moved-written;
           behind-moved = written-behind .1;
-          rising = rw moved-written (moved-rise start events m f);
+          rising = rw moved-written (moved-rise (startOf starts) events m f);
           readable = written-readable;
           accepted = written-accepted;
         }
 
     -- Straightening what was written moves nothing: with room, those bytes come back.
     pub again : (output₂ list₂ : List ℕ) → roomy events (take k (given .output)) output₂ list₂ ≡ true
-        → straightenedFrom start c n (take k (given .output)) output₂ list₂ ≡ gives (Straightened k 0) (over (take k (given .output)) output₂) list₂
+        → straightenedAnswer edition starts c n (take k (given .output)) output₂ list₂ ≡ gives (Straightened k 0) (over (take k (given .output)) output₂) list₂
     again output₂ list₂ room =
-        let m : Marking = straightened start events (done .marking) in
-        let e = bytes-content events m (columns-readable c n (done .passes .fine) .1) written-readable in
-        same-said start c n (take k (given .output)) output₂ list₂ m
+        let m : Marking = straightened (startOf starts) events (done .marking) in
+        let e = bytes-content events m (history-readable edition starts c n (done .passes .fine) .1) written-readable in
+        same-said edition starts c n (take k (given .output)) output₂ list₂ m
         (record { fine = done .passes .fine; holds = ap (fileRead (known events)) bytes-written ∙ e; room = room }) written-readable (done .accepted) bytes-written
         ∙ ap (λ (i : ℕ). gives (Straightened i 0) (over (take k (given .output)) output₂) list₂) (ap length bytes-written ∙ done .size)
 
@@ -228,9 +230,16 @@ module _ (start : ℕ → ℕ) (h : List Event) (n : ℕ) (file output list befo
       content-same (content m) = rw same (room-same m (roomy h file before marks))
       content-same (refused q byte) = refl
 
-pub past-count : (start : ℕ → ℕ) (c d : Columns) (n : ℕ) (file output list before marks : List ℕ) → hold c n ≡ hold d n → history c n ≡ history d n
+pub past-count : (edition : ℕ) (starts : List ℕ) (c d : Columns) (n : ℕ) (file output list before marks : List ℕ) → hold c n ≡ hold d n → history c n ≡ history d n
     → length output ≡ length before → length list ≡ length marks
-    → straightenedFrom start c n file output list .result ≡ straightenedFrom start d n file before marks .result
-unfolding straightenedFrom columnsAnswer roomy
-past-count start c d n file output list before marks held events o l =
-    rw (held, events) (result-same start (history d n) n file output list before marks (rw (o, l)) (columnsAnswer d n))
+    → straightenedAnswer edition starts c n file output list .result ≡ straightenedAnswer edition starts d n file before marks .result
+unfolding straightenedAnswer historyAnswer roomy
+past-count edition starts c d n file output list before marks held events o l =
+    rw (held, events) (result-same (startOf starts) (history d n) n file output list before marks (rw (o, l)) (historyAnswer edition starts d n))
+
+-- ---- edition 1
+
+-- A history of edition 1 is answered as it was before there were start values.
+pub first-edition : (c : Columns) (n : ℕ) (file output list : List ℕ) → straightenedAnswer 1 noStarts c n file output list ≡ firstEditionAnswer c n file output list
+unfolding straightenedAnswer firstEditionAnswer
+first-edition c n file output list = rw (no-starts, first-asked c n)

@@ -11,7 +11,8 @@ use Rattle.events.specs.declared.columns.Checked.the-variants.{Readable, Refuse
 use Rattle.events.specs.Lists.{_and_}
 use Rattle.events.specs.Bytes.{over}
 use Rattle.events.specs.Columns.{Columns, history}
-use Rattle.events.specs.Questions.{columnsAnswer}
+use Rattle.events.specs.Starts.{startOf}
+use Rattle.events.specs.Questions.{columnsAnswer, historyAnswer}
 use Rattle.opacity.specs.declared.verdict.Verdict.{Verdict}
 use Rattle.opacity.specs.declared.verdict.Verdict.the-variants.{Accepted, Broken as Breaks}
 use Rattle.opacity.specs.Transactions.{storeReads}
@@ -54,13 +55,13 @@ abbrev pub afterColumns : (ℕ → ℕ) → List Event → ℕ → List ℕ → 
 afterColumns start h n file output list (Refuses q event) = gives (Refused q event) output list
 afterColumns start h n file output list Readable = afterFile start h n file output list (fileRead (known h) file)
 
--- 17 and each event's own questions, then the marking's, then 15 with the count, then the rules
-unfoldable pub straightenedFrom : (ℕ → ℕ) → Columns → ℕ → List ℕ → List ℕ → List ℕ → Given
-straightenedFrom start c n file output list = afterColumns start (history c n) n file output list (columnsAnswer c n)
+-- 17, 3 of the edition and the start values, and each event's own questions, then the marking's, then 15 with the count, then the rules
+unfoldable pub straightenedAnswer : ℕ → List ℕ → Columns → ℕ → List ℕ → List ℕ → List ℕ → Given
+straightenedAnswer edition starts c n file output list = afterColumns (startOf starts) (history c n) n file output list (historyAnswer edition starts c n)
 
--- with start value 0 everywhere
-unfoldable pub straightenedAnswer : Columns → ℕ → List ℕ → List ℕ → List ℕ → Given
-straightenedAnswer c n file output list = straightenedFrom zeros c n file output list
+-- the answer of edition 1, where every register starts at 0, as it was before there were start values
+unfoldable pub firstEditionAnswer : Columns → ℕ → List ℕ → List ℕ → List ℕ → Given
+firstEditionAnswer c n file output list = afterColumns zeros (history c n) n file output list (columnsAnswer c n)
 
 -- the paper's number of an answer: the question that says no, or 0; its values: the length of the marking and how many points were moved, or
 -- the broken rule (1 for A to 5 for E) with its event and transaction, or the event or byte of the question

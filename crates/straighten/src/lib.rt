@@ -10,8 +10,8 @@ ghost use lib.ListN.{length};
 ghost use Rattle.events.specs.Lists.{_and_};
 ghost use Rattle.events.specs.Columns.{columns, history};
 ghost use Rattle.events.specs.Events.{begins};
+ghost use Rattle.events.specs.Starts.{startOf};
 ghost use Rattle.opacity.specs.Counts.{HoldsReadable};
-ghost use Rattle.opacity.specs.Justification.{zeros};
 ghost use Rattle.rules.specs.Judge.{Given as Judgeable, content};
 ghost use Rattle.marking.specs.File.{known, fileRead};
 ghost use Rattle.straighten.specs.Answer.{gives, settled, judged, afterFile, straightenedAnswer};
@@ -24,7 +24,7 @@ use crate::moves::straight_of;
 use crate::write::list_moved;
 use crate::write::write_marking;
 use events::columns::Checked;
-use events::columns::check_columns;
+use events::columns::check_history;
 use links::writes::links;
 use links::writes::store_reads;
 use marking::read::read_marking;
@@ -96,6 +96,7 @@ fn settle(
 
 // Moves the points of a readable marking, judges what comes out, and settles.
 fn straighten_points(
+    starts: &[u32; 32],
     kinds: &[u16],
     transactions: &[u16],
     registers: &[u16],
@@ -113,9 +114,10 @@ fn straighten_points(
     requires { ⌜ Judgeable (columns (now kinds) (now transactions) (now registers) (now values)) count (now link) (now reads) (now order) (now outcomes) (now gaps) ⌝ }
     requires { ⌜ begun ≡ begins (history (columns (now kinds) (now transactions) (now registers) (now values)) count) ⌝ }
     requires { ⌜ Room (history (columns (now kinds) (now transactions) (now registers) (now values)) count) (length (now output)) (length (now moved)) ⌝ }
-    ensures { λ r. ⌜ gives r (now (output .exit)) (now (moved .exit)) ≡ judged zeros (history (columns (now (kinds .entry)) (now (transactions .entry)) (now (registers .entry)) (now (values .entry))) count) (content (history (columns (now (kinds .entry)) (now (transactions .entry)) (now (registers .entry)) (now (values .entry))) count) (now (order .entry)) (now (outcomes .entry)) (now (gaps .entry))) (now (output .entry)) (now (moved .entry)) ⌝ }
+    ensures { λ r. ⌜ gives r (now (output .exit)) (now (moved .exit)) ≡ judged (startOf (now (starts .entry))) (history (columns (now (kinds .entry)) (now (transactions .entry)) (now (registers .entry)) (now (values .entry))) count) (content (history (columns (now (kinds .entry)) (now (transactions .entry)) (now (registers .entry)) (now (values .entry))) count) (now (order .entry)) (now (outcomes .entry)) (now (gaps .entry))) (now (output .entry)) (now (moved .entry)) ⌝ }
 {
     let straight = straight_of(
+        starts,
         kinds,
         transactions,
         registers,
@@ -131,6 +133,7 @@ fn straighten_points(
     let moves = straight.moves;
     let points = straight.gaps;
     let verdict = judge(
+        starts,
         kinds,
         transactions,
         registers,
@@ -168,6 +171,7 @@ fn has_room(marking: usize, output: usize, points: usize, entries: usize) -> boo
 
 // The answer for a readable history: the marking's questions, 15, and then the rules.
 fn straighten_file(
+    starts: &[u32; 32],
     kinds: &[u16],
     transactions: &[u16],
     registers: &[u16],
@@ -178,7 +182,7 @@ fn straighten_file(
     moved: &mut [u32],
 ) -> Straightening
     requires { ⌜ HoldsReadable (columns (now kinds) (now transactions) (now registers) (now values)) count ⌝ }
-    ensures { λ r. ⌜ gives r (now (output .exit)) (now (moved .exit)) ≡ afterFile zeros (history (columns (now (kinds .entry)) (now (transactions .entry)) (now (registers .entry)) (now (values .entry))) count) count (now (file .entry)) (now (output .entry)) (now (moved .entry)) (fileRead (known (history (columns (now (kinds .entry)) (now (transactions .entry)) (now (registers .entry)) (now (values .entry))) count)) (now (file .entry))) ⌝ }
+    ensures { λ r. ⌜ gives r (now (output .exit)) (now (moved .exit)) ≡ afterFile (startOf (now (starts .entry))) (history (columns (now (kinds .entry)) (now (transactions .entry)) (now (registers .entry)) (now (values .entry))) count) count (now (file .entry)) (now (output .entry)) (now (moved .entry)) (fileRead (known (history (columns (now (kinds .entry)) (now (transactions .entry)) (now (registers .entry)) (now (values .entry))) count)) (now (file .entry))) ⌝ }
 {
     let begun = counts::transactions_begun(kinds, transactions, registers, values, count);
     let link = links(kinds, transactions, count);
@@ -201,6 +205,7 @@ fn straighten_file(
     let outcomes = reading.outcomes;
     let gaps = reading.gaps;
     straighten_points(
+        starts,
         kinds,
         transactions,
         registers,
@@ -218,8 +223,11 @@ fn straighten_file(
 }
 
 // Straightens the read points of a marking file for the history in the first `count` entries of the
-// columns: the marking goes into the output, the moved events, rising, into the list.
+// columns, of this edition and with these start values: the marking goes into the output, the moved
+// events, rising, into the list.
 pub fn straighten(
+    edition: u16,
+    starts: &[u32; 32],
     kinds: &[u16],
     transactions: &[u16],
     registers: &[u16],
@@ -229,12 +237,21 @@ pub fn straighten(
     output: &mut [u8],
     moved: &mut [u32],
 ) -> Straightening
-    ensures { λ r. ⌜ gives r (now (output .exit)) (now (moved .exit)) ≡ straightenedAnswer (columns (now (kinds .entry)) (now (transactions .entry)) (now (registers .entry)) (now (values .entry))) count (now (file .entry)) (now (output .entry)) (now (moved .entry)) ⌝ }
+    ensures { λ r. ⌜ gives r (now (output .exit)) (now (moved .exit)) ≡ straightenedAnswer edition (now (starts .entry)) (columns (now (kinds .entry)) (now (transactions .entry)) (now (registers .entry)) (now (values .entry))) count (now (file .entry)) (now (output .entry)) (now (moved .entry)) ⌝ }
 {
-    let checked = check_columns(kinds, transactions, registers, values, count);
+    let checked = check_history(
+        edition,
+        starts,
+        kinds,
+        transactions,
+        registers,
+        values,
+        count,
+    );
     match checked {
         Checked::Refused { question, event } => Straightening::Refused { question, event },
         Checked::Readable => straighten_file(
+            starts,
             kinds,
             transactions,
             registers,

@@ -5,7 +5,7 @@ ghost use Prim.Native.Nat.{ℕ, _≤_, _<_};
 ghost use lib.ListN.{length, getD};
 ghost use Rattle.events.specs.Columns.{columns, history};
 ghost use Rattle.events.specs.Events.{begins};
-ghost use Rattle.opacity.specs.Justification.{zeros};
+ghost use Rattle.events.specs.Starts.{startOf};
 ghost use Rattle.links.specs.Tables.{Filled};
 ghost use Rattle.rules.specs.Walks.{Walkable};
 ghost use Rattle.rules.specs.Judge.{Given, readRuleBy, content};
@@ -27,6 +27,7 @@ pub struct Straight {
 
 // Does the point of event i break D or E?
 fn breaks(
+    starts: &[u32; 32],
     kinds: &[u16],
     transactions: &[u16],
     registers: &[u16],
@@ -41,10 +42,11 @@ fn breaks(
 ) -> bool
     requires { ⌜ Walkable (now transactions) (now registers) (now values) count (now link) (now writers) (now place) (now reads) (now gaps) ⌝ }
     requires { ⌜ (i < count) × (count ≤ length (now kinds)) ⌝ }
-    ensures { λ b. ⌜ b ≡ breaksBy (readRuleBy zeros (columns (now (kinds .entry)) (now (transactions .entry)) (now (registers .entry)) (now (values .entry))) (now (link .entry)) (now (writers .entry)) (now (place .entry)) (now (reads .entry)) (now (gaps .entry))) i ⌝ }
+    ensures { λ b. ⌜ b ≡ breaksBy (readRuleBy (startOf (now (starts .entry))) (columns (now (kinds .entry)) (now (transactions .entry)) (now (registers .entry)) (now (values .entry))) (now (link .entry)) (now (writers .entry)) (now (place .entry)) (now (reads .entry)) (now (gaps .entry))) i ⌝ }
 {
     let free = holds_at(
         Rule::D,
+        starts,
         kinds,
         transactions,
         registers,
@@ -62,6 +64,7 @@ fn breaks(
     }
     let right = holds_at(
         Rule::E,
+        starts,
         kinds,
         transactions,
         registers,
@@ -79,6 +82,7 @@ fn breaks(
 
 // The events whose points break D or E.
 pub fn moves_of(
+    starts: &[u32; 32],
     kinds: &[u16],
     transactions: &[u16],
     registers: &[u16],
@@ -92,12 +96,13 @@ pub fn moves_of(
 ) -> [bool; 2048]
     requires { ⌜ Walkable (now transactions) (now registers) (now values) count (now link) (now writers) (now place) (now reads) (now gaps) ⌝ }
     requires { ⌜ count ≤ length (now kinds) ⌝ }
-    ensures { λ r. ⌜ Filled 2048 false (breaksBy (readRuleBy zeros (columns (now (kinds .entry)) (now (transactions .entry)) (now (registers .entry)) (now (values .entry))) (now (link .entry)) (now (writers .entry)) (now (place .entry)) (now (reads .entry)) (now (gaps .entry)))) count r ⌝ }
+    ensures { λ r. ⌜ Filled 2048 false (breaksBy (readRuleBy (startOf (now (starts .entry))) (columns (now (kinds .entry)) (now (transactions .entry)) (now (registers .entry)) (now (values .entry))) (now (link .entry)) (now (writers .entry)) (now (place .entry)) (now (reads .entry)) (now (gaps .entry)))) count r ⌝ }
 {
     let mut moves = [false; 2048];
     let mut i: usize = 0;
     while i < count {
         let broken = breaks(
+            starts,
             kinds,
             transactions,
             registers,
@@ -158,6 +163,7 @@ pub fn gaps_of(
 
 // The points of a readable marking, those that break D or E moved to their readers' places.
 pub fn straight_of(
+    starts: &[u32; 32],
     kinds: &[u16],
     transactions: &[u16],
     registers: &[u16],
@@ -172,14 +178,15 @@ pub fn straight_of(
 ) -> Straight
     requires { ⌜ Given (columns (now kinds) (now transactions) (now registers) (now values)) count (now link) (now reads) (now order) (now outcomes) (now gaps) ⌝ }
     requires { ⌜ begun ≡ begins (history (columns (now kinds) (now transactions) (now registers) (now values)) count) ⌝ }
-    ensures { λ r. ⌜ content (history (columns (now (kinds .entry)) (now (transactions .entry)) (now (registers .entry)) (now (values .entry))) count) (now (order .entry)) (now (outcomes .entry)) (r .gaps) ≡ straightened zeros (history (columns (now (kinds .entry)) (now (transactions .entry)) (now (registers .entry)) (now (values .entry))) count) (content (history (columns (now (kinds .entry)) (now (transactions .entry)) (now (registers .entry)) (now (values .entry))) count) (now (order .entry)) (now (outcomes .entry)) (now (gaps .entry))) ⌝ }
-    ensures { λ r. ⌜ listed (r .moves) count ≡ movedEvents zeros (history (columns (now (kinds .entry)) (now (transactions .entry)) (now (registers .entry)) (now (values .entry))) count) (content (history (columns (now (kinds .entry)) (now (transactions .entry)) (now (registers .entry)) (now (values .entry))) count) (now (order .entry)) (now (outcomes .entry)) (now (gaps .entry))) ⌝ }
+    ensures { λ r. ⌜ content (history (columns (now (kinds .entry)) (now (transactions .entry)) (now (registers .entry)) (now (values .entry))) count) (now (order .entry)) (now (outcomes .entry)) (r .gaps) ≡ straightened (startOf (now (starts .entry))) (history (columns (now (kinds .entry)) (now (transactions .entry)) (now (registers .entry)) (now (values .entry))) count) (content (history (columns (now (kinds .entry)) (now (transactions .entry)) (now (registers .entry)) (now (values .entry))) count) (now (order .entry)) (now (outcomes .entry)) (now (gaps .entry))) ⌝ }
+    ensures { λ r. ⌜ listed (r .moves) count ≡ movedEvents (startOf (now (starts .entry))) (history (columns (now (kinds .entry)) (now (transactions .entry)) (now (registers .entry)) (now (values .entry))) count) (content (history (columns (now (kinds .entry)) (now (transactions .entry)) (now (registers .entry)) (now (values .entry))) count) (now (order .entry)) (now (outcomes .entry)) (now (gaps .entry))) ⌝ }
     ensures { λ r. ⌜ Given (columns (now (kinds .entry)) (now (transactions .entry)) (now (registers .entry)) (now (values .entry))) count (now (link .entry)) (now (reads .entry)) (now (order .entry)) (now (outcomes .entry)) (r .gaps) ⌝ }
 {
     let place = places_of(order, begun);
     let written = table(kinds, transactions, count, Fact::LastWrite);
     let writers = writers_of(order, outcomes, &written, begun);
     let moves = moves_of(
+        starts,
         kinds,
         transactions,
         registers,

@@ -2,14 +2,15 @@
 -- Assumes nothing.
 use mathlib.Core.Path.{sym, _∙_}
 use Rattle.events.specs.Columns.{columns}
+use Rattle.events.proofs.StartLaws.{fine}
 use Rattle.opacity.proofs.CountLaws.{checked-readable}
-use Rattle.straighten.specs.Answer.{straightenedFrom, straightenedAnswer}
+use Rattle.straighten.specs.Answer.{straightenedAnswer}
 use borrow.Author.Needs.{needs}
 use Rattle.straighten.proofs.straighten.Statement.{statement}
 use Rattle.straighten.proofs.straighten.Tie as tie
 
-check-columns-requires : tie.Need-check-columns-requires
-check-columns-requires c κs = search needs
+check-history-requires : tie.Need-check-history-requires
+check-history-requires c κs = search needs
 
 enum-known-checked : tie.Need-enum-known-checked
 enum-known-checked c = search needs
@@ -21,11 +22,11 @@ straighten-file-requires : tie.Need-straighten-file-requires
 straighten-file-requires c κs =
     let start = c .before .before .before .before .before .before .before .before .before .before .before .before in
     let cs = columns (start .args .kinds .now) (start .args .transactions .now) (start .args .registers .now) (start .args .values .now) in
-    checked-readable cs (start .args .count) (sym (c .before .before .before .before .check-columns .ensures) ∙ c .before .before .enum-told .given .1)
+    checked-readable cs (start .args .count) (fine (start .args .edition) (start .args .starts .now) cs (start .args .count) (sym (c .before .before .before .before .check-history .ensures) ∙ c .before .before .enum-told .given .1) .columns)
 
 returns : tie.Need-returns
-unfolding straightenedAnswer straightenedFrom
-returns c = rw (sym (c .before .before .before .check-columns .ensures) ∙ c .before .checked .given .1)
+unfolding straightenedAnswer
+returns c = rw (sym (c .before .before .before .check-history .ensures) ∙ c .before .checked .given .1)
 
 same-length : tie.Need-same-length
 same-length c = search needs
@@ -34,14 +35,14 @@ same-length-2 : tie.Need-same-length-2
 same-length-2 c = search needs
 
 returns-2 : tie.Need-returns-2
-unfolding straightenedAnswer straightenedFrom
-returns-2 c = rw (sym (c .before .before .before .before .before .before .before .before .before .check-columns .ensures) ∙ c .before .before .before .before .before .before .before .enum-told .given .1) (c .before .before .before .before .straighten-file .ensures)
+unfolding straightenedAnswer
+returns-2 c = rw (sym (c .before .before .before .before .before .before .before .before .before .check-history .ensures) ∙ c .before .before .before .before .before .before .before .enum-told .given .1) (c .before .before .before .before .straighten-file .ensures)
 
 pub straighten-spec : {M : Type 1} → statement M
 straighten-spec =
     tie.close
     (tie.spec
-    check-columns-requires
+    check-history-requires
     enum-known-checked
     enum-told
     straighten-file-requires

@@ -9,7 +9,7 @@ use denote.Ref.{now}
 use Rattle.events.specs.Lists.{_and_}
 use Rattle.events.specs.Columns.{columns, history}
 use Rattle.events.proofs.ListLaws.{not-true, not-false}
-use Rattle.opacity.specs.Justification.{zeros}
+use Rattle.events.specs.Starts.{startOf}
 use Rattle.links.proofs.WriteLaws.{links-back}
 use Rattle.rules.specs.Judge.{content as inArrays}
 use Rattle.rules.proofs.JudgeLaws.{ground-tabled}
@@ -51,7 +51,7 @@ returns c =
     let linked = c .before .before .before .before .before .before .links in
     let tabled = c .before .before .before .before .store-reads in
     let reading = c .before .before .read-marking in
-    sym (ap (afterFile zeros (history cs (start .args .count)) (start .args .count) (start .args .file .now) (now (start .args .output)) (now (start .args .moved))) (reading-refused cs (start .args .count) (begun .result) (linked .result) (tabled .result) (begun .ensures) (linked .ensures) (tabled .ensures) (reading .result) (start .args .file .now) (reading .ensures .0) (c .if1 .taken)))
+    sym (ap (afterFile (startOf (start .args .starts .now)) (history cs (start .args .count)) (start .args .count) (start .args .file .now) (now (start .args .output)) (now (start .args .moved))) (reading-refused cs (start .args .count) (begun .result) (linked .result) (tabled .result) (begun .ensures) (linked .ensures) (tabled .ensures) (reading .result) (start .args .file .now) (reading .ensures .0) (c .if1 .taken)))
 
 store-reads-requires-2 : tie.Need-store-reads-requires-2
 store-reads-requires-2 c κs = search needs
@@ -72,7 +72,7 @@ returns-2 c =
     let holds = reading-content cs (start .args .count) (begun .result) (linked .result) (tabled .result) (begun .ensures) (linked .ensures) (tabled .ensures) (reading .result) kept (start .args .file .now) (reading .ensures .0) whole in
     let room = c .before .has-room in
     let asked = room .ensures ∙ ap (λ (p : ℕ). leb (length (start .args .file .now)) (length (now (start .args .output))) and leb p (length (now (start .args .moved)))) (c .before .before .store-reads2 .ensures) in
-    after-short zeros (history cs (start .args .count)) (start .args .count) (start .args .file .now) (now (start .args .output)) (now (start .args .moved)) (inArrays (history cs (start .args .count)) (reading .result .order) (reading .result .outcomes) (reading .result .gaps)) holds (room .result) asked (not-true _ (c .if2 .taken))
+    after-short (startOf (start .args .starts .now)) (history cs (start .args .count)) (start .args .count) (start .args .file .now) (now (start .args .output)) (now (start .args .moved)) (inArrays (history cs (start .args .count)) (reading .result .order) (reading .result .outcomes) (reading .result .gaps)) holds (room .result) asked (not-true _ (c .if2 .taken))
 
 straighten-points-requires : tie.Need-straighten-points-requires
 straighten-points-requires c κs =
@@ -88,7 +88,7 @@ straighten-points-requires c κs =
     let room = c .before .before .before .before .before .before .before .before .before .before .before .has-room in
     let asked = room .ensures ∙ ap (λ (p : ℕ). leb (length (start .args .file .now)) (length (now (start .args .output))) and leb p (length (now (start .args .moved)))) (c .before .before .before .before .before .before .before .before .before .before .before .before .store-reads2 .ensures) in
     let y = given cs (start .args .count) (begun .result) (linked .result) (tabled .result) (begun .ensures) (linked .ensures) (tabled .ensures) (reading .result) kept (grounded (start .pre)) in
-    (y, (begun .ensures, room-there zeros (history cs (start .args .count)) (start .args .count) (start .args .file .now) (now (start .args .output)) (now (start .args .moved)) (inArrays (history cs (start .args .count)) (reading .result .order) (reading .result .outcomes) (reading .result .gaps)) holds (room .result) asked (not-false _ (c .before .before .before .before .before .before .before .before .before .before .if2 .left)) (λ i. c .before .before .before .before .before .before .before .before .before .before .before .before .before .before .before .before .before .before .before .before .before .before .before .shared-slice-known5 .given i .fits) (arrays-readable y)))
+    (y, (begun .ensures, room-there (startOf (start .args .starts .now)) (history cs (start .args .count)) (start .args .count) (start .args .file .now) (now (start .args .output)) (now (start .args .moved)) (inArrays (history cs (start .args .count)) (reading .result .order) (reading .result .outcomes) (reading .result .gaps)) holds (room .result) asked (not-false _ (c .before .before .before .before .before .before .before .before .before .before .if2 .left)) (λ i. c .before .before .before .before .before .before .before .before .before .before .before .before .before .before .before .before .before .before .before .before .before .before .before .shared-slice-known5 .given i .fits) (arrays-readable y)))
 
 same-length : tie.Need-same-length
 same-length c = search needs
@@ -109,7 +109,7 @@ returns-3 c =
     let holds = reading-content cs (start .args .count) (begun .result) (linked .result) (tabled .result) (begun .ensures) (linked .ensures) (tabled .ensures) (reading .result) kept (start .args .file .now) (reading .ensures .0) whole in
     let room = c .before .before .before .before .before .before .before .before .before .before .before .before .before .before .before .before .has-room in
     let asked = room .ensures ∙ ap (λ (p : ℕ). leb (length (start .args .file .now)) (length (now (start .args .output))) and leb p (length (now (start .args .moved)))) (c .before .before .before .before .before .before .before .before .before .before .before .before .before .before .before .before .before .store-reads2 .ensures) in
-    c .before .before .before .before .straighten-points .ensures ∙ after-room zeros (history cs (start .args .count)) (start .args .count) (start .args .file .now) (now (start .args .output)) (now (start .args .moved)) (inArrays (history cs (start .args .count)) (reading .result .order) (reading .result .outcomes) (reading .result .gaps)) holds (room .result) asked (not-false _ (c .before .before .before .before .before .before .before .before .before .before .before .before .before .before .before .if2 .left))
+    c .before .before .before .before .straighten-points .ensures ∙ after-room (startOf (start .args .starts .now)) (history cs (start .args .count)) (start .args .count) (start .args .file .now) (now (start .args .output)) (now (start .args .moved)) (inArrays (history cs (start .args .count)) (reading .result .order) (reading .result .outcomes) (reading .result .gaps)) holds (room .result) asked (not-false _ (c .before .before .before .before .before .before .before .before .before .before .before .before .before .before .before .if2 .left))
 
 pub straighten-file-spec : {M : Type 1} → statement M
 straighten-file-spec =

@@ -5,7 +5,7 @@ use native.Mathlib.Omega.{arith}
 use lib.ListN.{length}
 use denote.Ref.{now}
 use Rattle.events.specs.Columns.{columns, history}
-use Rattle.opacity.specs.Justification.{zeros}
+use Rattle.events.specs.Starts.{startOf}
 use Rattle.rules.specs.Judge.{content as inArrays}
 use Rattle.straighten.proofs.MoveLaws.{arrays-readable}
 use Rattle.straighten.proofs.StraightLaws.{moved-few}
@@ -26,7 +26,7 @@ settle-requires c κs =
     let cs = columns (start .args .kinds .now) (start .args .transactions .now) (start .args .registers .now) (start .args .values .now) in
     let ground = start .pre .0 .ground in
     let straight = c .before .before .before .before .before .before .before .before .straight-of .ensures in
-    let few = moved-few zeros (history cs (start .args .count)) (inArrays (history cs (start .args .count)) (start .args .order .now) (start .args .outcomes .now) (start .args .gaps .now)) (arrays-readable (start .pre .0)) in
+    let few = moved-few (startOf (start .args .starts .now)) (history cs (start .args .count)) (inArrays (history cs (start .args .count)) (start .args .order .now) (start .args .outcomes .now) (start .args .gaps .now)) (arrays-readable (start .pre .0)) in
     ((omega (arith, start .pre .1 .0, ground .few-begun), ground .few), (bytes-fit (straight .1 .1) (start .pre .1 .0) (start .pre .1 .1), omega (arith, ap length (straight .1 .0), few, start .pre .1 .1 .entries)))
 
 same-length : tie.Need-same-length
@@ -41,7 +41,7 @@ returns c =
     let cs = columns (start .args .kinds .now) (start .args .transactions .now) (start .args .registers .now) (start .args .values .now) in
     let straight = c .before .before .before .before .before .before .before .before .before .before .before .before .before .straight-of .ensures in
     c .before .before .before .before .settle .ensures
-    ∙ settled-judged zeros (history cs (start .args .count)) (inArrays (history cs (start .args .count)) (start .args .order .now) (start .args .outcomes .now) (start .args .gaps .now)) _ (now (start .args .output)) (now (start .args .moved)) _ _ _ (straight .0) (c .before .before .before .before .before .before .before .before .before .judge .ensures) (bytes-same (straight .1 .1) (start .pre .1 .0)) (straight .1 .0)
+    ∙ settled-judged (startOf (start .args .starts .now)) (history cs (start .args .count)) (inArrays (history cs (start .args .count)) (start .args .order .now) (start .args .outcomes .now) (start .args .gaps .now)) _ (now (start .args .output)) (now (start .args .moved)) _ _ _ (straight .0) (c .before .before .before .before .before .before .before .before .before .judge .ensures) (bytes-same (straight .1 .1) (start .pre .1 .0)) (straight .1 .0)
 
 pub straighten-points-spec : {M : Type 1} → statement M
 straighten-points-spec =

@@ -4,7 +4,7 @@ use mathlib.Core.Path.{sym, ap, _∙_}
 use native.Mathlib.Omega.{arith}
 use Rattle.events.specs.Columns.{columns, history}
 use Rattle.links.proofs.WriteLaws.{links-back}
-use Rattle.opacity.specs.Justification.{zeros}
+use Rattle.events.specs.Starts.{startOf}
 use Rattle.rules.proofs.JudgeLaws.{ground-tabled}
 use Rattle.marking.specs.declared.check.Judged.the-variants.{Ruled}
 use Rattle.marking.specs.Answer.{ruled}
@@ -36,7 +36,7 @@ returns : tie.Need-returns
 returns c =
     let start = c .before .before .before .before .before .before .before .before .before .before .before .before .before in
     let cs = columns (start .args .kinds .now) (start .args .transactions .now) (start .args .registers .now) (start .args .values .now) in
-    sym (ap (ruled zeros (history cs (start .args .count))) (reading-refused cs (start .args .count) (c .before .before .before .before .before .before .before .transactions-begun .result) (c .before .before .before .before .before .before .links .result) (c .before .before .before .before .store-reads .result) (c .before .before .before .before .before .before .before .transactions-begun .ensures) (c .before .before .before .before .before .before .links .ensures) (c .before .before .before .before .store-reads .ensures) (c .before .before .read-marking .result) (start .args .file .now) (c .before .before .read-marking .ensures .0) (c .if1 .taken)))
+    sym (ap (ruled (startOf (start .args .starts .now)) (history cs (start .args .count))) (reading-refused cs (start .args .count) (c .before .before .before .before .before .before .before .transactions-begun .result) (c .before .before .before .before .before .before .links .result) (c .before .before .before .before .store-reads .result) (c .before .before .before .before .before .before .before .transactions-begun .ensures) (c .before .before .before .before .before .before .links .ensures) (c .before .before .before .before .store-reads .ensures) (c .before .before .read-marking .result) (start .args .file .now) (c .before .before .read-marking .ensures .0) (c .if1 .taken)))
 
 judge-requires : tie.Need-judge-requires
 judge-requires c κs =
@@ -52,7 +52,7 @@ returns-2 c =
     let reading = c .before .before .before .before .before .before .before .before .before .before .before .read-marking in
     let whole = c .before .before .before .before .before .before .before .before .before .if1 .left in
     ap Ruled (c .judge .ensures)
-    ∙ sym (ap (ruled zeros (history cs (start .args .count))) (reading-content cs (start .args .count) (c .before .before .before .before .before .before .before .before .before .before .before .before .before .before .before .before .transactions-begun .result) (c .before .before .before .before .before .before .before .before .before .before .before .before .before .before .before .links .result) (c .before .before .before .before .before .before .before .before .before .before .before .before .before .store-reads .result) (c .before .before .before .before .before .before .before .before .before .before .before .before .before .before .before .before .transactions-begun .ensures) (c .before .before .before .before .before .before .before .before .before .before .before .before .before .before .before .links .ensures) (c .before .before .before .before .before .before .before .before .before .before .before .before .before .store-reads .ensures) (reading .result) (reading .ensures .1 whole) (start .args .file .now) (reading .ensures .0) whole))
+    ∙ sym (ap (ruled (startOf (start .args .starts .now)) (history cs (start .args .count))) (reading-content cs (start .args .count) (c .before .before .before .before .before .before .before .before .before .before .before .before .before .before .before .before .transactions-begun .result) (c .before .before .before .before .before .before .before .before .before .before .before .before .before .before .before .links .result) (c .before .before .before .before .before .before .before .before .before .before .before .before .before .store-reads .result) (c .before .before .before .before .before .before .before .before .before .before .before .before .before .before .before .before .transactions-begun .ensures) (c .before .before .before .before .before .before .before .before .before .before .before .before .before .before .before .links .ensures) (c .before .before .before .before .before .before .before .before .before .before .before .before .before .store-reads .ensures) (reading .result) (reading .ensures .1 whole) (start .args .file .now) (reading .ensures .0) whole))
 
 pub check-file-spec : {M : Type 1} → statement M
 check-file-spec =

@@ -3,7 +3,7 @@
 use Prim.Native.Nat.{_<_}
 use mathlib.Core.Path.{_∙_}
 use native.Mathlib.Omega.{arith}
-use Rattle.opacity.specs.Justification.{zeros}
+use Rattle.events.specs.Starts.{startOf}
 use Rattle.rules.proofs.JudgeLaws.{ground-tabled, all-apart, all-walkable, verdict-a, verdict-b, verdict-reads}
 use borrow.Author.Needs.{needs}
 use Rattle.rules.proofs.judge.judge.Statement.{statement}
@@ -44,7 +44,7 @@ less-one-requires c κs = search needs
 
 returns : tie.Need-returns
 returns c =
-    verdict-a (c .before .before .before .before .before .before .before .before .before .before .before .before .before .pre) (c .before .before .before .before .before .before .before .before .transactions-begun .ensures) (c .before .before .before .before .before .before .before .places-of .ensures) zeros (c .before .before .before .before .before .before .table .ensures) (c .before .before .before .rule-a .ensures)
+    verdict-a (c .before .before .before .before .before .before .before .before .before .before .before .before .before .pre) (c .before .before .before .before .before .before .before .before .transactions-begun .ensures) (c .before .before .before .before .before .before .before .places-of .ensures) (startOf (c .before .before .before .before .before .before .before .before .before .before .before .before .before .args .starts .now)) (c .before .before .before .before .before .before .table .ensures) (c .before .before .before .rule-a .ensures)
     (c .before .before .if1 .taken) (c .before .table2 .ensures) (c .less-one .ensures)
 
 table-requires-3 : tie.Need-table-requires-3
@@ -79,7 +79,7 @@ less-one-requires-2 c κs = search needs
 
 returns-2 : tie.Need-returns-2
 returns-2 c =
-    verdict-b (c .before .before .before .before .before .before .before .before .before .before .before .before .before .before .before .before .before .before .before .before .pre) (c .before .before .before .before .before .before .before .before .before .before .before .before .before .before .before .transactions-begun .ensures) (c .before .before .before .before .before .before .before .before .before .before .before .before .before .before .places-of .ensures) zeros (c .before .before .before .before .before .before .before .before .before .before .before .before .before .table .ensures) (c .before .before .before .before .before .before .before .before .before .before .rule-a .ensures)
+    verdict-b (c .before .before .before .before .before .before .before .before .before .before .before .before .before .before .before .before .before .before .before .before .pre) (c .before .before .before .before .before .before .before .before .before .before .before .before .before .before .before .transactions-begun .ensures) (c .before .before .before .before .before .before .before .before .before .before .before .before .before .before .places-of .ensures) (startOf (c .before .before .before .before .before .before .before .before .before .before .before .before .before .before .before .before .before .before .before .before .args .starts .now)) (c .before .before .before .before .before .before .before .before .before .before .before .before .before .table .ensures) (c .before .before .before .before .before .before .before .before .before .before .rule-a .ensures)
     (omega (arith, c .before .before .before .before .before .before .before .before .before .if1 .left)) (c .before .before .before .before .before .before .before .before .table3 .ensures) (c .before .before .before .before .before .before .before .table4 .ensures) (c .before .before .before .rule-b .ensures)
     (c .before .before .if2 .taken) (c .before .table5 .ensures) (c .less-one2 .ensures)
 
@@ -97,7 +97,7 @@ judge-reads-requires c κs =
 returns-3 : tie.Need-returns-3
 returns-3 c =
     c .judge-reads .ensures
-    ∙ verdict-reads (c .before .before .before .before .before .before .before .before .before .before .before .before .before .before .before .before .before .before .before .before .before .before .before .before .pre) (c .before .before .before .before .before .before .before .before .before .before .before .before .before .before .before .before .before .before .before .transactions-begun .ensures) (c .before .before .before .before .before .before .before .before .before .before .before .before .before .before .before .before .before .before .places-of .ensures) zeros (c .before .before .before .before .before .before .before .before .before .before .before .before .before .before .before .before .before .table .ensures) (c .before .before .before .before .before .before .before .before .before .before .before .before .before .before .rule-a .ensures)
+    ∙ verdict-reads (c .before .before .before .before .before .before .before .before .before .before .before .before .before .before .before .before .before .before .before .before .before .before .before .before .pre) (c .before .before .before .before .before .before .before .before .before .before .before .before .before .before .before .before .before .before .before .transactions-begun .ensures) (c .before .before .before .before .before .before .before .before .before .before .before .before .before .before .before .before .before .before .places-of .ensures) (startOf (c .before .before .before .before .before .before .before .before .before .before .before .before .before .before .before .before .before .before .before .before .before .before .before .before .args .starts .now)) (c .before .before .before .before .before .before .before .before .before .before .before .before .before .before .before .before .before .table .ensures) (c .before .before .before .before .before .before .before .before .before .before .before .before .before .before .rule-a .ensures)
     (omega (arith, c .before .before .before .before .before .before .before .before .before .before .before .before .before .if1 .left)) (c .before .before .before .before .before .before .before .before .before .before .before .before .table3 .ensures) (c .before .before .before .before .before .before .before .before .before .before .before .table4 .ensures) (c .before .before .before .before .before .before .before .rule-b .ensures)
     (omega (arith, c .before .before .before .before .before .before .if2 .left)) (c .before .before .before .before .before .table6 .ensures) (c .before .before .before .writers-of .ensures)
 

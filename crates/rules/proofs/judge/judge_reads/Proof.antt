@@ -7,18 +7,18 @@ use native.Mathlib.Numerals.{add-one}
 use lib.ListN.{drop}
 use borrow.Author.Needs.{needs}
 use Rattle.events.specs.Columns.{columns}
-use Rattle.opacity.specs.Justification.{zeros}
+use Rattle.events.specs.Starts.{startOf}
 use Rattle.rules.specs.Judge.{readRuleBy, readRules, firstOf, readsVerdict}
 use Rattle.rules.proofs.JudgeLaws.{broken-here, broken-later, rules-done}
 use Rattle.rules.proofs.judge.judge_reads.Statement.{statement}
 use Rattle.rules.proofs.judge.judge_reads.Tie as tie
 
 abbrev Inv-loop : tie.InvT-loop
-Inv-loop kinds transactions registers values count link writers place reads gaps k₀ k =
-    (k ≤ 3) × (firstOf (readRuleBy zeros (columns kinds transactions registers values) link writers place reads gaps) transactions count (drop k readRules) ≡ readsVerdict zeros (columns kinds transactions registers values) count link writers place reads gaps)
+Inv-loop starts kinds transactions registers values count link writers place reads gaps k₀ k =
+    (k ≤ 3) × (firstOf (readRuleBy (startOf starts) (columns kinds transactions registers values) link writers place reads gaps) transactions count (drop k readRules) ≡ readsVerdict (startOf starts) (columns kinds transactions registers values) count link writers place reads gaps)
 
 abbrev μ-loop : tie.MeasureT-loop
-μ-loop kinds transactions registers values count link writers place reads gaps k₀ k = 3 - k
+μ-loop starts kinds transactions registers values count link writers place reads gaps k₀ k = 3 - k
 
 loop-holds : tie.Need-loop-holds Inv-loop μ-loop
 unfolding readsVerdict
@@ -39,7 +39,7 @@ returns c =
     let cs = columns (start .args .kinds .now) (start .args .transactions .now) (start .args .registers .now) (start .args .values .now) in
     let at = c .before .before .before .before .before .loop in
     c .broken .ensures
-    ∙ (sym (broken-here (readRuleBy zeros cs (start .args .link .now) (start .args .writers .now) (start .args .place .now) (start .args .reads .now) (start .args .gaps .now)) (start .args .transactions .now) (start .args .count) (at .k) (omega arith) (c .before .before .before .read-rule .ensures) (c .before .before .first-broken .ensures) (omega arith))
+    ∙ (sym (broken-here (readRuleBy (startOf (start .args .starts .now)) cs (start .args .link .now) (start .args .writers .now) (start .args .place .now) (start .args .reads .now) (start .args .gaps .now)) (start .args .transactions .now) (start .args .count) (at .k) (omega arith) (c .before .before .before .read-rule .ensures) (c .before .before .first-broken .ensures) (omega arith))
     ∙ at .inv .1)
 
 add-k : tie.Need-add-k Inv-loop μ-loop
@@ -53,7 +53,7 @@ loop-again c =
     let start = c .before .before .before .before .before .before .before .before .before in
     let cs = columns (start .args .kinds .now) (start .args .transactions .now) (start .args .registers .now) (start .args .values .now) in
     let at = c .before .before .before .before .loop in
-    let later = broken-later (readRuleBy zeros cs (start .args .link .now) (start .args .writers .now) (start .args .place .now) (start .args .reads .now) (start .args .gaps .now)) (start .args .transactions .now) (start .args .count) (at .k) (omega arith) (c .before .before .read-rule .ensures) (c .before .first-broken .ensures) (omega (arith, c .if1 .left)) in
+    let later = broken-later (readRuleBy (startOf (start .args .starts .now)) cs (start .args .link .now) (start .args .writers .now) (start .args .place .now) (start .args .reads .now) (start .args .gaps .now)) (start .args .transactions .now) (start .args .count) (at .k) (omega arith) (c .before .before .read-rule .ensures) (c .before .first-broken .ensures) (omega (arith, c .if1 .left)) in
     (omega arith, rw add-one (sym later ∙ at .inv .1))
 
 returns-2 : tie.Need-returns-2 Inv-loop μ-loop
@@ -61,7 +61,7 @@ returns-2 c =
     let start = c .before .before .before .before .before .before in
     let cs = columns (start .args .kinds .now) (start .args .transactions .now) (start .args .registers .now) (start .args .values .now) in
     let e : c .before .loop .k ≡ 3 = omega (arith, c .before .loop .inv .0) in
-    sym (rules-done (readRuleBy zeros cs (start .args .link .now) (start .args .writers .now) (start .args .place .now) (start .args .reads .now) (start .args .gaps .now)) (start .args .transactions .now) (start .args .count) e) ∙ c .before .loop .inv .1
+    sym (rules-done (readRuleBy (startOf (start .args .starts .now)) cs (start .args .link .now) (start .args .writers .now) (start .args .place .now) (start .args .reads .now) (start .args .gaps .now)) (start .args .transactions .now) (start .args .count) e) ∙ c .before .loop .inv .1
 
 pub judge-reads-spec : {M : Type 1} → statement M
 judge-reads-spec =

@@ -4,7 +4,7 @@ use mathlib.Core.Path.{sym, ap, _∙_}
 use borrow.Author.Needs.{needs}
 use Rattle.events.specs.Columns.{columns}
 use Rattle.opacity.specs.declared.verdict.Rule.{Rule}
-use Rattle.opacity.specs.Justification.{zeros}
+use Rattle.events.specs.Starts.{startOf}
 use Rattle.rules.specs.Judge.{readRuleBy}
 use Rattle.rules.proofs.reads.holds_at.Statement.{statement}
 use Rattle.rules.proofs.reads.holds_at.Tie as tie
@@ -38,35 +38,35 @@ unfolding readRuleBy
 returns c =
     let start = c .before .before .before .before .before .before .before in
     let cs = columns (start .args .kinds .now) (start .args .transactions .now) (start .args .registers .now) (start .args .values .now) in
-    c .own-right .ensures ∙ sym (ap (λ (r : Rule). readRuleBy zeros cs (start .args .link .now) (start .args .writers .now) (start .args .place .now) (start .args .reads .now) (start .args .gaps .now) r (start .args .i)) (c .before .enum-told .given .1))
+    c .own-right .ensures ∙ sym (ap (λ (r : Rule). readRuleBy (startOf (start .args .starts .now)) cs (start .args .link .now) (start .args .writers .now) (start .args .place .now) (start .args .reads .now) (start .args .gaps .now) r (start .args .i)) (c .before .enum-told .given .1))
 
 returns-2 : tie.Need-returns-2
 unfolding readRuleBy
 returns-2 c =
     let start = c .before .before .before .before .before .before .before in
     let cs = columns (start .args .kinds .now) (start .args .transactions .now) (start .args .registers .now) (start .args .values .now) in
-    c .no-writer-between .ensures ∙ sym (ap (λ (r : Rule). readRuleBy zeros cs (start .args .link .now) (start .args .writers .now) (start .args .place .now) (start .args .reads .now) (start .args .gaps .now) r (start .args .i)) (c .before .enum-told2 .given .1))
+    c .no-writer-between .ensures ∙ sym (ap (λ (r : Rule). readRuleBy (startOf (start .args .starts .now)) cs (start .args .link .now) (start .args .writers .now) (start .args .place .now) (start .args .reads .now) (start .args .gaps .now) r (start .args .i)) (c .before .enum-told2 .given .1))
 
 returns-3 : tie.Need-returns-3
 unfolding readRuleBy
 returns-3 c =
     let start = c .before .before .before .before .before .before .before in
     let cs = columns (start .args .kinds .now) (start .args .transactions .now) (start .args .registers .now) (start .args .values .now) in
-    c .value-at-gap .ensures ∙ sym (ap (λ (r : Rule). readRuleBy zeros cs (start .args .link .now) (start .args .writers .now) (start .args .place .now) (start .args .reads .now) (start .args .gaps .now) r (start .args .i)) (c .before .enum-told3 .given .1))
+    c .value-at-gap .ensures ∙ sym (ap (λ (r : Rule). readRuleBy (startOf (start .args .starts .now)) cs (start .args .link .now) (start .args .writers .now) (start .args .place .now) (start .args .reads .now) (start .args .gaps .now) r (start .args .i)) (c .before .enum-told3 .given .1))
 
 returns-4 : tie.Need-returns-4
 unfolding readRuleBy
 returns-4 c =
     let start = c .before .before .before .before .before .before in
     let cs = columns (start .args .kinds .now) (start .args .transactions .now) (start .args .registers .now) (start .args .values .now) in
-    sym (ap (λ (r : Rule). readRuleBy zeros cs (start .args .link .now) (start .args .writers .now) (start .args .place .now) (start .args .reads .now) (start .args .gaps .now) r (start .args .i)) (c .enum-told4 .given .1))
+    sym (ap (λ (r : Rule). readRuleBy (startOf (start .args .starts .now)) cs (start .args .link .now) (start .args .writers .now) (start .args .place .now) (start .args .reads .now) (start .args .gaps .now) r (start .args .i)) (c .enum-told4 .given .1))
 
 returns-5 : tie.Need-returns-5
 unfolding readRuleBy
 returns-5 c =
     let start = c .before .before .before .before .before .before in
     let cs = columns (start .args .kinds .now) (start .args .transactions .now) (start .args .registers .now) (start .args .values .now) in
-    sym (ap (λ (r : Rule). readRuleBy zeros cs (start .args .link .now) (start .args .writers .now) (start .args .place .now) (start .args .reads .now) (start .args .gaps .now) r (start .args .i)) (c .enum-told5 .given .1))
+    sym (ap (λ (r : Rule). readRuleBy (startOf (start .args .starts .now)) cs (start .args .link .now) (start .args .writers .now) (start .args .place .now) (start .args .reads .now) (start .args .gaps .now) r (start .args .i)) (c .enum-told5 .given .1))
 
 pub holds-at-spec : {M : Type 1} → statement M
 holds-at-spec =

@@ -2,12 +2,14 @@
 -- Assumes nothing.
 use mathlib.Core.Option.{Option·getD}
 use Prim.Native.Nat.{_<_}
-use mathlib.Core.Path.{_≡_, sym, _∙_}
+use mathlib.Core.Path.{_≡_, sym, ap, _∙_}
 use mathlib.Core.Bool.{true, false}
 use native.Mathlib.Omega.{arith}
 use borrow.Author.Tests.{not-true, not-false}
+use lib.Dec.{eqb}
 use lib.ListN.{getD}
 use Rattle.events.specs.Lists.{_implies_}
+use Rattle.events.specs.Starts.{startOf}
 use Rattle.links.specs.Writes.{plusOne}
 use Rattle.rules.specs.Walks.{lastIn, valueBy}
 use Rattle.links.proofs.WriteLaws.{value-none, value-some}
@@ -55,27 +57,51 @@ last-writer-requires c κs =
     let f = c .before .wide .ensures in
     (start .pre .0 .linked, (start .pre .0 .writers-low, (omega arith, omega arith)))
 
-mul-result : tie.Need-mul-result
-mul-result c =
+mul-wide-2 : tie.Need-mul-wide-2
+mul-wide-2 c =
     let start = c .before .before .before .before .before .before .before .before .before .before .before in
     let l : start .args .i < 2048 = omega (arith, start .pre .0 .linked .few, start .pre .1) in search needs
 
+shared-slice-read-wide : tie.Need-shared-slice-read-wide
+shared-slice-read-wide c = let start = c .before .before .before .before .before .before .before .before .before .before .before .before in omega (arith, start .pre .0 .linked .registers-long, start .pre .1)
+
+wide-requires-2 : tie.Need-wide-requires-2
+wide-requires-2 c κs = search needs
+
+mul-start : tie.Need-mul-start
+mul-start c =
+    let start = c .before .before .before .before .before .before .before .before .before .before .before .before .before in
+    let e = c .wide2 .ensures in
+    let l : c .wide2 .result < 32 = omega (arith, start .pre .0 .registers-low (start .args .i) (start .pre .1)) in search needs
+
+element-copy-out-start : tie.Need-element-copy-out-start
+element-copy-out-start c =
+    let start = c .before .before .before .before .before .before .before .before .before .before .before .before .before in
+    let e = c .wide2 .ensures in omega (arith, start .pre .0 .registers-low (start .args .i) (start .pre .1))
+
+mul-result : tie.Need-mul-result
+mul-result c =
+    let start = c .before .before .before .before .before .before .before .before .before .before .before .before .before .before in
+    let l : start .args .i < 2048 = omega (arith, start .pre .0 .linked .few, start .pre .1) in search needs
+
 shared-slice-read-result : tie.Need-shared-slice-read-result
-shared-slice-read-result c = omega (arith, c .before .before .before .before .before .before .before .before .before .before .before .before .pre .0 .linked .values-long, c .before .before .before .before .before .before .before .before .before .before .before .before .pre .1)
+shared-slice-read-result c = let start = c .before .before .before .before .before .before .before .before .before .before .before .before .before .before .before in omega (arith, start .pre .0 .linked .values-long, start .pre .1)
 
 returns-2 : tie.Need-returns-2
-unfolding valueBy _implies_
+unfolding valueBy _implies_ startOf
 returns-2 c =
-    let start = c .before .before .before .before .before .before .before .before .before .before .before .before in
+    let start = c .before .before .before .before .before .before .before .before .before .before .before .before .before .before .before in
     let own = getD (start .args .place .now) (getD (start .args .transactions .now) (start .args .i) 0) 0 in
     let gap = getD (start .args .gaps .now) (start .args .i) 0 in
-    let ep = c .before .before .before .before .before .before .place-at .ensures in
-    let eg = c .before .before .before .before .wide .ensures in
-    let o = lastIn (start .args .registers .now) (start .args .values .now) (start .args .link .now) (start .args .writers .now) own (getD (start .args .registers .now) (start .args .i) 0) 0 gap in
-    let w : c .before .before .last-writer .result ≡ plusOne o = c .before .before .last-writer .ensures ∙ rw (ep, eg) in
-    let q : getD (start .args .reads .now) (start .args .i) false ≡ true = not-false _ (c .before .before .before .before .before .before .before .if1 .left) in
-    let z : Option·getD o 0 ≡ 0 = value-none o 0 (sym (c .before .if2 .taken) ∙ w) in
-    rw (q, z)
+    let r = getD (start .args .registers .now) (start .args .i) 0 in
+    let ep = c .before .before .before .before .before .before .before .before .before .place-at .ensures in
+    let eg = c .before .before .before .before .before .before .before .wide .ensures in
+    let o = lastIn (start .args .registers .now) (start .args .values .now) (start .args .link .now) (start .args .writers .now) own r 0 gap in
+    let w : c .before .before .before .before .before .last-writer .result ≡ plusOne o = c .before .before .before .before .before .last-writer .ensures ∙ rw (ep, eg) in
+    let q : getD (start .args .reads .now) (start .args .i) false ≡ true = not-false _ (c .before .before .before .before .before .before .before .before .before .before .if1 .left) in
+    let z : Option·getD o (startOf (start .args .starts .now) r) ≡ startOf (start .args .starts .now) r = value-none o (startOf (start .args .starts .now) r) (sym (c .before .before .before .before .if2 .taken) ∙ w) in
+    let es : getD (start .args .starts .now) (c .before .before .wide2 .result) 0 ≡ startOf (start .args .starts .now) r = ap (startOf (start .args .starts .now)) (c .before .before .wide2 .ensures) in
+    rw (q, z) (ap (eqb (getD (start .args .values .now) (start .args .i) 0)) es)
 
 mul-stored : tie.Need-mul-stored
 mul-stored c =
@@ -99,7 +125,7 @@ returns-3 c =
     let o = lastIn (start .args .registers .now) (start .args .values .now) (start .args .link .now) (start .args .writers .now) own (getD (start .args .registers .now) (start .args .i) 0) 0 gap in
     let w : c .before .before .before .last-writer .result ≡ plusOne o = c .before .before .before .last-writer .ensures ∙ rw (ep, eg) in
     let q : getD (start .args .reads .now) (start .args .i) false ≡ true = not-false _ (c .before .before .before .before .before .before .before .before .if1 .left) in
-    rw q (sym (value-some o (c .before .before .before .last-writer .result) (c .stored .result) (getD (start .args .values .now) (start .args .i) 0) 0 w (c .before .before .if2 .left) (c .stored .ensures)))
+    rw q (sym (value-some o (c .before .before .before .last-writer .result) (c .stored .result) (getD (start .args .values .now) (start .args .i) 0) (startOf (start .args .starts .now) (getD (start .args .registers .now) (start .args .i) 0)) w (c .before .before .if2 .left) (c .stored .ensures)))
 
 pub value-at-gap-spec : {M : Type 1} → statement M
 value-at-gap-spec =
@@ -114,6 +140,11 @@ value-at-gap-spec =
     mul-last-writer
     shared-slice-read-last-writer
     last-writer-requires
+    mul-wide-2
+    shared-slice-read-wide
+    wide-requires-2
+    mul-start
+    element-copy-out-start
     mul-result
     shared-slice-read-result
     returns-2

@@ -6,7 +6,7 @@ use mathlib.Core.Bool.{false}
 use native.Mathlib.Omega.{arith}
 use denote.Ref.{now}
 use Rattle.events.specs.Columns.{columns}
-use Rattle.opacity.specs.Justification.{zeros}
+use Rattle.events.specs.Starts.{startOf}
 use Rattle.rules.specs.Judge.{readRuleBy}
 use Rattle.straighten.specs.Tables.{breaksBy}
 use Rattle.links.specs.Tables.{Filled}
@@ -16,10 +16,10 @@ use Rattle.straighten.proofs.moves.moves_of.Statement.{statement}
 use Rattle.straighten.proofs.moves.moves_of.Tie as tie
 
 abbrev Inv-loop : tie.InvT-loop
-Inv-loop kinds transactions registers values count link writers place reads gaps moves₀ i₀ moves i = (i ≤ count) × Filled 2048 false (breaksBy (readRuleBy zeros (columns kinds transactions registers values) link writers place reads gaps)) i moves
+Inv-loop starts kinds transactions registers values count link writers place reads gaps moves₀ i₀ moves i = (i ≤ count) × Filled 2048 false (breaksBy (readRuleBy (startOf starts) (columns kinds transactions registers values) link writers place reads gaps)) i moves
 
 abbrev μ-loop : tie.MeasureT-loop
-μ-loop kinds transactions registers values count link writers place reads gaps moves₀ i₀ moves i = count - i
+μ-loop starts kinds transactions registers values count link writers place reads gaps moves₀ i₀ moves i = count - i
 
 loop-holds : tie.Need-loop-holds Inv-loop μ-loop
 loop-holds c = (omega arith, filled-none _ _ _)
@@ -43,7 +43,7 @@ returns : tie.Need-returns Inv-loop μ-loop
 returns c =
     let start = c .before .before .before .before .before .before in
     let e : c .before .loop .i ≡ start .args .count = omega arith in
-    subst (λ (k : ℕ). Filled 2048 false (breaksBy (readRuleBy zeros (columns (start .args .kinds .now) (start .args .transactions .now) (start .args .registers .now) (start .args .values .now)) (start .args .link .now) (start .args .writers .now) (start .args .place .now) (start .args .reads .now) (start .args .gaps .now))) k (c .before .loop .moves)) e (c .before .loop .inv .1)
+    subst (λ (k : ℕ). Filled 2048 false (breaksBy (readRuleBy (startOf (start .args .starts .now)) (columns (start .args .kinds .now) (start .args .transactions .now) (start .args .registers .now) (start .args .values .now)) (start .args .link .now) (start .args .writers .now) (start .args .place .now) (start .args .reads .now) (start .args .gaps .now))) k (c .before .loop .moves)) e (c .before .loop .inv .1)
 
 pub moves-of-spec : {M : Type 1} → statement M
 moves-of-spec =

@@ -1,7 +1,7 @@
 -- `straighten::moves::straight_of` meets its contract.
 -- Assumes nothing.
 use native.Mathlib.Omega.{arith}
-use Rattle.opacity.specs.Justification.{zeros}
+use Rattle.events.specs.Starts.{startOf}
 use Rattle.rules.proofs.JudgeLaws.{ground-tabled, all-apart, all-walkable}
 use Rattle.straighten.proofs.MoveLaws.{content-same, listed-same, given-straight}
 use Rattle.straighten.proofs.moves.straight_of.Statement.{statement}
@@ -28,8 +28,8 @@ gaps-of-requires c κs =
 
 returns : tie.Need-returns
 returns c = (
-  content-same (c .before .before .before .before .before .before .before .before .before .before .before .before .before .before .pre .0) (c .before .before .before .before .before .before .before .before .before .before .before .before .before .before .pre .1) (c .before .before .before .before .before .before .before .before .before .places-of .ensures) (c .before .before .before .before .before .before .before .before .table .ensures) (c .before .before .before .before .before .before .writers-of .ensures) zeros (c .before .before .before .moves-of .ensures) (c .gaps-of .ensures),
-  (listed-same (c .before .before .before .before .before .before .before .before .before .before .before .before .before .before .pre .0) (c .before .before .before .before .before .before .before .before .before .before .before .before .before .before .pre .1) (c .before .before .before .before .before .before .before .before .before .places-of .ensures) (c .before .before .before .before .before .before .before .before .table .ensures) (c .before .before .before .before .before .before .writers-of .ensures) zeros (c .before .before .before .moves-of .ensures) (c .gaps-of .ensures), given-straight (c .before .before .before .before .before .before .before .before .before .before .before .before .before .before .pre .0) (c .before .before .before .before .before .before .before .before .before .before .before .before .before .before .pre .1) (c .before .before .before .before .before .before .before .before .before .places-of .ensures) (c .before .before .before .before .before .before .before .before .table .ensures) (c .before .before .before .before .before .before .writers-of .ensures) zeros (c .before .before .before .moves-of .ensures) (c .gaps-of .ensures)),
+  content-same (c .before .before .before .before .before .before .before .before .before .before .before .before .before .before .pre .0) (c .before .before .before .before .before .before .before .before .before .before .before .before .before .before .pre .1) (c .before .before .before .before .before .before .before .before .before .places-of .ensures) (c .before .before .before .before .before .before .before .before .table .ensures) (c .before .before .before .before .before .before .writers-of .ensures) (startOf (c .before .before .before .before .before .before .before .before .before .before .before .before .before .before .args .starts .now)) (c .before .before .before .moves-of .ensures) (c .gaps-of .ensures),
+  (listed-same (c .before .before .before .before .before .before .before .before .before .before .before .before .before .before .pre .0) (c .before .before .before .before .before .before .before .before .before .before .before .before .before .before .pre .1) (c .before .before .before .before .before .before .before .before .before .places-of .ensures) (c .before .before .before .before .before .before .before .before .table .ensures) (c .before .before .before .before .before .before .writers-of .ensures) (startOf (c .before .before .before .before .before .before .before .before .before .before .before .before .before .before .args .starts .now)) (c .before .before .before .moves-of .ensures) (c .gaps-of .ensures), given-straight (c .before .before .before .before .before .before .before .before .before .before .before .before .before .before .pre .0) (c .before .before .before .before .before .before .before .before .before .before .before .before .before .before .pre .1) (c .before .before .before .before .before .before .before .before .before .places-of .ensures) (c .before .before .before .before .before .before .before .before .table .ensures) (c .before .before .before .before .before .before .writers-of .ensures) (startOf (c .before .before .before .before .before .before .before .before .before .before .before .before .before .before .args .starts .now)) (c .before .before .before .moves-of .ensures) (c .gaps-of .ensures)),
 )
 
 pub straight-of-spec : {M : Type 1} → statement M
