@@ -10,68 +10,72 @@ use Rattle.events.specs.declared.event.Event.{Event}
 use Rattle.events.specs.declared.columns.Checked.{Checked}
 use Rattle.events.specs.Bytes.{Bytes}
 use Rattle.events.specs.Columns.{Columns, history, hold, filledWith}
-use Rattle.events.specs.Questions.{columnsAnswer}
+use Rattle.events.specs.Starts.{startOf}
+use Rattle.events.specs.Questions.{historyAnswer}
 use Rattle.events.proofs.ColumnLaws.{Held, hold-e, hold-i, history-length}
 use Rattle.events.proofs.ReadableLaws.{readable-most}
 use Rattle.opacity.specs.Scan.{scan}
-use Rattle.opacity.specs.Justification.{zeros}
 use Rattle.scan.specs.Answer.{sizeRefusal, decided, scanAnswer}
 use Rattle.scan.proofs.AnswerLaws.{events-decide}
-use Rattle.marking.specs.Answer.{afterColumns, answerFrom, verdictAnswer}
+use Rattle.marking.specs.Answer.{afterColumns, verdictAnswer}
+use Rattle.reader.specs.declared.HistoryRead.{HistoryRead}
 use Rattle.reader.specs.declared.Reading.{Reading}
-use Rattle.reader.specs.Reading.{Outcome, readable, refused, historyOf, ReadAnswer, answered, filled, readAnswer}
-use Rattle.writer.proofs.WriteBack.{write-back}
+use Rattle.reader.specs.Reading.{Log, Outcome, readable, refused, historyOf, told, declined, ReadAnswer, answered, filled, readAnswer}
+use Rattle.writer.proofs.WriteBack.{Back, write-back}
 use Rattle.writer.proofs.RoundTrip.{read-stands}
 use Rattle.capture.specs.declared.Report.{Report}
 use Rattle.capture.specs.Report.{markingOf, opacityOf, judged, saidOf, reportOn, markingBy, opacityBy}
 
 -- ---- the lines, of columns to which no question says no
 
-module _ (c : Columns) (n : ℕ) (fine : columnsAnswer c n ≡ Checked.Readable) where
-  pub marking-line : (file : List ℕ) → markingBy (verdictAnswer c n file) ≡ markingOf (history c n) file
-  unfolding verdictAnswer answerFrom markingOf
-  marking-line file = ap (λ (x : Checked). markingBy (afterColumns zeros (history c n) file x)) fine
+module _ (edition : ℕ) (starts : List ℕ) (c : Columns) (n : ℕ) (fine : historyAnswer edition starts c n ≡ Checked.Readable) where
+  pub marking-line : (file : List ℕ) → markingBy (verdictAnswer edition starts c n file) ≡ markingOf (startOf starts) (history c n) file
+  unfolding verdictAnswer markingOf
+  marking-line file = ap (λ (x : Checked). markingBy (afterColumns (startOf starts) (history c n) file x)) fine
 
-  pub opacity-line : opacityBy (scanAnswer c n) ≡ opacityOf (history c n)
+  pub opacity-line : opacityBy (scanAnswer edition starts c n) ≡ opacityOf (startOf starts) (history c n)
   unfolding opacityOf
   opacity-line =
-      ap opacityBy (sym (events-decide c n fine))
-      ∙ ap (λ (k : ℕ). opacityBy (decided (sizeRefusal (history c n) k) (scan zeros (history c n)))) (sym (history-length c n))
+      ap opacityBy (sym (events-decide edition starts c n fine))
+      ∙ ap (λ (k : ℕ). opacityBy (decided (sizeRefusal (history c n) k) (scan (startOf starts) (history c n)))) (sym (history-length c n))
 
 -- ---- the whole, by what the reader answered: r, and d in the columns that held c
 
-module _ (s : List ℕ) (by : Bytes s) (c d : Columns) (r : Reading) (read : answered r d ≡ readAnswer s c) where
-  result : {x : Reading} → r ≡ x → readAnswer s c .result ≡ x
-  result e = sym (ap (λ (a : ReadAnswer). a .result) read) ∙ e
+module _ (s : List ℕ) (by : Bytes s) (c d : Columns) (r : HistoryRead) (read : answered r d ≡ readAnswer s c) where
+  same : r ≡ readAnswer s c .result
+  same = ap (λ (a : ReadAnswer). a .result) read
+
+  result : {x : Reading} → r .reading ≡ x → readAnswer s c .result .reading ≡ x
+  result e = sym (ap (λ (a : ReadAnswer). a .result .reading) read) ∙ e
 
   left : d ≡ readAnswer s c .columns
   left = ap (λ (a : ReadAnswer). a .columns) read
 
-  pub read-fine : {n : ℕ} → r ≡ Reading.Read n → columnsAnswer d n ≡ Checked.Readable
-  read-fine {n} e = ap (λ (x : Columns). columnsAnswer x n) left ∙ read-stands s c n by (result e) .0
+  pub read-fine : {n : ℕ} → r .reading ≡ Reading.Read n → historyAnswer (r .edition) (r .starts) d n ≡ Checked.Readable
+  read-fine {n} e = (λ i. historyAnswer (same i .edition) (same i .starts) (left i) n) ∙ read-stands s c n by (result e) .0
 
-  pub report-read : (marking : List ℕ) {n : ℕ} → r ≡ Reading.Read n → judged (history d n) marking ≡ reportOn s marking
+  pub report-read : (marking : List ℕ) {n : ℕ} → r .reading ≡ Reading.Read n → judged (startOf (r .starts)) (history d n) marking ≡ reportOn s marking
   unfolding reportOn
   report-read marking {n} e =
-      ap (λ (x : Columns). judged (history x n) marking) left
+      (λ i. judged (startOf (same i .starts)) (history (left i) n) marking)
       ∙ sym (ap (λ (x : Outcome). saidOf x marking) (read-stands s c n by (result e) .1))
 
   -- 14 does not come: the columns hold as many entries as a history may have events
-  pub report-refused : (marking : List ℕ) {q byte : ℕ} → hold c 2048 ≡ true → r ≡ Reading.Refused q byte → Report.Refused q byte ≡ reportOn s marking
+  pub report-refused : (marking : List ℕ) {q byte : ℕ} → hold c 2048 ≡ true → r .reading ≡ Reading.Refused q byte → Report.Refused q byte ≡ reportOn s marking
   unfolding readAnswer reportOn
   report-refused marking {q} {byte} k e = go (historyOf s) refl (result e)
     where
-      room : (h : List Event) → historyOf s ≡ readable h → hold c (length h) ≡ true
-      room h o =
-          let m : length h ≤ 2048 = readable-most h (write-back s h by o .1) in
+      room : (l : Log) → historyOf s ≡ readable l → hold c (length (l .events)) ≡ true
+      room l o =
+          let m : length (l .events) ≤ 2048 = readable-most (l .events) (write-back s l by o .events) in
           let w : Held c 2048 = hold-e c 2048 k in
-          hold-i c (length h) (record { kinds = omega (arith, w .kinds); transactions = omega (arith, w .transactions); registers = omega (arith, w .registers); values = omega (arith, w .values) })
+          hold-i c (length (l .events)) (record { kinds = omega (arith, w .kinds); transactions = omega (arith, w .transactions); registers = omega (arith, w .registers); values = omega (arith, w .values) })
 
-      go : (o : Outcome) → historyOf s ≡ o → filled s c o .result ≡ Reading.Refused q byte → Report.Refused q byte ≡ saidOf o marking
-      go (readable h) o f =
-          let x : cond (hold c (length h)) (answered (Reading.Read (length h)) (filledWith h c)) (answered (Reading.Refused 14 (length s)) c)
-          ≡ answered (Reading.Read (length h)) (filledWith h c) = rw (room h o) in
-          let y : Reading.Read (length h) ≡ Reading.Refused q byte = sym (ap (λ (a : ReadAnswer). a .result) x) ∙ f in
+      go : (o : Outcome) → historyOf s ≡ o → filled s c o .result .reading ≡ Reading.Refused q byte → Report.Refused q byte ≡ saidOf o marking
+      go (readable l) o f =
+          let a : ReadAnswer = answered (told (length (l .events)) (l .edition) (l .starts)) (filledWith (l .events) c) in
+          let x : cond (hold c (length (l .events))) a (answered (declined 14 (length s)) c) ≡ a = rw (room l o) in
+          let y : Reading.Read (length (l .events)) ≡ Reading.Refused q byte = sym (ap (λ (b : ReadAnswer). b .result .reading) x) ∙ f in
           absurd (let z : _≡_ {A = ℕ} 0 1 = cc in omega arith)
       go (refused p at) o f =
           let a : p ≡ q = cc in

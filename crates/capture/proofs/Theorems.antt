@@ -10,13 +10,15 @@ use mathlib.Core.Bool.{true}
 use mathlib.Core.List.{List}
 use lib.ListN.{length}
 use Rattle.events.specs.declared.event.Event.{Event}
-use Rattle.events.specs.Bytes.{Bytes}
+use Rattle.events.specs.Bytes.{Bytes, u16At}
+use Rattle.events.specs.Starts.{startOf}
+use Rattle.events.proofs.StartLaws.{no-starts}
 use Rattle.events.specs.Events.{begins}
 use Rattle.events.specs.Questions.{readable as isReadable}
 use Rattle.opacity.specs.declared.verdict.Scanned.{Scanned}
 use Rattle.opacity.specs.declared.verdict.Verdict.{Verdict}
 use Rattle.opacity.specs.Transactions.{Status, committed, aborted, pending, live, Stands}
-use Rattle.opacity.specs.Justification.{Justified, zeros}
+use Rattle.opacity.specs.Justification.{Justified}
 use Rattle.opacity.specs.Marking.{Marking as Content, verdict, RuleD}
 use Rattle.opacity.specs.Scan.{scan, AllJustified, FaultsAt}
 use Rattle.opacity.specs.Counts.{counts}
@@ -26,15 +28,17 @@ use Rattle.counts.proofs.Theorems.{adds-up, counted-once, counted-iff}
 use Rattle.marking.specs.File.{known, FileRead, content, refused as unread, fileRead}
 use Rattle.marking.specs.Answer.{ruled}
 use Rattle.marking.proofs.ContentLaws.{content-readable}
-use Rattle.reader.specs.Reading.{Outcome, readable, refused, historyOf}
-use Rattle.writer.proofs.WriteBack.{write-back}
+use Rattle.reader.specs.Reading.{Log, Outcome, readable, refused, historyOf}
+use Rattle.reader.specs.FirstEdition.{FirstOutcome, events, refuses, firstHistory}
+use Rattle.reader.proofs.FirstEdition.{either, same-history}
+use Rattle.writer.proofs.WriteBack.{Back, write-back}
 use Rattle.scan.specs.declared.Judgement.{Judgement}
 use Rattle.scan.specs.Answer.{sizeRefusal, decided}
 use Rattle.scan.proofs.AnswerLaws.{decided-refused, decided-scanned, scanned-e, refused-31, passes-31, passes-31-e}
 use Rattle.capture.specs.declared.Marking.{Marking}
 use Rattle.capture.specs.declared.Opacity.{Opacity}
 use Rattle.capture.specs.declared.Report.{Report}
-use Rattle.capture.specs.Report.{countsOf, markingBy, opacityBy, markingOf, opacityOf, judged, saidOf, reportOn}
+use Rattle.capture.specs.Report.{countsOf, markingBy, opacityBy, markingOf, opacityOf, judged, saidOf, reportOn, firstSaid, firstReport}
 
 -- A history is refused exactly where one of its questions says no, with that question's byte,
 pub history-refused : (s marking : List ℕ) (q byte : ℕ) → (reportOn s marking ≡ Report.Refused q byte) ↔ (historyOf s ≡ refused q byte)
@@ -42,12 +46,19 @@ unfolding reportOn judged
 history-refused s marking q byte = (go (historyOf s), λ e. ap (λ (x : Outcome). saidOf x marking) e)
   where
     go : (o : Outcome) → saidOf o marking ≡ Report.Refused q byte → o ≡ refused q byte
-    go (readable h) d = absurd (let z : _≡_ {A = ℕ} 0 1 = cc in omega arith)
+    go (readable l) d = absurd (let z : _≡_ {A = ℕ} 0 1 = cc in omega arith)
     go (refused a b) d = cc
 
--- and otherwise the report has four lines, all of them on the events in the file.
-module _ (s : List ℕ) (by : Bytes s) (h : List Event) (file : historyOf s ≡ readable h) (marking : List ℕ) where
-  pub four-lines : reportOn s marking ≡ Report.Judged (countsOf h) (tally h) (markingOf h marking) (opacityOf h)
+-- and otherwise the report has four lines, all of them on the start values and the events in the file.
+module _ (s : List ℕ) (by : Bytes s) (l : Log) (file : historyOf s ≡ readable l) (marking : List ℕ) where
+  abbrev h : List Event
+  h = l .events
+
+  -- what each register holds before any writer
+  abbrev start : ℕ → ℕ
+  start = startOf (l .starts)
+
+  pub four-lines : reportOn s marking ≡ Report.Judged (countsOf h) (tally h) (markingOf start h marking) (opacityOf start h)
   unfolding reportOn judged
   four-lines = ap (λ (x : Outcome). saidOf x marking) file
 
@@ -57,13 +68,13 @@ module _ (s : List ℕ) (by : Bytes s) (h : List Event) (file : historyOf s ≡ 
   tally-adds-up = adds-up h
 
   is-readable : isReadable h ≡ true
-  is-readable = write-back s h by file .1
+  is-readable = write-back s l by file .events
 
   -- each of them is counted there in exactly one of the four,
   pub tally-counts-once : (t : ℕ) → t < countsOf h .transactions
       → times t (standing committed h) + times t (standing aborted h) + times t (standing pending h) + times t (standing live h) ≡ 1
   unfolding countsOf counts
-  tally-counts-once t l = counted-once h t l
+  tally-counts-once t k = counted-once h t k
 
   -- that which its events say
   pub tally-counts-as : (s : Status) (t : ℕ) → (times t (standing s h) ≡ 1) ↔ ((t < countsOf h .transactions) × Stands s h t)
@@ -71,63 +82,72 @@ module _ (s : List ℕ) (by : Bytes s) (h : List Event) (file : historyOf s ≡ 
   tally-counts-as s t = counted-iff h is-readable s t
 
   -- what the scan says is said of at most 10 transactions, and 31 of more
-  scanned : (x : Scanned) → (opacityOf h ≡ Opacity.Scanned x) ↔ ((begins h ≤ 10) × (scan zeros h ≡ x))
+  scanned : (x : Scanned) → (opacityOf start h ≡ Opacity.Scanned x) ↔ ((begins h ≤ 10) × (scan start h ≡ x))
   unfolding opacityOf
-  scanned x = (go (decided (sizeRefusal h (length h)) (scan zeros h)) refl, λ w. ap opacityBy (sym (decided-scanned (scan zeros h) (passes-31 h (length h) (w .0)))) ∙ ap Opacity.Scanned (w .1))
+  scanned x = (go (decided (sizeRefusal h (length h)) (scan start h)) refl, λ w. ap opacityBy (sym (decided-scanned (scan start h) (passes-31 h (length h) (w .0)))) ∙ ap Opacity.Scanned (w .1))
     where
-      go : (j : Judgement) → decided (sizeRefusal h (length h)) (scan zeros h) ≡ j → opacityBy j ≡ Opacity.Scanned x → (begins h ≤ 10) × (scan zeros h ≡ x)
+      go : (j : Judgement) → decided (sizeRefusal h (length h)) (scan start h) ≡ j → opacityBy j ≡ Opacity.Scanned x → (begins h ≤ 10) × (scan start h ≡ x)
       go (Judgement.Scanned s) e d =
           let r = scanned-e _ _ s e in
           let k : s ≡ x = cc in (passes-31-e h (length h) (r .0), r .1 ∙ k)
       go (Judgement.Refused q i) e d = absurd (let z : _≡_ {A = ℕ} 0 1 = cc in omega arith)
 
-  pub says-31 : (opacityOf h ≡ Opacity.Refused 31) ↔ (10 < begins h)
+  pub says-31 : (opacityOf start h ≡ Opacity.Refused 31) ↔ (10 < begins h)
   unfolding opacityOf
   says-31 = (
     λ e. elim (decLt 10 (begins h)) [ yes l ↦ l | no f ↦ absurd (few e (omega arith)) ],
-    λ l. ap opacityBy (sym (decided-refused (scan zeros h) (refused-31 h (length h) l))),
+    λ l. ap opacityBy (sym (decided-refused (scan start h) (refused-31 h (length h) l))),
   )
     where
-      few : opacityBy (decided (sizeRefusal h (length h)) (scan zeros h)) ≡ Opacity.Refused 31 → begins h ≤ 10 → ⊥
+      few : opacityBy (decided (sizeRefusal h (length h)) (scan start h)) ≡ Opacity.Refused 31 → begins h ≤ 10 → ⊥
       few e l =
-          let x : Opacity.Scanned (scan zeros h) ≡ Opacity.Refused 31 = ap opacityBy (decided-scanned (scan zeros h) (passes-31 h (length h) l)) ∙ e in
+          let x : Opacity.Scanned (scan start h) ≡ Opacity.Refused 31 = ap opacityBy (decided-scanned (scan start h) (passes-31 h (length h) l)) ∙ e in
           let z : _≡_ {A = ℕ} 0 1 = cc in omega arith
 
   -- "opaque yes" exactly where every prefix has a justification,
-  pub says-opaque : (opacityOf h ≡ Opacity.Scanned Scanned.Opaque) ↔ ((begins h ≤ 10) × AllJustified zeros h)
+  pub says-opaque : (opacityOf start h ≡ Opacity.Scanned Scanned.Opaque) ↔ ((begins h ≤ 10) × AllJustified start h)
   says-opaque =
       let w = scanned Scanned.Opaque in
-      let o = opaque-iff zeros h is-readable in
+      let o = opaque-iff start h is-readable in
       (λ e. (w .0 e .0, o .0 (w .0 e .1)), λ p. w .1 (p .0, o .1 (p .1)))
 
   -- "opaque no event e" exactly where the prefix that ends with e is the first without one,
-  pub says-faulted : (e why : ℕ) → (opacityOf h ≡ Opacity.Scanned (Scanned.Faulted e why)) ↔ ((begins h ≤ 10) × FaultsAt zeros h e why)
+  pub says-faulted : (e why : ℕ) → (opacityOf start h ≡ Opacity.Scanned (Scanned.Faulted e why)) ↔ ((begins h ≤ 10) × FaultsAt start h e why)
   says-faulted e why =
       let w = scanned (Scanned.Faulted e why) in
-      let o = faulted-iff zeros h is-readable e why in
+      let o = faulted-iff start h is-readable e why in
       (λ d. (w .0 d .0, o .0 (w .0 d .1)), λ p. w .1 (p .0, o .1 (p .1)))
 
   -- the marking file holds a marking that justifies the history and keeps rule D
   pub record Justifying : Type 0 where
     pub marked : Content
     pub holds : fileRead (known h) marking ≡ content marked
-    pub justified : Justified zeros h (marked .places)
+    pub justified : Justified start h (marked .places)
     pub ruleD : RuleD h marked
 
   -- and "marking accepted" exactly where the marking's outcomes and order are a justification and no other committed writer of the register
   -- stands between a read's point and its reader.
-  pub says-accepted : (markingOf h marking ≡ Marking.Ruled Verdict.Accepted) ↔ Justifying
+  pub says-accepted : (markingOf start h marking ≡ Marking.Ruled Verdict.Accepted) ↔ Justifying
   unfolding markingOf
   says-accepted = (go (fileRead (known h) marking) refl, back)
     where
-      by-rules : (m : Content) → fileRead (known h) marking ≡ content m → (verdict zeros h m ≡ Verdict.Accepted) ↔ (Justified zeros h (m .places) × RuleD h m)
-      by-rules m e = accepted-iff-justified zeros h is-readable m (content-readable h marking m is-readable e)
+      by-rules : (m : Content) → fileRead (known h) marking ≡ content m → (verdict start h m ≡ Verdict.Accepted) ↔ (Justified start h (m .places) × RuleD h m)
+      by-rules m e = accepted-iff-justified start h is-readable m (content-readable h marking m is-readable e)
 
-      go : (x : FileRead) → fileRead (known h) marking ≡ x → markingBy (ruled zeros h x) ≡ Marking.Ruled Verdict.Accepted → Justifying
+      go : (x : FileRead) → fileRead (known h) marking ≡ x → markingBy (ruled start h x) ≡ Marking.Ruled Verdict.Accepted → Justifying
       go (content m) e d =
           let a = by-rules m e .0 cc in
           record { marked = m; holds = e; justified = a .0; ruleD = a .1 }
       go (unread q byte) e d = absurd (let z : _≡_ {A = ℕ} 0 1 = cc in omega arith)
 
-      back : Justifying → markingBy (ruled zeros h (fileRead (known h) marking)) ≡ Marking.Ruled Verdict.Accepted
-      back j = ap (λ (x : FileRead). markingBy (ruled zeros h x)) (j .holds) ∙ ap Marking.Ruled (by-rules (j .marked) (j .holds) .1 (j .justified, j .ruleD))
+      back : Justifying → markingBy (ruled start h (fileRead (known h) marking)) ≡ Marking.Ruled Verdict.Accepted
+      back j = ap (λ (x : FileRead). markingBy (ruled start h x)) (j .holds) ∙ ap Marking.Ruled (by-rules (j .marked) (j .holds) .1 (j .justified, j .ruleD))
+
+-- The report on a history file of edition 1, or on any other that is not of edition 2, is the one that it was before there were start values.
+pub first-edition : (s marking : List ℕ) → (u16At s 4 ≡ 2 → ⊥) → reportOn s marking ≡ firstReport s marking
+unfolding reportOn firstReport
+first-edition s marking n = ap (λ (x : Outcome). saidOf x marking) (same-history s n) ∙ go (firstHistory s)
+  where
+    go : (o : FirstOutcome) → saidOf (either o) marking ≡ firstSaid o marking
+    go (events h) = ap (λ (f : ℕ → ℕ). judged f h marking) no-starts
+    go (refuses q byte) = refl

@@ -4,11 +4,13 @@ use Prim.Native.Nat.{ℕ}
 use mathlib.Core.List.{List}
 use lib.ListN.{length}
 use Rattle.events.specs.declared.event.Event.{Event}
+use Rattle.events.specs.Starts.{startOf}
 use Rattle.opacity.specs.Justification.{zeros}
 use Rattle.opacity.specs.Counts.{counts}
 use Rattle.opacity.specs.Scan.{scan}
 use Rattle.counts.specs.Tally.{tally}
 use Rattle.reader.specs.Reading.{Outcome, readable, refused, historyOf}
+use Rattle.reader.specs.FirstEdition.{FirstOutcome, events, refuses, firstHistory}
 use Rattle.scan.specs.declared.Judgement.{Judgement}
 use Rattle.scan.specs.Answer.{sizeRefusal, decided}
 use Rattle.marking.specs.declared.check.Judged.{Judged}
@@ -34,20 +36,28 @@ opacityBy (Judgement.Scanned s) = Opacity.Scanned s
 opacityBy (Judgement.Refused q e) = Opacity.Refused q
 
 -- the marking's questions, and then the rules
-unfoldable pub markingOf : List Event → List ℕ → Marking
-markingOf h file = markingBy (ruled zeros h (fileRead (known h) file))
+unfoldable pub markingOf : (ℕ → ℕ) → List Event → List ℕ → Marking
+markingOf start h file = markingBy (ruled start h (fileRead (known h) file))
 
 -- 31, and then the prefixes
-unfoldable pub opacityOf : List Event → Opacity
-opacityOf h = opacityBy (decided (sizeRefusal h (length h)) (scan zeros h))
+unfoldable pub opacityOf : (ℕ → ℕ) → List Event → Opacity
+opacityOf start h = opacityBy (decided (sizeRefusal h (length h)) (scan start h))
 
-unfoldable pub judged : List Event → List ℕ → Report
-judged h file = Report.Judged (countsOf h) (tally h) (markingOf h file) (opacityOf h)
+unfoldable pub judged : (ℕ → ℕ) → List Event → List ℕ → Report
+judged start h file = Report.Judged (countsOf h) (tally h) (markingOf start h file) (opacityOf start h)
 
 -- what is said of a history file's content
 abbrev pub saidOf : Outcome → List ℕ → Report
-saidOf (readable h) marking = judged h marking
+saidOf (readable l) marking = judged (startOf (l .starts)) (l .events) marking
 saidOf (refused q byte) marking = Report.Refused q byte
 
 unfoldable pub reportOn : List ℕ → List ℕ → Report
 reportOn history marking = saidOf (historyOf history) marking
+
+-- the report as it was before there were start values, on a history of edition 1: every register starts at 0
+abbrev pub firstSaid : FirstOutcome → List ℕ → Report
+firstSaid (events h) marking = judged zeros h marking
+firstSaid (refuses q byte) marking = Report.Refused q byte
+
+unfoldable pub firstReport : List ℕ → List ℕ → Report
+firstReport history marking = firstSaid (firstHistory history) marking

@@ -2,12 +2,13 @@
 // function of the bytes of the two files.
 //
 // The columns stand in here and are as long as a history may be, so that no buffer is lent and none
-// can be too short. The report is proved to be that of the events in the history file: what the
-// columns are asked again, between the reader and the other functions, always says yes.
+// can be too short. The report is proved to be that of the start values and the events in the history
+// file: what the columns are asked again, between the reader and the other functions, always says yes.
 ghost use mathlib.Core.Path.{_≡_};
 ghost use mathlib.Core.Bool.{true};
 ghost use Rattle.events.specs.Columns.{columns, history, hold};
-ghost use Rattle.events.specs.Questions.{columnsAnswer};
+ghost use Rattle.events.specs.Questions.{columnsAnswer, historyAnswer};
+ghost use Rattle.events.specs.Starts.{startOf};
 ghost use Rattle.events.specs.declared.columns.Checked.{Checked};
 ghost use Rattle.capture.specs.Report.{countsOf, markingOf, opacityOf, judged, reportOn};
 use counts::tally::Tally;
@@ -77,6 +78,8 @@ fn counts_of(
 // The line on the marking. The checker's own questions to the columns say yes: the last case, which
 // would be said of them, does not come.
 fn marking_of(
+    edition: u16,
+    starts: &[u32; 32],
     kinds: &[u16],
     transactions: &[u16],
     registers: &[u16],
@@ -84,10 +87,19 @@ fn marking_of(
     count: usize,
     file: &[u8],
 ) -> Marking
-    requires { ⌜ columnsAnswer (columns (now kinds) (now transactions) (now registers) (now values)) count ≡ Checked.Readable ⌝ }
-    ensures { λ r. ⌜ r ≡ markingOf (history (columns (now (kinds .entry)) (now (transactions .entry)) (now (registers .entry)) (now (values .entry))) count) (now (file .entry)) ⌝ }
+    requires { ⌜ historyAnswer edition (now starts) (columns (now kinds) (now transactions) (now registers) (now values)) count ≡ Checked.Readable ⌝ }
+    ensures { λ r. ⌜ r ≡ markingOf (startOf (now (starts .entry))) (history (columns (now (kinds .entry)) (now (transactions .entry)) (now (registers .entry)) (now (values .entry))) count) (now (file .entry)) ⌝ }
 {
-    let answer = check_marking(kinds, transactions, registers, values, count, file);
+    let answer = check_marking(
+        edition,
+        starts,
+        kinds,
+        transactions,
+        registers,
+        values,
+        count,
+        file,
+    );
     match answer {
         Judged::Ruled(verdict) => Marking::Ruled(verdict),
         Judged::MarkingRefused { question, byte } => Marking::Refused { question, byte },
@@ -100,16 +112,26 @@ fn marking_of(
 
 // The line on opacity.
 fn opacity_of(
+    edition: u16,
+    starts: &[u32; 32],
     kinds: &[u16],
     transactions: &[u16],
     registers: &[u16],
     values: &[u32],
     count: usize,
 ) -> Opacity
-    requires { ⌜ columnsAnswer (columns (now kinds) (now transactions) (now registers) (now values)) count ≡ Checked.Readable ⌝ }
-    ensures { λ r. ⌜ r ≡ opacityOf (history (columns (now (kinds .entry)) (now (transactions .entry)) (now (registers .entry)) (now (values .entry))) count) ⌝ }
+    requires { ⌜ historyAnswer edition (now starts) (columns (now kinds) (now transactions) (now registers) (now values)) count ≡ Checked.Readable ⌝ }
+    ensures { λ r. ⌜ r ≡ opacityOf (startOf (now (starts .entry))) (history (columns (now (kinds .entry)) (now (transactions .entry)) (now (registers .entry)) (now (values .entry))) count) ⌝ }
 {
-    let answer = scan_history(kinds, transactions, registers, values, count);
+    let answer = scan_history(
+        edition,
+        starts,
+        kinds,
+        transactions,
+        registers,
+        values,
+        count,
+    );
     match answer {
         Judgement::Scanned(scanned) => Opacity::Scanned(scanned),
         Judgement::Refused { question, event: _ } => Opacity::Refused(question),
@@ -118,6 +140,8 @@ fn opacity_of(
 
 // The four lines, of columns to which no question says no.
 fn judge_columns(
+    edition: u16,
+    starts: &[u32; 32],
     kinds: &[u16],
     transactions: &[u16],
     registers: &[u16],
@@ -125,13 +149,30 @@ fn judge_columns(
     count: usize,
     file: &[u8],
 ) -> Report
-    requires { ⌜ columnsAnswer (columns (now kinds) (now transactions) (now registers) (now values)) count ≡ Checked.Readable ⌝ }
-    ensures { λ r. ⌜ r ≡ judged (history (columns (now (kinds .entry)) (now (transactions .entry)) (now (registers .entry)) (now (values .entry))) count) (now (file .entry)) ⌝ }
+    requires { ⌜ historyAnswer edition (now starts) (columns (now kinds) (now transactions) (now registers) (now values)) count ≡ Checked.Readable ⌝ }
+    ensures { λ r. ⌜ r ≡ judged (startOf (now (starts .entry))) (history (columns (now (kinds .entry)) (now (transactions .entry)) (now (registers .entry)) (now (values .entry))) count) (now (file .entry)) ⌝ }
 {
     let counts = counts_of(kinds, transactions, registers, values, count);
     let tally = tally_of(kinds, transactions, registers, values, count);
-    let marking = marking_of(kinds, transactions, registers, values, count, file);
-    let opacity = opacity_of(kinds, transactions, registers, values, count);
+    let marking = marking_of(
+        edition,
+        starts,
+        kinds,
+        transactions,
+        registers,
+        values,
+        count,
+        file,
+    );
+    let opacity = opacity_of(
+        edition,
+        starts,
+        kinds,
+        transactions,
+        registers,
+        values,
+        count,
+    );
     Report::Judged {
         counts,
         tally,
@@ -152,11 +193,21 @@ fn report_in(
     requires { ⌜ hold (columns (now kinds) (now transactions) (now registers) (now values)) 2048 ≡ true ⌝ }
     ensures { λ r. ⌜ r ≡ reportOn (now (history .entry)) (now (marking .entry)) ⌝ }
 {
-    let reading = read_history(history, kinds, transactions, registers, values);
+    let read = read_history(history, kinds, transactions, registers, values);
+    let edition = read.edition;
+    let starts = read.starts;
+    let reading = read.reading;
     match reading {
-        Reading::Read(count) => {
-            judge_columns(kinds, transactions, registers, values, count, marking)
-        }
+        Reading::Read(count) => judge_columns(
+            edition,
+            &starts,
+            kinds,
+            transactions,
+            registers,
+            values,
+            count,
+            marking,
+        ),
         Reading::Refused { question, byte } => Report::Refused { question, byte },
     }
 }

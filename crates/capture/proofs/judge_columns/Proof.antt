@@ -2,21 +2,33 @@
 -- Assumes nothing.
 use denote.Ref.{now}
 use borrow.Author.Needs.{needs}
-use Rattle.events.specs.Columns.{columns}
+use mathlib.Core.Path.{_≡_}
+use Rattle.events.specs.declared.columns.Checked.the-variants.{Readable}
+use Rattle.events.specs.Columns.{Columns, columns}
+use Rattle.events.specs.Questions.{columnsAnswer}
+use Rattle.events.proofs.StartLaws.{fine}
 use Rattle.opacity.proofs.CountLaws.{checked-readable}
 use Rattle.capture.specs.declared.Report.{Report}
 use Rattle.capture.specs.Report.{judged}
 use Rattle.capture.proofs.judge_columns.Statement.{statement}
 use Rattle.capture.proofs.judge_columns.Tie as tie
 
+abbrev given : tie.Start → Columns
+given start = columns (now (start .args .kinds)) (now (start .args .transactions)) (now (start .args .registers)) (now (start .args .values))
+
+-- no question says no to the columns alone
+fine-columns : (start : tie.Start) → columnsAnswer (given start) (start .args .count) ≡ Readable
+fine-columns start = fine (start .args .edition) (now (start .args .starts)) (given start) (start .args .count) (start .pre) .columns
+
 counts-of-requires : tie.Need-counts-of-requires
-counts-of-requires c κs = search needs
+counts-of-requires c κs =
+    let start = c .before .before .before .before .before in
+    fine-columns start
 
 tally-of-requires : tie.Need-tally-of-requires
 tally-of-requires c κs =
     let start = c .before .before .before .before .before .before in
-    let cs = columns (now (start .args .kinds)) (now (start .args .transactions)) (now (start .args .registers)) (now (start .args .values)) in
-    checked-readable cs (start .args .count) (start .pre)
+    checked-readable (given start) (start .args .count) (fine-columns start)
 
 marking-of-requires : tie.Need-marking-of-requires
 marking-of-requires c κs = search needs

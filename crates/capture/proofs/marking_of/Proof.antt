@@ -25,19 +25,19 @@ returns : tie.Need-returns
 returns c =
     let start = c .before .before .before .before .before .before .before .before .before in
     let cs = columns (now (start .args .kinds)) (now (start .args .transactions)) (now (start .args .registers)) (now (start .args .values)) in
-    sym (ap markingBy (c .before .answer .given .1)) ∙ (ap markingBy (c .before .before .before .check-marking .ensures) ∙ marking-line cs (start .args .count) (start .pre) (now (start .args .file)))
+    sym (ap markingBy (c .before .answer .given .1)) ∙ (ap markingBy (c .before .before .before .check-marking .ensures) ∙ marking-line (start .args .edition) (now (start .args .starts)) cs (start .args .count) (start .pre) (now (start .args .file)))
 
 returns-2 : tie.Need-returns-2
 returns-2 c =
     let start = c .before .before .before .before .before .before .before .before .before in
     let cs = columns (now (start .args .kinds)) (now (start .args .transactions)) (now (start .args .registers)) (now (start .args .values)) in
-    sym (ap markingBy (c .before .answer2 .given .1)) ∙ (ap markingBy (c .before .before .before .check-marking .ensures) ∙ marking-line cs (start .args .count) (start .pre) (now (start .args .file)))
+    sym (ap markingBy (c .before .answer2 .given .1)) ∙ (ap markingBy (c .before .before .before .check-marking .ensures) ∙ marking-line (start .args .edition) (now (start .args .starts)) cs (start .args .count) (start .pre) (now (start .args .file)))
 
 returns-3 : tie.Need-returns-3
 returns-3 c =
     let start = c .before .before .before .before .before .before .before .before .before in
     let cs = columns (now (start .args .kinds)) (now (start .args .transactions)) (now (start .args .registers)) (now (start .args .values)) in
-    sym (ap markingBy (c .before .answer3 .given .1)) ∙ (ap markingBy (c .before .before .before .check-marking .ensures) ∙ marking-line cs (start .args .count) (start .pre) (now (start .args .file)))
+    sym (ap markingBy (c .before .answer3 .given .1)) ∙ (ap markingBy (c .before .before .before .check-marking .ensures) ∙ marking-line (start .args .edition) (now (start .args .starts)) cs (start .args .count) (start .pre) (now (start .args .file)))
 
 pub marking-of-spec : {M : Type 1} → statement M
 marking-of-spec =

@@ -22,13 +22,13 @@ returns : tie.Need-returns
 returns c =
     let start = c .before .before .before .before .before .before .before .before in
     let cs = columns (now (start .args .kinds)) (now (start .args .transactions)) (now (start .args .registers)) (now (start .args .values)) in
-    sym (ap opacityBy (c .before .answer .given .1)) ∙ (ap opacityBy (c .before .before .before .scan-history .ensures) ∙ opacity-line cs (start .args .count) (start .pre))
+    sym (ap opacityBy (c .before .answer .given .1)) ∙ (ap opacityBy (c .before .before .before .scan-history .ensures) ∙ opacity-line (start .args .edition) (now (start .args .starts)) cs (start .args .count) (start .pre))
 
 returns-2 : tie.Need-returns-2
 returns-2 c =
     let start = c .before .before .before .before .before .before .before .before in
     let cs = columns (now (start .args .kinds)) (now (start .args .transactions)) (now (start .args .registers)) (now (start .args .values)) in
-    sym (ap opacityBy (c .before .answer2 .given .1)) ∙ (ap opacityBy (c .before .before .before .scan-history .ensures) ∙ opacity-line cs (start .args .count) (start .pre))
+    sym (ap opacityBy (c .before .answer2 .given .1)) ∙ (ap opacityBy (c .before .before .before .scan-history .ensures) ∙ opacity-line (start .args .edition) (now (start .args .starts)) cs (start .args .count) (start .pre))
 
 pub opacity-of-spec : {M : Type 1} → statement M
 opacity-of-spec =

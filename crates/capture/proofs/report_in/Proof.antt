@@ -14,7 +14,7 @@ enum-known-reading c = search needs
 
 judge-columns-requires : tie.Need-judge-columns-requires
 judge-columns-requires c κs =
-    read-fine _ (λ i. c .before .before .before .before .before .before .before .before .before .before .before .before .before .before .before .before .before .before .before .before .before .before .before .before .before .shared-slice-known .given i .fits) _ _ _ (c .before .before .before .before .before .before .before .before .before .before .before .before .before .before .before .read-history .ensures) (c .before .before .before .before .before .reading .given .1)
+    read-fine _ (λ i. c .before .before .before .before .before .before .before .before .before .before .before .before .before .before .before .before .before .before .before .before .before .before .before .before .before .before .before .shared-slice-known .given i .fits) _ _ _ (c .before .before .before .before .before .before .before .before .before .before .before .before .before .before .before .before .before .read-history .ensures) (c .before .before .before .before .before .before .reading .given .1)
 
 enum-known-reading-2 : tie.Need-enum-known-reading-2
 enum-known-reading-2 c = search needs
@@ -34,7 +34,7 @@ same-length-4 c = search needs
 returns : tie.Need-returns
 returns c =
     c .judge-columns .ensures
-    ∙ report-read _ (λ i. c .before .before .before .before .before .before .before .before .before .before .before .before .before .before .before .before .before .before .before .before .before .before .before .before .before .before .shared-slice-known .given i .fits) _ _ _ (c .before .before .before .before .before .before .before .before .before .before .before .before .before .before .before .before .read-history .ensures) _ (c .before .before .before .before .before .before .reading .given .1)
+    ∙ report-read _ (λ i. c .before .before .before .before .before .before .before .before .before .before .before .before .before .before .before .before .before .before .before .before .before .before .before .before .before .before .before .before .shared-slice-known .given i .fits) _ _ _ (c .before .before .before .before .before .before .before .before .before .before .before .before .before .before .before .before .before .before .read-history .ensures) _ (c .before .before .before .before .before .before .before .reading .given .1)
 
 same-length-5 : tie.Need-same-length-5
 same-length-5 c = search needs
@@ -50,7 +50,7 @@ same-length-8 c = search needs
 
 returns-2 : tie.Need-returns-2
 returns-2 c =
-    report-refused _ (λ i. c .before .before .before .before .before .before .before .before .before .before .before .before .before .before .before .before .before .before .before .before .before .shared-slice-known .given i .fits) _ _ _ (c .before .before .before .before .before .before .before .before .before .before .before .read-history .ensures) _ (c .before .before .before .before .before .before .before .before .before .before .before .before .before .before .before .before .before .before .before .before .before .before .pre) (c .before .reading2 .given .1)
+    report-refused _ (λ i. c .before .before .before .before .before .before .before .before .before .before .before .before .before .before .before .before .before .before .before .before .before .before .shared-slice-known .given i .fits) _ _ _ (c .before .before .before .before .before .before .before .before .before .before .before .before .read-history .ensures) _ (c .before .before .before .before .before .before .before .before .before .before .before .before .before .before .before .before .before .before .before .before .before .before .before .pre) (c .before .reading2 .given .1)
 
 pub report-in-spec : {M : Type 1} → statement M
 report-in-spec =
