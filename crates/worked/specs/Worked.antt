@@ -1,23 +1,28 @@
--- The worked histories: the starred ones of the paper ("Histories to try"), some that catch what those do not, markings with their points
--- straightened, tallies, and seven of the source document 001, as one list with what the definitions must say of each.
+-- The worked histories: the starred ones of the paper ("Histories to try") and of the request for start values, some that catch what those do
+-- not, markings with their points straightened, tallies, and seven of the source document 001, as one list with what the definitions must say
+-- of each.
 -- Assumes nothing.
 use Prim.Native.Nat.{ℕ}
 use mathlib.Core.Bool.{Bool, true, false}
 use mathlib.Core.List.{List, [], _∷_, _++_, map}
 use mathlib.Core.Option.{Option, none, some}
 use lib.Dec.{eqb, leb}
-use lib.ListN.{length}
-use Rattle.events.specs.Lists.{_and_, all}
+use lib.ListN.{length, replicate}
+use Rattle.events.specs.Lists.{_and_, _or_, all}
 use Rattle.events.specs.declared.event.Event.{Event}
 use Rattle.events.specs.Events.{begins}
-use Rattle.events.specs.Questions.{readable}
+use Rattle.events.specs.declared.columns.Checked.{Checked}
+use Rattle.events.specs.declared.columns.Checked.the-variants.{Readable, Refused}
+use Rattle.events.specs.Starts.{startOf, noStarts}
+use Rattle.events.specs.Columns.{columns, filledWith}
+use Rattle.events.specs.Questions.{readable, historyAnswer}
 use Rattle.opacity.specs.declared.verdict.Rule.the-variants.{A, B, C, D, E}
 use Rattle.opacity.specs.declared.verdict.Verdict.{Verdict}
 use Rattle.opacity.specs.declared.verdict.Verdict.the-variants.{Accepted, Broken}
 use Rattle.opacity.specs.declared.verdict.Scanned.{Scanned}
 use Rattle.opacity.specs.declared.verdict.Scanned.the-variants.{Opaque, Faulted}
 use Rattle.opacity.specs.Transactions.{storeReads}
-use Rattle.opacity.specs.Justification.{Place, isOrder, zeros}
+use Rattle.opacity.specs.Justification.{Place, isOrder}
 use Rattle.opacity.specs.Lowest.{place, lowestOf}
 use Rattle.opacity.specs.Marking.{Point, Marking, marked, markingBytes, verdict, verdictNumbers, outcomeNumber}
 use Rattle.opacity.specs.Scan.{scan, scannedNumbers}
@@ -112,7 +117,7 @@ two J a b = marking J (point 5 a ∷ point 9 b ∷ [])
 
 -- ---- what is said of a history: the scan's answer; its lowest marking, and that marking's file; the verdict on a marking; a marking with its
 -- points straightened, the events moved, and the verdict then; whether an order run one at a time gives every read its value; the counts of
--- the report; its tally
+-- the report; its tally; the question, with its event, that refuses a call with this edition and these start values
 
 pub data Claim : Type 0 where
   scanned : Scanned → Claim
@@ -123,6 +128,7 @@ pub data Claim : Type 0 where
   runs : List Place → Bool → Claim
   counted : ℕ → ℕ → ℕ → Claim
   tallied : ℕ → ℕ → ℕ → ℕ → Claim
+  refusedBy : ℕ → ℕ → Claim
 
 -- answers as lists of numbers, to compare them
 placeNumbers : List Place → List ℕ
@@ -156,32 +162,64 @@ readableFor h m =
     and equal (map (λ p. p .event) (m .points)) (storeReads h)
     and all (λ p. leb (p .gap) (begins h)) (m .points)
 
-holds : List Event → Claim → Bool
-unfolding equal markingNumbers found readableFor
-holds h (scanned a) = equal (scannedNumbers (scan zeros h)) (scannedNumbers a)
-holds h (lowestIs m) = found h (λ n. equal (markingNumbers n) (markingNumbers m)) (lowestOf zeros h)
-holds h (fileIs s) = found h (λ n. equal (markingBytes n) s) (lowestOf zeros h)
-holds h (checked m v) = readableFor h m and equal (verdictNumbers (verdict zeros h m)) (verdictNumbers v)
-holds h (straight m n moved v) =
-    readableFor h m
-    and equal (markingNumbers (straightened zeros h m)) (markingNumbers n)
-    and equal (movedEvents zeros h m) moved
-    and equal (verdictNumbers (verdict zeros h (straightened zeros h m))) (verdictNumbers v)
-holds h (runs J b) = eqb (outcomeNumber (runsRight zeros h J)) (outcomeNumber b)
-holds h (counted e t r) = equal (counts h .events ∷ counts h .transactions ∷ counts h .reads ∷ []) (e ∷ t ∷ r ∷ [])
-holds h (tallied c a p l) = equal (tally h .committed ∷ tally h .aborted ∷ tally h .pending ∷ tally h .live ∷ []) (c ∷ a ∷ p ∷ l ∷ [])
+-- a call's question and event, 0 where none says no
+checkedNumbers : Checked → List ℕ
+checkedNumbers Readable = 0 ∷ 0 ∷ []
+checkedNumbers (Refused q i) = q ∷ i ∷ []
 
 pub record Case : Type 0 where
+  pub edition : ℕ
+  pub starts : List ℕ
   pub history : List Event
   pub claim : Claim
 
-says : List Event → Claim → Case
-says h c = record { history = h; claim = c }
+-- what the questions of a call say: 17, 3, and each event's own
+asked : Case → List ℕ
+unfolding checkedNumbers
+asked c = checkedNumbers (historyAnswer (c .edition) (c .starts) (filledWith (c .history) (columns [] [] [] [])) (length (c .history)))
 
--- the history is readable, and what is said of it holds
+holds : Case → (ℕ → ℕ) → List Event → Claim → Bool
+unfolding equal markingNumbers found readableFor asked
+holds c start h (scanned a) = equal (scannedNumbers (scan start h)) (scannedNumbers a)
+holds c start h (lowestIs m) = found h (λ n. equal (markingNumbers n) (markingNumbers m)) (lowestOf start h)
+holds c start h (fileIs s) = found h (λ n. equal (markingBytes n) s) (lowestOf start h)
+holds c start h (checked m v) = readableFor h m and equal (verdictNumbers (verdict start h m)) (verdictNumbers v)
+holds c start h (straight m n moved v) =
+    readableFor h m
+    and equal (markingNumbers (straightened start h m)) (markingNumbers n)
+    and equal (movedEvents start h m) moved
+    and equal (verdictNumbers (verdict start h (straightened start h m))) (verdictNumbers v)
+holds c start h (runs J b) = eqb (outcomeNumber (runsRight start h J)) (outcomeNumber b)
+holds c start h (counted e t r) = equal (counts h .events ∷ counts h .transactions ∷ counts h .reads ∷ []) (e ∷ t ∷ r ∷ [])
+holds c start h (tallied n a p l) = equal (tally h .committed ∷ tally h .aborted ∷ tally h .pending ∷ tally h .live ∷ []) (n ∷ a ∷ p ∷ l ∷ [])
+holds c start h (refusedBy q i) = equal (asked c) (q ∷ i ∷ [])
+
+-- of a history of edition 1, and of one of edition 2 whose registers 0 and 1 start with these values
+says : List Event → Claim → Case
+says h c = record { edition = 1; starts = noStarts; history = h; claim = c }
+
+startsWith : ℕ → ℕ → List ℕ
+startsWith a b = a ∷ b ∷ replicate 30 0
+
+saysFrom : ℕ → ℕ → List Event → Claim → Case
+unfolding startsWith
+saysFrom a b h c = record { edition = 2; starts = startsWith a b; history = h; claim = c }
+
+-- a refusal is that of a call; of any other case no question says no to a call, and what is said of it holds
 unfoldable pub right : Case → Bool
-unfolding holds
-right c = readable (c .history) and holds (c .history) (c .claim)
+unfolding holds asked equal
+right c = readable (c .history) and (isRefusal (c .claim) or equal (asked c) (0 ∷ 0 ∷ [])) and holds c (startOf (c .starts)) (c .history) (c .claim)
+  where
+    isRefusal : Claim → Bool
+    isRefusal (refusedBy q i) = true
+    isRefusal (scanned a) = false
+    isRefusal (lowestIs m) = false
+    isRefusal (fileIs s) = false
+    isRefusal (checked m v) = false
+    isRefusal (straight m n moved v) = false
+    isRefusal (runs J b) = false
+    isRefusal (counted e t r) = false
+    isRefusal (tallied n a p l) = false
 
 -- ---- the list
 
@@ -220,6 +258,47 @@ starred =
     ∷ says (then (begin 0 ∷ write 0 0 1 ∷ commit 0 ∷ begin 1 ∷ read 1 0 0 ∷ [])) (checked (marking late (point 7 0 ∷ [])) (Broken B 5 1))
     -- an own read that is wrong
     ∷ says (then (begin 0 ∷ write 0 0 5 ∷ read 0 0 0 ∷ [])) (checked (marking (place 0 false ∷ []) []) (Broken C 4 0))
+    ∷ []
+
+-- T0 begins and reads register 0 as v
+reads : ℕ → List Event
+unfolding begin read then
+reads v = then (begin 0 ∷ read 0 0 v ∷ [])
+
+-- T0 commits r0 := 7, and T1 begins and reads register 0 as v
+hides : ℕ → List Event
+unfolding begin read write commit then
+hides v = then (begin 0 ∷ write 0 0 7 ∷ commit 0 ∷ begin 1 ∷ read 1 0 v ∷ [])
+
+-- the starred histories with start values
+fromStarts : List Case
+unfolding says saysFrom startsWith reads hides point marking early late begin beginOn read write commit then
+fromStarts =
+    -- a start value read before any writer; the same read of 0
+    saysFrom 5 0 (reads 5) (scanned Opaque)
+    ∷ saysFrom 5 0 (reads 5) (lowestIs (marking (place 0 false ∷ []) (point 2 0 ∷ [])))
+    ∷ saysFrom 5 0 (reads 5) (checked (marking (place 0 false ∷ []) (point 2 0 ∷ [])) Accepted)
+    ∷ saysFrom 5 0 (reads 5) (runs (place 0 false ∷ []) true)
+    ∷ saysFrom 5 0 (reads 0) (scanned (Faulted 2 1))
+    ∷ saysFrom 5 0 (reads 0) (checked (marking (place 0 false ∷ []) (point 2 0 ∷ [])) (Broken E 2 0))
+    ∷ saysFrom 5 0 (reads 0) (runs (place 0 false ∷ []) false)
+    -- a start value hidden by a committed write
+    ∷ saysFrom 5 0 (hides 7) (scanned Opaque)
+    ∷ saysFrom 5 0 (hides 5) (scanned (Faulted 7 1))
+    ∷ saysFrom 5 0 (hides 5) (checked (marking early (point 7 1 ∷ [])) (Broken E 7 1))
+    ∷ saysFrom 5 0 (hides 5) (checked (marking early (point 7 0 ∷ [])) (Broken D 7 1))
+    -- edition 1 with a start that is not 0, and an edition that there is not; edition 2 with none
+    ∷ record { edition = 1; starts = startsWith 5 0; history = reads 5; claim = refusedBy 3 3 }
+    ∷ record { edition = 1; starts = startsWith 0 5; history = []; claim = refusedBy 3 0 }
+    ∷ record { edition = 3; starts = startsWith 0 0; history = reads 0; claim = refusedBy 3 3 }
+    ∷ saysFrom 0 0 (reads 0) (scanned Opaque)
+    -- a register has its own start value
+    ∷ saysFrom 0 5 (reads 5) (scanned (Faulted 2 1))
+    ∷ saysFrom 0 5 (reads 0) (scanned Opaque)
+    -- a reader that begins before the writer commits reads the start value; its point behind the writer is moved
+    ∷ saysFrom 5 0 (then (begin 0 ∷ begin 1 ∷ write 0 0 7 ∷ commit 0 ∷ read 1 0 5 ∷ [])) (lowestIs (marking late (point 7 0 ∷ [])))
+    ∷ saysFrom 5 0 (then (begin 0 ∷ begin 1 ∷ write 0 0 7 ∷ commit 0 ∷ read 1 0 5 ∷ []))
+    (straight (marking late (point 7 2 ∷ [])) (marking late (point 7 0 ∷ [])) (7 ∷ []) Accepted)
     ∷ []
 
 -- what the starred histories do not catch
@@ -326,5 +405,5 @@ printed =
     ∷ []
 
 unfoldable pub worked : List Case
-unfolding starred further straightenings tallies printed
-worked = starred ++ (further ++ (straightenings ++ (tallies ++ printed)))
+unfolding starred fromStarts further straightenings tallies printed
+worked = starred ++ (fromStarts ++ (further ++ (straightenings ++ (tallies ++ printed))))
