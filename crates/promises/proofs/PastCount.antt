@@ -12,13 +12,13 @@ use Rattle.events.specs.declared.columns.Checked.{Checked}
 use Rattle.events.specs.declared.columns.Checked.the-variants.{Readable, Refused as Refuses}
 use Rattle.events.specs.Bytes.{over}
 use Rattle.events.specs.Columns.{Columns, history, hold, filledWith}
-use Rattle.events.specs.Questions.{columnsAnswer}
-use Rattle.reader.specs.declared.Reading.the-variants.{Read, Refused as Unread}
-use Rattle.reader.specs.Reading.{Outcome, readable, refused, historyOf, answered as filledIn, filled, readAnswer}
+use Rattle.events.specs.Questions.{columnsAnswer, historyAnswer}
+use Rattle.reader.specs.declared.HistoryRead.{HistoryRead}
+use Rattle.reader.specs.Reading.{Log, Outcome, readable, refused, historyOf, told, declined, answered as filledIn, filled, readAnswer}
 use Rattle.writer.specs.declared.Writing.{Writing}
 use Rattle.writer.specs.declared.Writing.the-variants.{Written, Refused as Unwritten}
 use Rattle.writer.specs.Writing.{fileOf, answered, written, writtenAnswer}
-use Rattle.marking.specs.Answer.{answerFrom, verdictAnswer}
+use Rattle.marking.specs.Answer.{verdictAnswer}
 use Rattle.counts.specs.Answer.{transactionsAnswer, storeReadsAnswer, tallyAnswer}
 
 -- two columns that hold the same events below the count
@@ -27,9 +27,13 @@ module _ (c d : Columns) (count : ℕ) (same-room : hold c count ≡ hold d coun
   unfolding columnsAnswer
   columns-past = rw (same-room, same-events)
 
-  pub checker-past : (file : List ℕ) → verdictAnswer c count file ≡ verdictAnswer d count file
-  unfolding verdictAnswer answerFrom
-  checker-past file = rw (columns-past, same-events)
+  pub history-past : (edition : ℕ) (starts : List ℕ) → historyAnswer edition starts c count ≡ historyAnswer edition starts d count
+  unfolding historyAnswer
+  history-past edition starts = rw (same-room, same-events)
+
+  pub checker-past : (edition : ℕ) (starts file : List ℕ) → verdictAnswer edition starts c count file ≡ verdictAnswer edition starts d count file
+  unfolding verdictAnswer
+  checker-past edition starts file = rw (history-past edition starts, same-events)
 
   pub transactions-past : transactionsAnswer c count ≡ transactionsAnswer d count
   unfolding transactionsAnswer
@@ -44,38 +48,45 @@ module _ (c d : Columns) (count : ℕ) (same-room : hold c count ≡ hold d coun
   tally-past = rw (columns-past, same-events)
 
   -- and two outputs of one length
-  pub writer-past : (out before : List ℕ) → length out ≡ length before → writtenAnswer c count out .result ≡ writtenAnswer d count before .result
+  pub writer-past : (edition : ℕ) (starts out before : List ℕ) → length out ≡ length before → writtenAnswer edition starts c count out .result ≡ writtenAnswer edition starts d count before .result
   unfolding writtenAnswer
-  writer-past out before e = told c out (columnsAnswer c count) ∙ ((λ i. roomFor (e i) (same-events i) (columns-past i)) ∙ sym (told d before (columnsAnswer d count)))
+  writer-past edition starts out before e =
+      said (file c) out (historyAnswer edition starts c count)
+      ∙ ((λ i. roomFor (e i) (fileOf edition starts (same-events i)) (history-past edition starts i)) ∙ sym (said (file d) before (historyAnswer edition starts d count)))
     where
+      file : Columns → List ℕ
+      file x = fileOf edition starts (history x count)
+
       fits : Bool → ℕ → Writing
       fits true n = Written n
       fits false n = Unwritten 15 count
 
-      roomFor : ℕ → List Event → Checked → Writing
-      roomFor room h Readable = fits (leb (length (fileOf h)) room) (length (fileOf h))
-      roomFor room h (Refuses q i) = Unwritten q i
+      roomFor : ℕ → List ℕ → Checked → Writing
+      roomFor room f Readable = fits (leb (length f) room) (length f)
+      roomFor room f (Refuses q i) = Unwritten q i
 
-      by-room : (x : Columns) (o : List ℕ) (b : Bool)
-          → cond b (answered (Written (length (fileOf (history x count)))) (over (fileOf (history x count)) o)) (answered (Unwritten 15 count) o) .result
-          ≡ fits b (length (fileOf (history x count)))
-      by-room x o true = refl
-      by-room x o false = refl
+      by-room : (f o : List ℕ) (b : Bool) → cond b (answered (Written (length f)) (over f o)) (answered (Unwritten 15 count) o) .result ≡ fits b (length f)
+      by-room f o true = refl
+      by-room f o false = refl
 
-      told : (x : Columns) (o : List ℕ) (v : Checked) → written x count o v .result ≡ roomFor (length o) (history x count) v
-      told x o Readable = by-room x o (leb (length (fileOf (history x count))) (length o))
-      told x o (Refuses q i) = refl
+      said : (f o : List ℕ) (v : Checked) → written f count o v .result ≡ roomFor (length o) f v
+      said f o Readable = by-room f o (leb (length f) (length o))
+      said f o (Refuses q i) = refl
 
 -- The reader's result asks of the columns only how long they are.
 pub reader-held : (file : List ℕ) (c d : Columns) → ((n : ℕ) → hold c n ≡ hold d n) → readAnswer file c .result ≡ readAnswer file d .result
 unfolding readAnswer
 reader-held file c d e = go (historyOf file)
   where
-    by-room : (h : List Event) (x : Columns) (b : Bool)
-        → cond b (filledIn (Read (length h)) (filledWith h x)) (filledIn (Unread 14 (length file)) x) .result ≡ cond b (Read (length h)) (Unread 14 (length file))
-    by-room h x true = refl
-    by-room h x false = refl
+    tells : Bool → Log → HistoryRead
+    tells b l = cond b (told (length (l .events)) (l .edition) (l .starts)) (declined 14 (length file))
+
+    by-room : (l : Log) (x : Columns) (b : Bool)
+        → cond b (filledIn (told (length (l .events)) (l .edition) (l .starts)) (filledWith (l .events) x)) (filledIn (declined 14 (length file)) x) .result ≡ tells b l
+    by-room l x true = refl
+    by-room l x false = refl
 
     go : (o : Outcome) → filled file c o .result ≡ filled file d o .result
-    go (readable h) = by-room h c (hold c (length h)) ∙ (ap (λ (b : Bool). cond b (Read (length h)) (Unread 14 (length file))) (e (length h)) ∙ sym (by-room h d (hold d (length h))))
+    go (readable l) =
+        by-room l c (hold c (length (l .events))) ∙ (ap (λ (b : Bool). tells b l) (e (length (l .events))) ∙ sym (by-room l d (hold d (length (l .events)))))
     go (refused q at) = refl
