@@ -28,6 +28,12 @@ compare "$room/long" "$room/report"
 echo 'history refused 2 byte 88' >"$room/report"
 compare "$room/long" "$room/report"
 
+# A head of edition 3, which is none.
+mkdir "$room/other"
+printf '\004\000\001\000\003\000' >"$room/other/capture.hst"
+echo 'history refused 3 byte 0' >"$room/report"
+compare "$room/other" "$room/report"
+
 # A folder in a file's place cannot be read: nothing is printed, and the status says so.
 mkdir -p "$room/unread/capture.hst"
 if "$here/../report" "$room/unread" >"$room/printed" 2>/dev/null || [ -s "$room/printed" ]; then

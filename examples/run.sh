@@ -1,6 +1,6 @@
 #!/bin/sh
 # Compiles the header as C99 and as C++, builds verdict.c against the static library, compares what it prints for each folder of
-# captures/ with the report.txt there, and has it straighten three markings. The library is looked for in SENDOSHI_LIB_DIR, or else
+# captures/ with the report.txt there, and has it straighten some markings. The library is looked for in SENDOSHI_LIB_DIR, or else
 # in target/staticlib.
 set -eu
 here=$(cd "$(dirname "$0")" && pwd)
@@ -40,8 +40,14 @@ compare "$room/long" "$room/report"
 echo 'history refused 2 byte 88' >"$room/report"
 compare "$room/long" "$room/report"
 
+# A head of edition 3, which is none.
+mkdir "$room/other"
+printf '\004\000\001\000\003\000' >"$room/other/capture.hst"
+echo 'history refused 3 byte 0' >"$room/report"
+compare "$room/other" "$room/report"
+
 # The point at gap 2 is moved to its reader, which gives the marking of h0. That one is straight. The order of h7 justifies nothing: no
-# file is written.
+# file is written. The same with start values that are read, and with 0 read in the place of one.
 straighten() { # FOLDER LINE
     rm -f "$room/straight"
     "$room/verdict" "$here/captures/$1" "$room/straight" >"$room/printed"
@@ -54,4 +60,8 @@ straighten h0 'straightened moved 0'
 cmp "$room/straight" "$here/captures/h0/capture.mrk"
 straighten h7 'straightened no'
 [ ! -e "$room/straight" ] || { echo 'h7: a marking was written' && exit 1; }
-echo "verdict.c: $ran captures, each with the report expected, and 3 markings straightened as expected"
+straighten starts 'straightened moved 0'
+cmp "$room/straight" "$here/captures/starts/capture.mrk"
+straighten starts-torn 'straightened no'
+[ ! -e "$room/straight" ] || { echo 'starts-torn: a marking was written' && exit 1; }
+echo "verdict.c: $ran captures, each with the report expected, and 5 markings straightened as expected"

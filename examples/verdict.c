@@ -17,6 +17,10 @@
 
 #include "sendoshi.h"
 
+#if SENDOSHI_VERSION != 2
+#error "written for version 2 of the interface"
+#endif
+
 /* One byte more than is ever read: a longer file is then refused for its length, however long it is. */
 enum { ROOM = SENDOSHI_MAX_FILE + 1 };
 
@@ -24,6 +28,7 @@ static uint8_t history[ROOM];
 static uint8_t marking[ROOM];
 static uint8_t straight[ROOM];
 static uint32_t moved[SENDOSHI_MAX_EVENTS];
+static uint32_t starts[SENDOSHI_REGISTERS];
 static uint16_t kinds[SENDOSHI_MAX_EVENTS];
 static uint16_t transactions[SENDOSHI_MAX_EVENTS];
 static uint16_t registers[SENDOSHI_MAX_EVENTS];
@@ -113,19 +118,21 @@ int main(int argc, char **argv)
     }
     size_t history_length = load(argv[1], "capture.hst", history);
     size_t marking_length = load(argv[1], "capture.mrk", marking);
-    uint64_t read = sendoshi_read(history, history_length, COLUMNS);
+    uint64_t read = sendoshi_read(history, history_length, starts, COLUMNS);
     if (sendoshi_code(read) != SENDOSHI_DONE) {
         printf("history refused %" PRIu32 " byte %" PRIu32 "\n", sendoshi_code(read), sendoshi_place(read));
         return 0;
     }
-    size_t count = sendoshi_place(read);
+    uint16_t edition = (uint16_t)sendoshi_read_edition(read);
+    size_t count = sendoshi_read_count(read);
     printf("events %zu transactions %" PRIu32 " reads %" PRIu32 "\n", count, sendoshi_place(sendoshi_transactions(COLUMNS, count)),
            sendoshi_place(sendoshi_store_reads(COLUMNS, count)));
     print_tally(sendoshi_tally(COLUMNS, count));
-    print_marking(sendoshi_check(COLUMNS, count, marking, marking_length));
-    print_opaque(sendoshi_scan(COLUMNS, count));
+    print_marking(sendoshi_check(edition, starts, COLUMNS, count, marking, marking_length));
+    print_opaque(sendoshi_scan(edition, starts, COLUMNS, count));
     if (argc == 3) {
-        print_straightened(sendoshi_straighten(COLUMNS, count, marking, marking_length, straight, ROOM, moved, SENDOSHI_MAX_EVENTS),
+        print_straightened(sendoshi_straighten(edition, starts, COLUMNS, count, marking, marking_length, straight, ROOM, moved,
+                                               SENDOSHI_MAX_EVENTS),
                            argv[2]);
     }
     return 0;

@@ -15,21 +15,37 @@
  *   22    committed        yes           0                     0
  *   23    aborted          yes           0                     0
  *
+ * Beside them stand the edition of the history and 32 start values: what each register holds before any writer. In edition 1 all are
+ * 0. A file of edition 2 has those that are not 0 between its head and its events.
+ *
  * Buffers are lent as a pointer and a length: the number of entries of a column or a list, the number of bytes of a file or an output.
+ * Start values are lent as a pointer alone: they are always 32.
  *
  * What a caller must see to, since no function can test it: each pointer is not NULL, is aligned for its type and is good for its
- * length (with length 0 nothing behind it is touched); a buffer that is written overlaps no other buffer of the same call. There
- * is no other condition. Any numbers and any contents may be passed; what does not fit is refused. Every call returns, none
- * allocates memory, and none keeps a pointer or has a state: calls on different buffers may run at the same time.
+ * length (with length 0 nothing behind it is touched), that of start values for 32 of them; a buffer that is written overlaps no other
+ * buffer of the same call. There is no other condition. Any numbers and any contents may be passed; what does not fit is refused. Every
+ * call returns, none allocates memory, and none keeps a pointer or has a state: calls on different buffers may run at the same time.
  *
  * What a caller can rely on, for every call:
  *   - a buffer passed as a pointer to const keeps its contents;
  *   - a call that refuses, finds nothing, or answers with a broken rule, leaves every buffer as it was;
  *   - a call that is done changes a written buffer only up to what it returns, the event count, the length or the number moved;
- *   - neither what stands in columns past the count, nor what an output or a list held before, makes a difference to an answer.
+ *     of start values it sets all 32;
+ *   - neither what stands in columns past the count, nor what a written buffer held before, makes a difference to an answer.
+ *
+ * Versions of this interface. A program written for one must be changed for the next:
+ *
+ *   1   the first, in which every register started at 0; its header named no version.
+ *   2   start values. sendoshi_read has a new third parameter, the start values that it fills, and its place is no longer the event
+ *       count alone: take it apart by sendoshi_read_edition and sendoshi_read_count. sendoshi_write, sendoshi_find, sendoshi_scan,
+ *       sendoshi_check and sendoshi_straighten have two new first parameters, the edition and the start values, and refuse by 3 what
+ *       is neither edition 1 with zeros nor edition 2. Files of edition 2 are read; 41, 42 and 43 are new, and 3 may come with an event.
+ *       SENDOSHI_FILE_SIZE is larger. To go on as before: pass edition 1 and 32 zeros, and refuse files whose edition is 2.
  */
 #ifndef SENDOSHI_H
 #define SENDOSHI_H
+
+#define SENDOSHI_VERSION 2
 
 #include <stddef.h>
 #include <stdint.h>
@@ -43,6 +59,7 @@ enum {
     SENDOSHI_MAX_FILE = 32768,      /* bytes of a history file or a marking file */
     SENDOSHI_MAX_EVENTS = 2048,     /* events of a history */
     SENDOSHI_MAX_TRANSACTIONS = 64, /* transactions of a history */
+    SENDOSHI_REGISTERS = 32,        /* registers of a history, each with a start value */
     SENDOSHI_MAX_JUDGED = 10        /* transactions of what sendoshi_find and sendoshi_scan judge */
 };
 
@@ -50,7 +67,7 @@ enum {
  * Sizes of outputs that are never too short: for sendoshi_write of `count` events, and for sendoshi_find on a prefix of `prefix`
  * events. (sendoshi_find needs exactly 6 + 8 * transactions + 10 * store reads bytes, both counted in the prefix.)
  */
-#define SENDOSHI_FILE_SIZE(count) (6 + 12 * (size_t)(count))
+#define SENDOSHI_FILE_SIZE(count) (6 + 10 * (size_t)SENDOSHI_REGISTERS + 12 * (size_t)(count))
 #define SENDOSHI_MARKING_SIZE(prefix) (6 + 8 * (size_t)SENDOSHI_MAX_JUDGED + 10 * (size_t)(prefix))
 
 /*
@@ -58,10 +75,10 @@ enum {
  * (proved: crates/exports/proofs/Theorems).
  *
  *   code        meaning                         place
- *   0           done                            the event count (read), the length (write, find), the number counted
- *                                               (transactions, store_reads), committed * 2^24 + aborted * 2^16 +
- *                                               pending * 2^8 + live (tally), the number moved * 65536 + the length
- *                                               (straighten), or 0 (scan: opaque; check: accepted)
+ *   0           done                            the edition * 65536 + the event count (read), the length (write, find),
+ *                                               the number counted (transactions, store_reads), committed * 2^24 +
+ *                                               aborted * 2^16 + pending * 2^8 + live (tally), the number moved * 65536
+ *                                               + the length (straighten), or 0 (scan: opaque; check: accepted)
  *   1 to 99     refused by this question        the byte or the event, see below
  *   100         find: there is no               0
  *               justification
@@ -70,8 +87,9 @@ enum {
  *               is broken (straighten: never D)
  *
  * Questions about files have a byte as their place: where the record begins, 0 for question 1 and for an empty file, the file's
- * length for 14, for 29 and for 28 at the end. All others have an event: its number, or the count for 15, 17, 18, 31 and 32. A
- * place never reaches into the code: a count of 2^32 or more, which 17 or 18 refuses, is told as 2^32 - 1. No other place is as large.
+ * length for 14, for 29 and for 28 at the end. All others have an event: its number, or the count for 15, 17, 18, 31
+ * and 32, and for 3 where it is not about a file. A place never reaches into the code: a count of 2^32 or more, which 17 or 18 refuses,
+ * is told as 2^32 - 1. No other place is as large.
  */
 enum {
     SENDOSHI_DONE = 0,
@@ -79,10 +97,10 @@ enum {
     /* A history file: byte. */
     SENDOSHI_FILE_TOO_LONG = 1, /* more than 32768 bytes; also for a marking */
     SENDOSHI_RECORD_CUT = 2,    /* a record is cut off, or its length is below 2; also for a marking */
-    SENDOSHI_HISTORY_HEAD = 3,  /* no head of a history of edition 1 */
+    SENDOSHI_HISTORY_HEAD = 3,  /* no head of edition 1 or 2; of columns (event): another edition, or 1 and a start that is not 0 */
 
     /* An event of a file (byte) or of columns (event). */
-    SENDOSHI_EVENT_KIND = 4,              /* the kind is not 16 to 23 */
+    SENDOSHI_EVENT_KIND = 4,              /* the kind is not 16 to 23, nor 3 in a file of edition 2 */
     SENDOSHI_EVENT_SIZE = 5,              /* the record has not the size of its kind; files only */
     SENDOSHI_TOO_MANY_EVENTS = 6,         /* more than 2048 */
     SENDOSHI_TOO_MANY_TRANSACTIONS = 7,   /* more than 64 */
@@ -115,6 +133,11 @@ enum {
     SENDOSHI_TOO_MANY_TO_JUDGE = 31,  /* find, scan: more than 10 transactions */
     SENDOSHI_MARKING_TOO_SHORT = 32,  /* find: the output is too short */
 
+    /* A start record of a history file of edition 2: byte. */
+    SENDOSHI_START_REGISTER = 41, /* the register is not above that of the last start record, or not below 32 */
+    SENDOSHI_START_ZERO = 42,     /* the value is 0 */
+    SENDOSHI_START_LATE = 43,     /* an event comes before it */
+
     SENDOSHI_NONE = 100,
 
     SENDOSHI_FAULT_READ = 101,      /* cause 1: a read returned */
@@ -139,6 +162,18 @@ static inline uint32_t sendoshi_code(uint64_t answer)
 static inline uint32_t sendoshi_place(uint64_t answer)
 {
     return (uint32_t)(answer & 0xffffffffu);
+}
+
+/* The edition of a history that was read. */
+static inline uint32_t sendoshi_read_edition(uint64_t answer)
+{
+    return sendoshi_place(answer) >> 16;
+}
+
+/* The event count of a history that was read. */
+static inline uint32_t sendoshi_read_count(uint64_t answer)
+{
+    return sendoshi_place(answer) & 0xffffu;
 }
 
 /* The event of a broken rule's place. */
@@ -190,20 +225,24 @@ static inline uint32_t sendoshi_tally_live(uint64_t answer)
 }
 
 /*
- * Reads a history file into columns. Done: the event count; that many entries of each column are set.
- * Refuses: 1, 2, 3; 2, 4 to 13 for each record in turn; 14.
+ * Reads a history file into start values and columns. Done: the edition, 1 or 2, and the event count; all 32 start values and that many
+ * entries of each column are set.
+ * Refuses: 1, 2, 3; 2, 4, 5 for each record in turn, then 43, 41, 42 if it is a start record, and 6 to 13 if it is an event; 14.
  */
 uint64_t sendoshi_read(const uint8_t *file, size_t file_length,
+                       uint32_t starts[SENDOSHI_REGISTERS],
                        uint16_t *kinds, size_t kinds_length,
                        uint16_t *transactions, size_t transactions_length,
                        uint16_t *registers, size_t registers_length,
                        uint32_t *values, size_t values_length);
 
 /*
- * Writes the first `count` events as a history file, from the output's first byte. Done: the file's length.
- * Refuses: 17; 4, 6 to 13 and 16 for each event in turn; 15.
+ * Writes the first `count` events as a history file of this edition, from the output's first byte. Done: the file's length.
+ * sendoshi_read gives edition, start values and events back.
+ * Refuses: 17; 3; 4, 6 to 13 and 16 for each event in turn; 15.
  */
-uint64_t sendoshi_write(const uint16_t *kinds, size_t kinds_length,
+uint64_t sendoshi_write(uint16_t edition, const uint32_t starts[SENDOSHI_REGISTERS],
+                        const uint16_t *kinds, size_t kinds_length,
                         const uint16_t *transactions, size_t transactions_length,
                         const uint16_t *registers, size_t registers_length,
                         const uint32_t *values, size_t values_length,
@@ -212,10 +251,12 @@ uint64_t sendoshi_write(const uint16_t *kinds, size_t kinds_length,
 
 /*
  * Writes the lowest marking that justifies the first `prefix` of the first `count` events, from the output's first byte. Done: its
- * length. SENDOSHI_NONE: no order and outcomes justify them. sendoshi_check, given these bytes and `prefix` as its count, accepts.
- * Refuses: 17; 18; 4, 6 to 13 and 16 for each of the `count` events in turn; 31; 32.
+ * length. SENDOSHI_NONE: no order and outcomes justify them. sendoshi_check, given these bytes, the same edition and start values, and
+ * `prefix` as its count, accepts.
+ * Refuses: 17; 3; 18; 4, 6 to 13 and 16 for each of the `count` events in turn; 31; 32.
  */
-uint64_t sendoshi_find(const uint16_t *kinds, size_t kinds_length,
+uint64_t sendoshi_find(uint16_t edition, const uint32_t starts[SENDOSHI_REGISTERS],
+                       const uint16_t *kinds, size_t kinds_length,
                        const uint16_t *transactions, size_t transactions_length,
                        const uint16_t *registers, size_t registers_length,
                        const uint32_t *values, size_t values_length,
@@ -225,9 +266,10 @@ uint64_t sendoshi_find(const uint16_t *kinds, size_t kinds_length,
 /*
  * Judges the prefixes of the first `count` events by rising length. Done: opaque, every one has a justification. Else the last event
  * of the first that has none, and the cause.
- * Refuses: 17; 4, 6 to 13 and 16 for each event in turn; 31.
+ * Refuses: 17; 3; 4, 6 to 13 and 16 for each event in turn; 31.
  */
-uint64_t sendoshi_scan(const uint16_t *kinds, size_t kinds_length,
+uint64_t sendoshi_scan(uint16_t edition, const uint32_t starts[SENDOSHI_REGISTERS],
+                       const uint16_t *kinds, size_t kinds_length,
                        const uint16_t *transactions, size_t transactions_length,
                        const uint16_t *registers, size_t registers_length,
                        const uint32_t *values, size_t values_length,
@@ -235,9 +277,10 @@ uint64_t sendoshi_scan(const uint16_t *kinds, size_t kinds_length,
 
 /*
  * Checks a marking file of the first `count` events. Done: accepted. Else the first broken rule, from A to E.
- * Refuses: 17; 4, 6 to 13 and 16 for each event in turn; then for the file 1, 2, 21; 2, 22 to 28 for each record in turn; 28; 29.
+ * Refuses: 17; 3; 4, 6 to 13 and 16 for each event in turn; then for the file 1, 2, 21; 2, 22 to 28 for each record in turn; 28; 29.
  */
-uint64_t sendoshi_check(const uint16_t *kinds, size_t kinds_length,
+uint64_t sendoshi_check(uint16_t edition, const uint32_t starts[SENDOSHI_REGISTERS],
+                        const uint16_t *kinds, size_t kinds_length,
                         const uint16_t *transactions, size_t transactions_length,
                         const uint16_t *registers, size_t registers_length,
                         const uint32_t *values, size_t values_length,
@@ -251,10 +294,11 @@ uint64_t sendoshi_check(const uint16_t *kinds, size_t kinds_length,
  * entry, rising. sendoshi_check accepts the bytes written; a file that it accepts already comes back byte for byte, with no point
  * moved. Else the first rule that is broken with the points so moved, A, B, C or E: outcomes and order are no justification.
  * The output is a buffer of its own: a marking is not straightened in place.
- * Refuses: 17; 4, 6 to 13 and 16 for each event in turn; then for the file 1, 2, 21; 2, 22 to 28 for each record in turn; 28; 29; then
- * 15, if the output is shorter than the file or the list has fewer entries than sendoshi_store_reads counts.
+ * Refuses: 17; 3; 4, 6 to 13 and 16 for each event in turn; then for the file 1, 2, 21; 2, 22 to 28 for each record in turn; 28; 29;
+ * then 15, if the output is shorter than the file or the list has fewer entries than sendoshi_store_reads counts.
  */
-uint64_t sendoshi_straighten(const uint16_t *kinds, size_t kinds_length,
+uint64_t sendoshi_straighten(uint16_t edition, const uint32_t starts[SENDOSHI_REGISTERS],
+                             const uint16_t *kinds, size_t kinds_length,
                              const uint16_t *transactions, size_t transactions_length,
                              const uint16_t *registers, size_t registers_length,
                              const uint32_t *values, size_t values_length,

@@ -6,11 +6,14 @@ use outside::limits;
 use outside::marks::marked_history;
 use outside::random::Random;
 use outside::shapes::{is_judged_quickly, marking_size};
+use outside::stores::damaged_store;
 use outside::{coverage, damage};
 use reference::entries::{self, Answer};
-use reference::event::{Columns, Event};
+use reference::event::Columns;
 use reference::justification::Outcome::{Aborted, Committed};
+use reference::log::Log;
 use reference::reads::store_reads;
+use reference::store::{Store, REGISTERS};
 use reference::{history_file, worked};
 use sendoshi::{calls, ffi};
 use std::mem::MaybeUninit;
@@ -21,44 +24,57 @@ fn main() {
         round(&mut Random::new(seed));
     }
     for events in limits::histories() {
-        all_calls(&events, &history_file::write(&events), &[4, 0, 2, 0, 1, 0]);
+        for store in [Store::ZERO, Store { edition: 2, starts: [9; REGISTERS] }] {
+            let log = Log { store, events: events.clone() };
+            all_calls(&log, &file(&log), &[4, 0, 2, 0, 1, 0]);
+        }
     }
-    let h0 = reference::log::Log::h0().events;
-    all_calls(&h0, &history_file::write(&h0), &worked::h0_marking());
+    let h0 = Log::h0();
+    all_calls(&h0, &file(&h0), &worked::h0_marking());
     let careless = worked::marking(&[(1, Aborted), (0, Committed)], &[(5, 2), (9, 2)]);
-    all_calls(&h0, &history_file::write(&h0), &careless);
+    all_calls(&h0, &file(&h0), &careless);
     println!("{} entries, {rounds} rounds and every limit", coverage::ENTRIES.len());
 }
 
 fn round(random: &mut Random) {
-    let (events, marking) = marked_history(random);
+    let (log, marking) = marked_history(random);
     let marking = marking.to_bytes();
-    all_calls(&events, &history_file::write(&events), &marking);
-    let file = damage::file(random, history_file::write(&events));
+    all_calls(&log, &file(&log), &marking);
+    let file = damage::file(random, file(&log));
     let marking = damage::file(random, marking);
-    all_calls(&damage::events(random, events), &file, &marking);
+    let log = Log { store: damaged_store(random, log.store), events: damage::events(random, log.events) };
+    all_calls(&log, &file, &marking);
 }
 
-fn all_calls(events: &[Event], file: &[u8], marking: &[u8]) {
+fn file(log: &Log) -> Vec<u8> {
+    history_file::write(&log.store, &log.events)
+}
+
+fn all_calls(log: &Log, history: &[u8], marking: &[u8]) {
+    let Log { store, events } = log;
     let columns = Columns::of(events);
     let count = events.len();
-    read(file, count);
-    output_call(ffi_write, |output| entries::write(&columns, count, output), &columns, count, history_file::write(events).len());
-    let exact = Exact::new(&columns);
+    read(history, count);
+    output_call(ffi_write, |output| entries::write(store, &columns, count, output), store, &columns, count, file(log).len());
+    let exact = Exact::new(store, &columns);
     let marking: Box<[u8]> = marking.into();
-    assert_eq!(plain(calls::check(exact.view(), count, &marking)), entries::check(&columns, count, &marking));
+    let checked = calls::check(exact.store(), exact.view(), count, &marking);
+    assert_eq!(plain(checked), entries::check(store, &columns, count, &marking));
     assert_eq!(plain(calls::transactions(exact.view(), count)), entries::transactions(&columns, count));
     assert_eq!(plain(calls::store_reads(exact.view(), count)), entries::store_reads(&columns, count));
     assert_eq!(plain(calls::tally(exact.view(), count)), entries::tally(&columns, count));
-    straighten(&columns, count, &marking, store_reads(events).count());
+    straighten(store, &columns, count, &marking, store_reads(events).count());
     if is_judged_quickly(events) {
-        assert_eq!(plain(calls::scan(exact.view(), count)), entries::scan(&columns, count));
-        output_call(ffi_find, |output| entries::find(&columns, count, count, output), &columns, count, marking_size(events));
+        assert_eq!(plain(calls::scan(exact.store(), exact.view(), count)), entries::scan(store, &columns, count));
+        let expected = |output: &mut [u8]| entries::find(store, &columns, count, count, output);
+        output_call(ffi_find, expected, store, &columns, count, marking_size(events));
     }
 }
 
-/// Columns in boxes of their own.
+/// Start values and columns in boxes of their own.
 struct Exact {
+    edition: u16,
+    starts: Box<[u32; REGISTERS]>,
     kinds: Box<[u16]>,
     transactions: Box<[u16]>,
     registers: Box<[u16]>,
@@ -66,13 +82,19 @@ struct Exact {
 }
 
 impl Exact {
-    fn new(columns: &Columns) -> Exact {
+    fn new(store: &Store, columns: &Columns) -> Exact {
         Exact {
+            edition: store.edition,
+            starts: Box::new(store.starts),
             kinds: columns.kinds.as_slice().into(),
             transactions: columns.transactions.as_slice().into(),
             registers: columns.registers.as_slice().into(),
             values: columns.values.as_slice().into(),
         }
+    }
+
+    fn store(&self) -> sendoshi::Store<'_> {
+        sendoshi::Store { edition: self.edition, starts: &self.starts }
     }
 
     fn view(&self) -> sendoshi::Columns<'_> {
@@ -97,6 +119,7 @@ fn set<T: Copy>(buffer: &[MaybeUninit<T>], length: usize) -> Vec<T> {
 
 fn read(file: &[u8], count: usize) {
     let file: Box<[u8]> = file.into();
+    let mut starts = Box::<[u32; REGISTERS]>::new_uninit();
     let mut kinds = Box::<[u16]>::new_uninit_slice(count);
     let mut transactions = Box::<[u16]>::new_uninit_slice(count);
     let mut registers = Box::<[u16]>::new_uninit_slice(count);
@@ -106,6 +129,7 @@ fn read(file: &[u8], count: usize) {
         ffi::sendoshi_read(
             file.as_ptr(),
             file.len(),
+            starts.as_mut_ptr(),
             kinds.as_mut_ptr().cast(),
             count,
             transactions.as_mut_ptr().cast(),
@@ -118,10 +142,13 @@ fn read(file: &[u8], count: usize) {
     };
     let (small, wide) = (vec![0; count], vec![0; count]);
     let mut columns = Columns { kinds: small.clone(), transactions: small.clone(), registers: small, values: wide };
-    let expected = entries::read(&file, &mut columns);
+    let mut expected_starts = [0; REGISTERS];
+    let expected = entries::read(&file, &mut expected_starts, &mut columns);
     assert_eq!(plain(sendoshi::Answer::of(got)), expected);
     if expected.code == 0 {
-        let length = expected.place as usize;
+        // SAFETY: the call said that it set all of them; valgrind finds those that it did not.
+        assert_eq!(unsafe { *starts.assume_init() }, expected_starts);
+        let (_, length) = sendoshi::Answer::of(got).halves();
         assert_eq!(set(&kinds, length), columns.kinds[..length]);
         assert_eq!(set(&transactions, length), columns.transactions[..length]);
         assert_eq!(set(&registers, length), columns.registers[..length]);
@@ -131,16 +158,17 @@ fn read(file: &[u8], count: usize) {
 
 /// A call that fills an output: once with an output that is just long enough, and once with one that is a byte too short.
 fn output_call(
-    call: fn(sendoshi::Columns, usize, &mut [MaybeUninit<u8>]) -> u64,
+    call: fn(&Exact, usize, &mut [MaybeUninit<u8>]) -> u64,
     reference: impl Fn(&mut [u8]) -> Answer,
+    store: &Store,
     columns: &Columns,
     count: usize,
     needed: usize,
 ) {
     for length in [needed, needed - 1] {
-        let exact = Exact::new(columns);
+        let exact = Exact::new(store, columns);
         let mut output = Box::<[u8]>::new_uninit_slice(length);
-        let got = plain(sendoshi::Answer::of(call(exact.view(), count, &mut output)));
+        let got = plain(sendoshi::Answer::of(call(&exact, count, &mut output)));
         let mut expected = vec![0; length];
         assert_eq!(got, reference(&mut expected));
         if got.code == 0 {
@@ -150,15 +178,15 @@ fn output_call(
 }
 
 /// The straightener: with an output and a list that are just long enough, and with either of them one too short.
-fn straighten(columns: &Columns, count: usize, file: &[u8], points: usize) {
+fn straighten(store: &Store, columns: &Columns, count: usize, file: &[u8], points: usize) {
     let one_less = (file.len().saturating_sub(1), points.saturating_sub(1));
     for (length, entries) in [(file.len(), points), (one_less.0, points), (file.len(), one_less.1)] {
-        let exact = Exact::new(columns);
+        let exact = Exact::new(store, columns);
         let mut output = Box::<[u8]>::new_uninit_slice(length);
         let mut list = Box::<[u32]>::new_uninit_slice(entries);
-        let got = sendoshi::Answer::of(ffi_straighten(exact.view(), count, file, &mut output, &mut list));
+        let got = sendoshi::Answer::of(ffi_straighten(&exact, count, file, &mut output, &mut list));
         let (mut expected, mut expected_list) = (vec![0; length], vec![0; entries]);
-        assert_eq!(plain(got), entries::straighten(columns, count, file, &mut expected, &mut expected_list));
+        assert_eq!(plain(got), entries::straighten(store, columns, count, file, &mut expected, &mut expected_list));
         if got.code == 0 {
             let (moved, length) = got.halves();
             assert_eq!(set(&output, length), expected[..length]);
@@ -167,10 +195,12 @@ fn straighten(columns: &Columns, count: usize, file: &[u8], points: usize) {
     }
 }
 
-fn ffi_write(c: sendoshi::Columns, count: usize, output: &mut [MaybeUninit<u8>]) -> u64 {
-    // SAFETY: pointers and lengths are those of slices.
+fn ffi_write(c: &Exact, count: usize, output: &mut [MaybeUninit<u8>]) -> u64 {
+    // SAFETY: pointers and lengths are those of the boxes and slices.
     unsafe {
         ffi::sendoshi_write(
+            c.edition,
+            &*c.starts,
             c.kinds.as_ptr(),
             c.kinds.len(),
             c.transactions.as_ptr(),
@@ -186,10 +216,12 @@ fn ffi_write(c: sendoshi::Columns, count: usize, output: &mut [MaybeUninit<u8>])
     }
 }
 
-fn ffi_find(c: sendoshi::Columns, count: usize, output: &mut [MaybeUninit<u8>]) -> u64 {
-    // SAFETY: pointers and lengths are those of slices.
+fn ffi_find(c: &Exact, count: usize, output: &mut [MaybeUninit<u8>]) -> u64 {
+    // SAFETY: pointers and lengths are those of the boxes and slices.
     unsafe {
         ffi::sendoshi_find(
+            c.edition,
+            &*c.starts,
             c.kinds.as_ptr(),
             c.kinds.len(),
             c.transactions.as_ptr(),
@@ -206,16 +238,12 @@ fn ffi_find(c: sendoshi::Columns, count: usize, output: &mut [MaybeUninit<u8>]) 
     }
 }
 
-fn ffi_straighten(
-    c: sendoshi::Columns,
-    count: usize,
-    file: &[u8],
-    output: &mut [MaybeUninit<u8>],
-    list: &mut [MaybeUninit<u32>],
-) -> u64 {
-    // SAFETY: pointers and lengths are those of slices.
+fn ffi_straighten(c: &Exact, count: usize, file: &[u8], output: &mut [MaybeUninit<u8>], list: &mut [MaybeUninit<u32>]) -> u64 {
+    // SAFETY: pointers and lengths are those of the boxes and slices.
     unsafe {
         ffi::sendoshi_straighten(
+            c.edition,
+            &*c.starts,
             c.kinds.as_ptr(),
             c.kinds.len(),
             c.transactions.as_ptr(),

@@ -1,10 +1,12 @@
 //! One call put to the library and to the brute force: the answers must be equal, and so must all buffers afterwards.
 
 use crate::coverage::{Coverage, Entry};
-use crate::lent::{Lent, LentColumns};
+use crate::lent::{lent_starts, Lent, LentColumns, LentStore};
+use crate::stores;
 use crate::tallies;
 use reference::entries::{self, Answer};
 use reference::event::{Columns, Event};
+use reference::store::{Store, REGISTERS};
 use sendoshi::{answer, calls};
 
 const BYTE: u8 = 0xa5;
@@ -17,54 +19,69 @@ fn same(entry: Entry, got: sendoshi::Answer, expected: Answer, coverage: &mut Co
     got
 }
 
-/// Reads a file into columns that hold something already, and returns the answer; the columns are then as the reader left them.
-pub fn read(file: &[u8], columns: &mut Columns, coverage: &mut Coverage) -> Answer {
+/// Reads a file into start values and columns that hold something already, and returns the answer; both are then as the reader left
+/// them.
+pub fn read(file: &[u8], starts: &mut [u32; REGISTERS], columns: &mut Columns, coverage: &mut Coverage) -> Answer {
     let lent_file = Lent::new(file, BYTE);
+    let mut lent_starts = lent_starts(starts);
     let mut lent = LentColumns::new(columns);
-    let got = calls::read(lent_file.slice(), lent.view_mut());
-    let answer = same(Entry::Read, got, entries::read(file, columns), coverage);
+    let got = calls::read(lent_file.slice(), lent_starts.starts_mut(), lent.view_mut());
+    let answer = same(Entry::Read, got, entries::read(file, starts, columns), coverage);
     assert!(lent_file.holds(file), "read changed its file");
+    assert!(lent_starts.holds(starts), "read left other start values than it should");
     assert!(lent.hold(columns), "read left other columns than it should");
     answer
 }
 
 /// Writes columns to an output that holds something already.
-pub fn write(columns: &Columns, count: usize, output: &mut [u8], coverage: &mut Coverage) -> Answer {
-    let lent = LentColumns::new(columns);
+pub fn write(store: &Store, columns: &Columns, count: usize, output: &mut [u8], coverage: &mut Coverage) -> Answer {
+    let (lent_store, lent) = (LentStore::new(store), LentColumns::new(columns));
     let mut lent_output = Lent::new(output, BYTE);
-    let got = calls::write(lent.view(), count, lent_output.slice_mut());
-    let answer = same(Entry::Write, got, entries::write(columns, count, output), coverage);
+    let got = calls::write(lent_store.view(), lent.view(), count, lent_output.slice_mut());
+    let answer = same(Entry::Write, got, entries::write(store, columns, count, output), coverage);
+    assert!(lent_store.holds(store), "write changed its start values");
     assert!(lent.hold(columns), "write changed its columns");
     assert!(lent_output.holds(output), "write left another output than it should");
     answer
 }
 
 /// Finds the lowest marking of a prefix.
-pub fn find(columns: &Columns, count: usize, prefix: usize, output: &mut [u8], coverage: &mut Coverage) -> Answer {
-    let lent = LentColumns::new(columns);
+pub fn find(store: &Store, columns: &Columns, count: usize, prefix: usize, output: &mut [u8], coverage: &mut Coverage) -> Answer {
+    let (lent_store, lent) = (LentStore::new(store), LentColumns::new(columns));
     let mut lent_output = Lent::new(output, BYTE);
-    let got = calls::find(lent.view(), count, prefix, lent_output.slice_mut());
-    let answer = same(Entry::Find, got, entries::find(columns, count, prefix, output), coverage);
+    let got = calls::find(lent_store.view(), lent.view(), count, prefix, lent_output.slice_mut());
+    let answer = same(Entry::Find, got, entries::find(store, columns, count, prefix, output), coverage);
+    assert!(lent_store.holds(store), "find changed its start values");
     assert!(lent.hold(columns), "find changed its columns");
     assert!(lent_output.holds(output), "find left another output than it should");
     answer
 }
 
 /// Judges every prefix.
-pub fn scan(columns: &Columns, count: usize, coverage: &mut Coverage) -> Answer {
-    let lent = LentColumns::new(columns);
-    let got = calls::scan(lent.view(), count);
-    let answer = same(Entry::Scan, got, entries::scan(columns, count), coverage);
+pub fn scan(store: &Store, columns: &Columns, count: usize, coverage: &mut Coverage) -> Answer {
+    let (lent_store, lent) = (LentStore::new(store), LentColumns::new(columns));
+    let got = calls::scan(lent_store.view(), lent.view(), count);
+    let answer = same(Entry::Scan, got, entries::scan(store, columns, count), coverage);
+    assert!(lent_store.holds(store), "scan changed its start values");
     assert!(lent.hold(columns), "scan changed its columns");
+    if matches!(answer.code, answer::DONE | 101..=104) {
+        stores::note(store, &first_events(columns, count), answer, coverage);
+    }
     answer
 }
 
+/// The first events of columns that hold so many.
+fn first_events(columns: &Columns, count: usize) -> Vec<Event> {
+    (0..count).map(|at| columns.event(at)).collect()
+}
+
 /// Checks a marking.
-pub fn check(columns: &Columns, count: usize, file: &[u8], coverage: &mut Coverage) -> Answer {
-    let lent = LentColumns::new(columns);
+pub fn check(store: &Store, columns: &Columns, count: usize, file: &[u8], coverage: &mut Coverage) -> Answer {
+    let (lent_store, lent) = (LentStore::new(store), LentColumns::new(columns));
     let lent_file = Lent::new(file, BYTE);
-    let got = calls::check(lent.view(), count, lent_file.slice());
-    let answer = same(Entry::Check, got, entries::check(columns, count, file), coverage);
+    let got = calls::check(lent_store.view(), lent.view(), count, lent_file.slice());
+    let answer = same(Entry::Check, got, entries::check(store, columns, count, file), coverage);
+    assert!(lent_store.holds(store), "check changed its start values");
     assert!(lent.hold(columns), "check changed its columns");
     assert!(lent_file.holds(file), "check changed its file");
     answer
@@ -72,6 +89,7 @@ pub fn check(columns: &Columns, count: usize, file: &[u8], coverage: &mut Covera
 
 /// Straightens a marking into an output and a list that hold something already.
 pub fn straighten(
+    store: &Store,
     columns: &Columns,
     count: usize,
     file: &[u8],
@@ -79,12 +97,14 @@ pub fn straighten(
     list: &mut [u32],
     coverage: &mut Coverage,
 ) -> Answer {
-    let lent = LentColumns::new(columns);
+    let (lent_store, lent) = (LentStore::new(store), LentColumns::new(columns));
     let lent_file = Lent::new(file, BYTE);
     let mut lent_output = Lent::new(output, BYTE);
     let mut lent_list = Lent::new(list, EVENT);
-    let got = calls::straighten(lent.view(), count, lent_file.slice(), lent_output.slice_mut(), lent_list.slice_mut());
-    let answer = same(Entry::Straighten, got, entries::straighten(columns, count, file, output, list), coverage);
+    let (output_slice, list_slice) = (lent_output.slice_mut(), lent_list.slice_mut());
+    let got = calls::straighten(lent_store.view(), lent.view(), count, lent_file.slice(), output_slice, list_slice);
+    let answer = same(Entry::Straighten, got, entries::straighten(store, columns, count, file, output, list), coverage);
+    assert!(lent_store.holds(store), "straighten changed its start values");
     assert!(lent.hold(columns), "straighten changed its columns");
     assert!(lent_file.holds(file), "straighten changed its file");
     assert!(lent_output.holds(output), "straighten left another output than it should");
@@ -112,8 +132,7 @@ pub fn tally(columns: &Columns, count: usize, coverage: &mut Coverage) -> Answer
     tallies::adds_up(got, calls::transactions(lent.view(), count));
     let answer = same(Entry::Tally, got, entries::tally(columns, count), coverage);
     if answer.code == answer::DONE {
-        let history: Vec<Event> = (0..count).map(|at| columns.event(at)).collect();
-        tallies::note(&history, got, coverage);
+        tallies::note(&first_events(columns, count), got, coverage);
     }
     answer
 }

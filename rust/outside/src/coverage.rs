@@ -1,4 +1,4 @@
-//! Which codes each entry has answered with, which transactions were tallied, and how often.
+//! Which codes each entry has answered with, which transactions were tallied, what was read of start values, and how often.
 
 use std::collections::BTreeMap;
 use std::fmt;
@@ -29,10 +29,28 @@ pub enum Tallied {
     AbortedWithNoCall,
 }
 
+/// What a scanned history can have to do with the store it finds.
+#[derive(Clone, Copy, Debug, PartialEq, Eq, PartialOrd, Ord)]
+pub enum Started {
+    /// Edition 1.
+    EditionOne,
+    /// Edition 2 with zeros only.
+    NoStart,
+    /// An opaque history with a store read of a start value that is not 0.
+    Read,
+    /// An opaque history with a store read of another value, where a start value stood.
+    Hidden,
+    /// A history faulted by a store read of a start value that is not 0.
+    ReadInVain,
+    /// A history faulted by a store read of 0, where a start value stood.
+    ZeroInVain,
+}
+
 #[derive(Clone, Debug, Default)]
 pub struct Coverage {
     met: BTreeMap<(Entry, u32), u64>,
     tallied: BTreeMap<Tallied, u64>,
+    started: BTreeMap<Started, u64>,
 }
 
 impl Coverage {
@@ -44,12 +62,19 @@ impl Coverage {
         *self.tallied.entry(what).or_default() += 1;
     }
 
+    pub fn note_started(&mut self, what: Started) {
+        *self.started.entry(what).or_default() += 1;
+    }
+
     pub fn add(&mut self, other: &Coverage) {
         for (&key, count) in &other.met {
             *self.met.entry(key).or_default() += count;
         }
         for (&what, count) in &other.tallied {
             *self.tallied.entry(what).or_default() += count;
+        }
+        for (&what, count) in &other.started {
+            *self.started.entry(what).or_default() += count;
         }
     }
 
@@ -69,6 +94,12 @@ impl Coverage {
         assert!(missing.is_empty(), "{missing:?} was never tallied\n{self}");
     }
 
+    /// Fails if one of these was the case of no history that was scanned.
+    pub fn require_started(&self, all: &[Started]) {
+        let missing: Vec<Started> = all.iter().copied().filter(|what| !self.started.contains_key(what)).collect();
+        assert!(missing.is_empty(), "{missing:?} was never scanned\n{self}");
+    }
+
     /// Fails if an entry has answered with a code that it has not: the scan with cause 4, say, or the straightener with rule D.
     pub fn allow(&self) {
         for &(entry, code) in self.met.keys() {
@@ -86,6 +117,9 @@ impl fmt::Display for Coverage {
         for (what, count) in &self.tallied {
             writeln!(f, "tallied {what:?}: {count}")?;
         }
+        for (what, count) in &self.started {
+            writeln!(f, "start values {what:?}: {count}")?;
+        }
         Ok(())
     }
 }
@@ -99,12 +133,12 @@ const MARKING: [u32; 11] = [1, 2, 21, 22, 23, 24, 25, 26, 27, 28, 29];
 /// The questions that an entry can answer with no.
 pub fn refusals(entry: Entry) -> Vec<u32> {
     let own: Vec<u32> = match entry {
-        Entry::Read => return (1..=14).collect(),
-        Entry::Write => vec![15],
-        Entry::Find => vec![18, 31, 32],
-        Entry::Scan => vec![31],
-        Entry::Check => MARKING.to_vec(),
-        Entry::Straighten => [&MARKING[..], &[15]].concat(),
+        Entry::Read => return (1..=14).chain(41..=43).collect(),
+        Entry::Write => vec![3, 15],
+        Entry::Find => vec![3, 18, 31, 32],
+        Entry::Scan => vec![3, 31],
+        Entry::Check => [&MARKING[..], &[3]].concat(),
+        Entry::Straighten => [&MARKING[..], &[3, 15]].concat(),
         Entry::Transactions | Entry::StoreReads | Entry::Tally => vec![],
     };
     [&COLUMNS[..], &own].concat()
@@ -144,3 +178,6 @@ pub const TALLIED: [Tallied; 8] = [
     Tallied::AbortedAfterCommitCall,
     Tallied::AbortedWithNoCall,
 ];
+
+pub const STARTED: [Started; 6] =
+    [Started::EditionOne, Started::NoStart, Started::Read, Started::Hidden, Started::ReadInVain, Started::ZeroInVain];

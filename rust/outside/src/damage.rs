@@ -2,6 +2,7 @@
 
 use crate::random::Random;
 use reference::event::{Columns, Event};
+use reference::history_file::START;
 use reference::record::{record, record_at};
 
 /// Numbers next to which something changes.
@@ -50,14 +51,16 @@ fn records(random: &mut Random, file: &[u8]) -> Vec<u8> {
         return file.to_vec();
     }
     let (at, other) = (random.below(records.len()), random.below(records.len()));
-    match random.below(8) {
+    match random.below(10) {
         0 => records.swap(at, other),
         1 => drop(records.remove(at)),
         2 => records.insert(other, records[at].clone()),
         3 => records.push(stray(random)),
-        4 => records[at].kind = random.pick(&EDGES),
-        5 => drop(records[at].body.pop()),
-        6 => records[at].body.push(random.word() as u8),
+        4 => records.insert(random.below(records.len() + 1).max(1), start(random)),
+        5 => put(&mut records[0].body, 0, random.pick(&[0, 1, 1, 2, 2, 3])),
+        6 => records[at].kind = random.pick(&EDGES),
+        7 => drop(records[at].body.pop()),
+        8 => records[at].body.push(random.word() as u8),
         _ => {
             let field = random.below(records[at].body.len() + 1) / 2 * 2;
             put(&mut records[at].body, field, random.pick(&EDGES));
@@ -91,6 +94,15 @@ fn stray(random: &mut Random) -> Parts {
         body[field] = random.below(8) as u8;
     }
     Parts { kind, body }
+}
+
+/// A start record, of the right size or not.
+fn start(random: &mut Random) -> Parts {
+    let register: u16 = random.pick(&[0, 1, 2, 3, 30, 31, 31, 32, 64, 256, 65_535]);
+    let value: u32 = random.pick(&[0, 0, 1, 2, 256, 65_536, 1 << 31]);
+    let mut body = [&register.to_le_bytes()[..], &value.to_le_bytes()].concat();
+    body.resize(random.pick(&[6, 6, 6, 6, 6, 6, 4, 5, 7, 8]), 0);
+    Parts { kind: START, body }
 }
 
 /// Events with a few faults, or none.

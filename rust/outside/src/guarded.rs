@@ -71,6 +71,17 @@ impl<T: Copy> Guarded<T> {
     }
 }
 
+impl Guarded<u32> {
+    /// The entries as an array of start values.
+    pub fn starts(&self) -> &[u32; 32] {
+        self.slice().try_into().expect("32 start values")
+    }
+
+    pub fn starts_mut(&mut self) -> &mut [u32; 32] {
+        self.slice_mut().try_into().expect("32 start values")
+    }
+}
+
 impl<T> Drop for Guarded<T> {
     fn drop(&mut self) {
         // SAFETY: the pages that `new` got, once.

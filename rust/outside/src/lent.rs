@@ -1,6 +1,7 @@
 //! Buffers lent to the library, with a margin on both sides that it must not touch.
 
 use reference::event::Columns;
+use reference::store::{Store, REGISTERS};
 
 const MARGIN: usize = 16;
 
@@ -31,6 +32,42 @@ impl<T: Copy + PartialEq> Lent<T> {
         let (before, after) = (&self.whole[..MARGIN], &self.whole[MARGIN + self.length..]);
         self.slice() == contents && before.iter().chain(after).all(|&entry| entry == self.canary)
     }
+}
+
+impl Lent<u32> {
+    /// The entries as an array of start values.
+    pub fn starts(&self) -> &[u32; REGISTERS] {
+        self.slice().try_into().expect("as many start values as registers")
+    }
+
+    pub fn starts_mut(&mut self) -> &mut [u32; REGISTERS] {
+        self.slice_mut().try_into().expect("as many start values as registers")
+    }
+}
+
+/// A store whose start values are lent to the library.
+pub struct LentStore {
+    edition: u16,
+    starts: Lent<u32>,
+}
+
+impl LentStore {
+    pub fn new(store: &Store) -> LentStore {
+        LentStore { edition: store.edition, starts: lent_starts(&store.starts) }
+    }
+
+    pub fn view(&self) -> sendoshi::Store<'_> {
+        sendoshi::Store { edition: self.edition, starts: self.starts.starts() }
+    }
+
+    pub fn holds(&self, store: &Store) -> bool {
+        self.starts.holds(&store.starts)
+    }
+}
+
+/// Start values lent to the library.
+pub fn lent_starts(starts: &[u32; REGISTERS]) -> Lent<u32> {
+    Lent::new(starts, 0x5ac3_3ca5)
 }
 
 /// Four columns lent to the library.

@@ -3,8 +3,8 @@
 //! [`compare`] puts one call to the library and to the brute force and wants the same answer and the same buffers. Inputs come from
 //! [`walk`] (random readable histories), [`simulate`] (a transactional memory), [`limits`] (histories at each limit), [`marks`]
 //! (markings) and [`damage`] (files, columns and markings that are not quite right). [`rounds`] runs many of them, each from a seed
-//! of its own. [`lent`] and [`guarded`] are the buffers that the calls are lent. [`straight`] has what is promised of a straightened
-//! marking, and [`tallies`] what is promised of a tally.
+//! of its own. [`stores`] has the editions and start values that go with them. [`lent`] and [`guarded`] are the buffers that the calls
+//! are lent. [`straight`] has what is promised of a straightened marking, and [`tallies`] what is promised of a tally.
 
 pub mod compare;
 pub mod coverage;
@@ -17,6 +17,7 @@ pub mod random;
 pub mod rounds;
 pub mod shapes;
 pub mod simulate;
+pub mod stores;
 pub mod straight;
 pub mod tallies;
 pub mod walk;

@@ -4,11 +4,12 @@ use crate::random::Random;
 use crate::simulate::{simulate, Faults, Plan};
 use reference::event::*;
 use reference::log::Log;
+use reference::store::Store;
 
 /// A log of exactly so many events, from a few long transactions.
 pub fn long(events: usize) -> Vec<Event> {
     let plan = Plan { transactions: 4, threads: 3, registers: 32, events, length: 1_000_000, faults: Faults::default() };
-    simulate(&mut Random::new(events as u64), plan)
+    simulate(&mut Random::new(events as u64), Store::ZERO, plan).events
 }
 
 /// Transactions one after the other on all threads by turns.
@@ -72,8 +73,8 @@ fn due() -> Vec<Log> {
 
 /// Events to which two or more questions say no: the first in order counts.
 fn several() -> Vec<Log> {
-    let full = Log { events: long(2_048) };
-    let crowded = Log { events: serial(64) };
+    let full = Log { events: long(2_048), ..Log::new() };
+    let crowded = Log { events: serial(64), ..Log::new() };
     vec![
         full.clone().event(ABORTED + 1, 9, 9, 9),
         full.clone().event(BEGIN, 9, 16, 9),

@@ -2,9 +2,11 @@
 
 use crate::random::Random;
 use crate::simulate::{simulate, Plan};
+use crate::stores::random_store;
 use crate::walk::{walk, Shape};
 use reference::event::*;
 use reference::justification::{is_allowed, place_of, Outcome, Place};
+use reference::log::Log;
 use reference::marking_file::{Marking, Point};
 use reference::reads::{store_reads, transactions};
 
@@ -48,18 +50,19 @@ pub fn careless(random: &mut Random, mut marking: Marking) -> Marking {
 
 /// A small history and a marking of it: a walk with a random marking, or what a transactional memory does, in the right order with
 /// careless read points.
-pub fn marked_history(random: &mut Random) -> (Vec<Event>, Marking) {
+pub fn marked_history(random: &mut Random) -> (Log, Marking) {
     if random.chance(50) {
         let shape = Shape::small(random);
-        let events = walk(random, shape);
-        let marking = random_marking(random, &events);
-        return (events, marking);
+        let log = walk(random, shape);
+        let marking = random_marking(random, &log.events);
+        return (log, marking);
     }
     let plan = Plan::small(random);
-    let events = simulate(random, plan);
-    let order = in_effect(random, &events);
+    let store = random_store(random, plan.registers, 9);
+    let log = simulate(random, store, plan);
+    let order = in_effect(random, &log.events);
     let marking = careless(random, order);
-    (events, marking)
+    (log, marking)
 }
 
 /// The marking of a log of [`simulate`](crate::simulate) in the order in which its transactions took effect. It is a justification if

@@ -4,6 +4,8 @@
 
 use crate::random::Random;
 use reference::event::*;
+use reference::log::Log;
+use reference::store::Store;
 
 /// What is simulated.
 #[derive(Clone, Copy, Debug)]
@@ -43,11 +45,11 @@ pub struct Faults {
     pub answers: usize,
 }
 
-/// Simulates a transactional memory and returns its log.
-pub fn simulate(random: &mut Random, plan: Plan) -> Vec<Event> {
+/// Simulates a transactional memory that starts with this store, and returns its log.
+pub fn simulate(random: &mut Random, store: Store, plan: Plan) -> Log {
     let mut memory = Memory {
         plan,
-        store: vec![0; plan.registers],
+        store: store.starts[..plan.registers].to_vec(),
         version: vec![0; plan.registers],
         clock: 0,
         begun: 0,
@@ -63,7 +65,7 @@ pub fn simulate(random: &mut Random, plan: Plan) -> Vec<Event> {
             None => (),
         }
     }
-    memory.log
+    Log { store, events: memory.log }
 }
 
 #[derive(Clone, Debug)]

@@ -1,16 +1,17 @@
 //! What holds of a straightened marking, said of the library alone: the brute force has no part in it.
 
-use crate::lent::LentColumns;
-use reference::event::{Columns as Held, Event};
+use crate::lent::{LentColumns, LentStore};
+use reference::event::Columns as Held;
+use reference::log::Log;
 use reference::marking_file::Marking;
-use sendoshi::{answer, calls, Answer, Columns};
+use sendoshi::{answer, calls, Answer, Columns, Store};
 
 /// Fails unless this answer to the straightening of a marking, with what was left in output and list, has all that is promised.
-pub fn keeps_its_promises(held: &Held, history: &[Event], marking: &Marking, answer: Answer, output: &[u8], list: &[u32]) {
-    let lent = LentColumns::new(held);
-    let columns = lent.view();
-    let at_readers = Marking::of(history, &marking.places).to_bytes();
-    let verdict = calls::check(columns, history.len(), &at_readers);
+pub fn keeps_its_promises(held: &Held, history: &Log, marking: &Marking, answer: Answer, output: &[u8], list: &[u32]) {
+    let (lent_store, lent) = (LentStore::new(&history.store), LentColumns::new(held));
+    let (store, columns, count) = (lent_store.view(), lent.view(), history.events.len());
+    let at_readers = Marking::of(&history.events, &marking.places).to_bytes();
+    let verdict = calls::check(store, columns, count, &at_readers);
     if answer.code != answer::DONE {
         assert_eq!(answer, verdict, "what is broken is what stays broken with every point at its reader");
         return;
@@ -19,8 +20,8 @@ pub fn keeps_its_promises(held: &Held, history: &[Event], marking: &Marking, ans
     let (moved, length) = answer.halves();
     let (straight, moved) = (&output[..length], &list[..moved]);
     points_are_moved(marking, &at_readers, straight, moved);
-    nothing_is_left_to_move(columns, history.len(), straight);
-    if calls::check(columns, history.len(), &marking.to_bytes()).code == answer::DONE {
+    nothing_is_left_to_move(store, columns, count, straight);
+    if calls::check(store, columns, count, &marking.to_bytes()).code == answer::DONE {
         assert_eq!(moved, [0; 0], "points of a marking that is accepted are moved");
     }
 }
@@ -40,10 +41,10 @@ fn points_are_moved(marking: &Marking, at_readers: &[u8], straight: &[u8], moved
 }
 
 /// The checker accepts the result, and straightening it again gives the same bytes and an empty list.
-fn nothing_is_left_to_move(columns: Columns, count: usize, straight: &[u8]) {
-    assert_eq!(calls::check(columns, count, straight).code, answer::DONE, "a straightened marking is accepted");
+fn nothing_is_left_to_move(store: Store, columns: Columns, count: usize, straight: &[u8]) {
+    assert_eq!(calls::check(store, columns, count, straight).code, answer::DONE, "a straightened marking is accepted");
     let (mut again, mut list) = (vec![0; straight.len()], vec![0; count]);
-    let answer = calls::straighten(columns, count, straight, &mut again, &mut list);
+    let answer = calls::straighten(store, columns, count, straight, &mut again, &mut list);
     assert_eq!((answer.code, answer.halves()), (answer::DONE, (0, straight.len())), "a straightened marking is straight");
     assert_eq!(again, straight, "a straightened marking straightened again");
 }

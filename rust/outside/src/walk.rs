@@ -2,9 +2,12 @@
 //! order of the transactions explains.
 
 use crate::random::Random;
+use crate::stores::random_store;
 use reference::event::*;
+use reference::log::Log;
 use reference::questions::{ended, pending};
 use reference::reads::{last_write, transactions};
+use reference::store::Store;
 
 /// What a history may look like.
 #[derive(Clone, Copy, Debug)]
@@ -39,16 +42,18 @@ impl Shape {
     }
 }
 
-/// A history of this shape. It ends early where all its transactions have ended.
-pub fn walk(random: &mut Random, shape: Shape) -> Vec<Event> {
-    let mut walk = Walk { shape, events: Vec::new() };
+/// A history of this shape over some store. It ends early where all its transactions have ended.
+pub fn walk(random: &mut Random, shape: Shape) -> Log {
+    let store = random_store(random, usize::from(shape.registers), shape.values);
+    let mut walk = Walk { shape, store, events: Vec::new() };
     while walk.events.len() < shape.events && walk.go_on(random) {}
     walk.events.truncate(shape.events);
-    walk.events
+    Log { store, events: walk.events }
 }
 
 struct Walk {
     shape: Shape,
+    store: Store,
     events: Vec<Event>,
 }
 
@@ -127,7 +132,7 @@ impl Walk {
         match choices.pop() {
             Some(latest) if random.chance(70) => latest,
             Some(_) if !choices.is_empty() => random.pick(&choices),
-            _ => 0,
+            _ => self.store.start(register),
         }
     }
 

@@ -8,10 +8,12 @@ use outside::marks::random_marking;
 use outside::random::Random;
 use outside::rounds;
 use outside::shapes::{columns_for, columns_of, is_judged_quickly, list_for, marking_size, output_for};
+use outside::stores::{damaged_store, random_store, starts_for};
 use outside::walk::{walk, Shape};
 use reference::event::{Columns, Event};
 use reference::log::Log;
 use reference::reads::store_reads;
+use reference::store::Store;
 use reference::{history_file, record, worked};
 use std::sync::atomic::{AtomicU64, Ordering::Relaxed};
 
@@ -21,10 +23,10 @@ fn what_is_refused_is_refused_alike() {
     let rounds = rounds::rounds();
     let (files, markings) = (AtomicU64::new(0), AtomicU64::new(0));
     let mut met = rounds::run(rounds + rounds / 2, |random, coverage| {
-        let events = history(random);
-        files.fetch_add(u64::from(file(random, &events, coverage)), Relaxed);
-        columns(random, &events, coverage);
-        markings.fetch_add(u64::from(marking(random, &events, coverage)), Relaxed);
+        let log = history(random);
+        files.fetch_add(u64::from(file(random, &log, coverage)), Relaxed);
+        columns(random, &log, coverage);
+        markings.fetch_add(u64::from(marking(random, &log, coverage)), Relaxed);
     });
     limits(&mut met);
     println!("{met}");
@@ -36,66 +38,76 @@ fn what_is_refused_is_refused_alike() {
     }
 }
 
-/// Every entry at each limit and one step beyond it.
+/// Every entry at each limit and one step beyond it, in both editions.
 fn limits(coverage: &mut Coverage) {
+    let all_start = Store { edition: 2, starts: [u32::MAX; 32] };
     for events in limits::histories() {
-        let (lent, count) = (Columns::of(&events), events.len());
-        let mut output = vec![0xee; record::LONGEST_FILE];
-        compare::read(&history_file::write(&events), &mut lent.clone(), coverage);
-        compare::write(&lent, count, &mut output, coverage);
-        compare::counts(&lent, count, coverage);
-        compare::tally(&lent, count, coverage);
-        compare::check(&lent, count, &[4, 0, 2, 0, 1, 0], coverage);
-        compare::straighten(&lent, count, &[4, 0, 2, 0, 1, 0], &mut output, &mut vec![0xeeee; count], coverage);
-        if is_judged_quickly(&events) {
-            compare::scan(&lent, count, coverage);
-            compare::find(&lent, count, count, &mut output, coverage);
+        for store in [Store::ZERO, all_start, Store { edition: 1, ..all_start }] {
+            at_limit(&store, &events, coverage);
         }
     }
-    for size in [32_767, 32_768, 32_769, 70_000] {
+    for (size, store) in [32_767, 32_768, 32_769, 70_000].into_iter().flat_map(|size| [(size, Store::ZERO), (size, all_start)]) {
         let events = Log::h0().events;
-        let mut file = history_file::write(&events);
+        let mut file = history_file::write(&store, &events);
         file.resize(size, 0);
-        compare::read(&file, &mut Columns::of(&events), coverage);
+        compare::read(&file, &mut [0xeeee; 32], &mut Columns::of(&events), coverage);
         let mut file = worked::h0_marking();
         file.resize(size, 0);
         let lent = Columns::of(&events);
-        compare::check(&lent, events.len(), &file, coverage);
-        compare::straighten(&lent, events.len(), &file, &mut vec![0xee; size], &mut [0xeeee; 2], coverage);
+        compare::check(&store, &lent, events.len(), &file, coverage);
+        compare::straighten(&store, &lent, events.len(), &file, &mut vec![0xee; size], &mut [0xeeee; 2], coverage);
+    }
+}
+
+fn at_limit(store: &Store, events: &[Event], coverage: &mut Coverage) {
+    let (lent, count) = (Columns::of(events), events.len());
+    let mut output = vec![0xee; record::LONGEST_FILE];
+    compare::read(&history_file::write(store, events), &mut [0xeeee; 32], &mut lent.clone(), coverage);
+    compare::write(store, &lent, count, &mut output, coverage);
+    compare::counts(&lent, count, coverage);
+    compare::tally(&lent, count, coverage);
+    compare::check(store, &lent, count, &[4, 0, 2, 0, 1, 0], coverage);
+    compare::straighten(store, &lent, count, &[4, 0, 2, 0, 1, 0], &mut output, &mut vec![0xeeee; count], coverage);
+    if is_judged_quickly(events) {
+        compare::scan(store, &lent, count, coverage);
+        compare::find(store, &lent, count, count, &mut output, coverage);
     }
 }
 
 /// Mostly a small walk. Now and then one with as many transactions or events as a limit allows, or one more.
-fn history(random: &mut Random) -> Vec<Event> {
-    match random.below(4_000) {
+fn history(random: &mut Random) -> Log {
+    let events = match random.below(4_000) {
         0 => limits::long(random.pick(&[2_047, 2_048, 2_049])),
         1..=40 => limits::serial(random.pick(&[63, 64, 65])),
         41..=140 => limits::concurrent(random.pick(&[10, 11, 12])),
         _ => {
             let shape = Shape::small(random);
-            walk(random, shape)
+            return walk(random, shape);
         }
-    }
+    };
+    Log { store: random_store(random, 32, 9), events }
 }
 
 /// True where the file is not what it was.
-fn file(random: &mut Random, events: &[Event], coverage: &mut Coverage) -> bool {
-    let sound = history_file::write(events);
+fn file(random: &mut Random, log: &Log, coverage: &mut Coverage) -> bool {
+    let sound = history_file::write(&log.store, &log.events);
     let file = damage::file(random, sound.clone());
-    let mut columns = columns_for(random, events.len());
-    let answer = compare::read(&file, &mut columns, coverage);
+    let (mut starts, mut columns) = (starts_for(random), columns_for(random, log.events.len()));
+    let answer = compare::read(&file, &mut starts, &mut columns, coverage);
     if answer.code == 0 {
         let mut again = vec![0; record::LONGEST_FILE];
-        let written = compare::write(&columns, answer.place as usize, &mut again, coverage);
+        let (edition, count) = ((answer.place >> 16) as u16, (answer.place & 0xffff) as usize);
+        let written = compare::write(&Store { edition, starts }, &columns, count, &mut again, coverage);
         assert_eq!(again[..written.place as usize], file, "a file that is read and written again");
     }
     file != sound
 }
 
-fn columns(random: &mut Random, events: &[Event], coverage: &mut Coverage) {
-    let marking = random_marking(random, events).to_bytes();
+fn columns(random: &mut Random, log: &Log, coverage: &mut Coverage) {
+    let marking = random_marking(random, &log.events).to_bytes();
     let marking = damage::file(random, marking);
-    let events = damage::events(random, events.to_vec());
+    let store = damaged_store(random, log.store);
+    let events = damage::events(random, log.events.clone());
     let lent = columns_of(random, &events);
     let lent = damage::columns(random, lent);
     let count = match random.below(20) {
@@ -106,14 +118,14 @@ fn columns(random: &mut Random, events: &[Event], coverage: &mut Coverage) {
         }
         _ => events.len(),
     };
-    let mut output = output_for(random, 6 + 12 * events.len());
-    compare::write(&lent, count, &mut output, coverage);
+    let mut output = output_for(random, history_file::write(&store, &events).len());
+    compare::write(&store, &lent, count, &mut output, coverage);
     compare::counts(&lent, count, coverage);
     compare::tally(&lent, count, coverage);
-    compare::check(&lent, count, &marking, coverage);
-    straighten(random, &lent, count, &marking, coverage);
+    compare::check(&store, &lent, count, &marking, coverage);
+    straighten(random, &store, &lent, count, &marking, coverage);
     if is_judged_quickly(&held(&lent, count)) {
-        compare::scan(&lent, count, coverage);
+        compare::scan(&store, &lent, count, coverage);
     }
     let prefix = match random.below(10) {
         0 => count.saturating_add(1 + random.below(2)),
@@ -123,7 +135,7 @@ fn columns(random: &mut Random, events: &[Event], coverage: &mut Coverage) {
     let judged = held(&lent, prefix);
     if is_judged_quickly(&judged) {
         let mut output = output_for(random, marking_size(&judged));
-        compare::find(&lent, count, prefix, &mut output, coverage);
+        compare::find(&store, &lent, count, prefix, &mut output, coverage);
     }
 }
 
@@ -133,18 +145,19 @@ fn held(columns: &Columns, count: usize) -> Vec<Event> {
 }
 
 /// True where the marking is not what it was.
-fn marking(random: &mut Random, events: &[Event], coverage: &mut Coverage) -> bool {
+fn marking(random: &mut Random, log: &Log, coverage: &mut Coverage) -> bool {
+    let Log { store, events } = log;
     let sound = random_marking(random, events).to_bytes();
     let file = damage::file(random, sound.clone());
     let lent = columns_of(random, events);
-    compare::check(&lent, events.len(), &file, coverage);
-    straighten(random, &lent, events.len(), &file, coverage);
+    compare::check(store, &lent, events.len(), &file, coverage);
+    straighten(random, store, &lent, events.len(), &file, coverage);
     file != sound
 }
 
 /// With an output and a list that are perhaps too short, so that question 15 meets those before it.
-fn straighten(random: &mut Random, lent: &Columns, count: usize, file: &[u8], coverage: &mut Coverage) {
+fn straighten(random: &mut Random, store: &Store, lent: &Columns, count: usize, file: &[u8], coverage: &mut Coverage) {
     let mut output = output_for(random, file.len());
     let mut list = list_for(random, store_reads(&held(lent, count)).count());
-    compare::straighten(lent, count, file, &mut output, &mut list, coverage);
+    compare::straighten(store, lent, count, file, &mut output, &mut list, coverage);
 }

@@ -1,8 +1,9 @@
 //! Every readable history of a few events on two threads, one register and the values 0 and 1: tallied and judged as the brute force
-//! does it. Of those that have store reads, and of some longer ones, every marking gets its verdict and is straightened.
+//! does it, in edition 1 and, where something is read, in edition 2 over a start value of 1. Of those that have store reads, and of
+//! some longer ones, every marking gets its verdict and is straightened.
 
 use outside::compare;
-use outside::coverage::{judgements, Coverage, Entry};
+use outside::coverage::{judgements, Coverage, Entry, Started};
 use outside::straight;
 use reference::event::*;
 use reference::justification::is_justification;
@@ -11,6 +12,7 @@ use reference::marking_file::{Marking, Point};
 use reference::orders::{all_orders, all_outcomes};
 use reference::questions::refused_in_columns;
 use reference::reads::{store_reads, transactions};
+use reference::store::Store;
 use sendoshi::Answer;
 use std::thread;
 
@@ -40,6 +42,8 @@ fn every_small_history_is_judged_alike() {
     met.require(Entry::Check, judgements(Entry::Check));
     met.require(Entry::Straighten, judgements(Entry::Straighten));
     met.require_every_tallied();
+    // A start value that is read in vain takes eight events.
+    met.require_started(&[Started::EditionOne, Started::Read, Started::Hidden, Started::ZeroInVain]);
 }
 
 /// Histories with more writers and more reads: a point may be right at one gap, at some or at all.
@@ -49,7 +53,10 @@ fn every_marking_of_some_longer_histories_is_judged_alike() {
     let written = begun.write(0, 0, 1).write(1, 0, 2).write(1, 1, 5).commit(0).commit_called(1);
     let read = written.read(2, 0, 1).read(2, 1, 0).read(3, 0, 2);
     let mut met = Coverage::default();
-    [Log::h0(), Log::h7(), read].iter().for_each(|log| judge_markings(&log.events, &mut met));
+    let over_start = |log: &Log| Log { store: Store::of(&[(0, 1), (1, 5), (3, 7)]), ..log.clone() };
+    let logs = [Log::h0(), Log::h7(), read];
+    logs.iter().for_each(|log| judge_markings(log, &mut met));
+    logs.iter().for_each(|log| judge_markings(&over_start(log), &mut met));
     println!("{met}");
     met.allow();
     met.require(Entry::Check, &[0, 201, 204, 205]);
@@ -95,31 +102,42 @@ fn judge_all(history: &[Event], coverage: &mut Coverage) {
 }
 
 fn judge(history: &[Event], coverage: &mut Coverage) {
+    compare::tally(&Columns::of(history), history.len(), coverage);
+    judge_over(Store::ZERO, history, coverage);
+    // A start value makes no difference where nothing is read.
+    if history.iter().any(|e| e.kind == READ_RETURNED) {
+        judge_over(Store::of(&[(0, 1)]), history, coverage);
+    }
+}
+
+fn judge_over(store: Store, history: &[Event], coverage: &mut Coverage) {
     let (columns, count) = (Columns::of(history), history.len());
     let mut output = [0xee; 128];
-    compare::tally(&columns, count, coverage);
-    compare::scan(&columns, count, coverage);
-    compare::find(&columns, count, count, &mut output, coverage);
+    compare::scan(&store, &columns, count, coverage);
+    compare::find(&store, &columns, count, count, &mut output, coverage);
     if store_reads(history).next().is_some() {
-        judge_markings(history, coverage);
+        judge_markings(&Log { store, events: history.to_vec() }, coverage);
     }
 }
 
 /// Every order with every outcome and every gap.
-fn judge_markings(history: &[Event], coverage: &mut Coverage) {
-    let columns = Columns::of(history);
-    for places in all_outcomes(transactions(history)).flat_map(all_orders) {
-        for marking in all_gaps(history, Marking { places, points: vec![] }) {
-            compare::check(&columns, history.len(), &marking.to_bytes(), coverage);
-            straighten(history, &columns, &marking, coverage);
+fn judge_markings(log: &Log, coverage: &mut Coverage) {
+    let Log { store, events } = log;
+    let columns = Columns::of(events);
+    for places in all_outcomes(transactions(events)).flat_map(all_orders) {
+        for marking in all_gaps(events, Marking { places, points: vec![] }) {
+            compare::check(store, &columns, events.len(), &marking.to_bytes(), coverage);
+            straighten(log, &columns, &marking, coverage);
         }
     }
 }
 
-fn straighten(history: &[Event], columns: &Columns, marking: &Marking, coverage: &mut Coverage) {
+fn straighten(history: &Log, columns: &Columns, marking: &Marking, coverage: &mut Coverage) {
     let (mut output, mut list) = ([0xee; 128], [0xeeee; 8]);
-    let answer = compare::straighten(columns, history.len(), &marking.to_bytes(), &mut output, &mut list, coverage);
-    assert_eq!(answer.code == 0, is_justification(history, &marking.places), "a justification is straightened, and nothing else");
+    let Log { store, events } = history;
+    let answer = compare::straighten(store, columns, events.len(), &marking.to_bytes(), &mut output, &mut list, coverage);
+    let justified = is_justification(store, events, &marking.places);
+    assert_eq!(answer.code == 0, justified, "a justification is straightened, and nothing else");
     let answer = Answer { code: answer.code, place: answer.place };
     straight::keeps_its_promises(columns, history, marking, answer, &output, &list);
 }

@@ -8,10 +8,13 @@ use outside::marks::marked_history;
 use outside::random::Random;
 use outside::rounds;
 use outside::shapes::{columns_for, columns_of, list_for, marking_size, output_for};
-use reference::event::{Columns as Held, Event};
+use outside::stores::{damaged_store, starts_for};
+use reference::event::Columns as Held;
 use reference::history_file;
+use reference::log::Log;
 use reference::reads::store_reads;
-use sendoshi::{calls, Answer, Columns, ColumnsMut};
+use reference::store::Store as HeldStore;
+use sendoshi::{calls, Answer, Columns, ColumnsMut, Store};
 use std::os::unix::process::ExitStatusExt;
 use std::process::Command;
 use std::{env, ptr};
@@ -21,17 +24,20 @@ const SIDES: [Side; 2] = [Side::Before, Side::Behind];
 #[test]
 fn no_call_reaches_beyond_a_buffer() {
     rounds::run((rounds::rounds() / 20).max(1), |random, _| {
-        let (events, marking) = marked_history(random);
-        let marking = marking.to_bytes();
-        all_calls(random, &events, &history_file::write(&events), &marking);
-        let file = damage::file(random, history_file::write(&events));
+        let (log, marking) = marked_history(random);
+        let (file, marking) = (history_file::write(&log.store, &log.events), marking.to_bytes());
+        all_calls(random, &log, &file, &marking);
+        let file = damage::file(random, file);
         let marking = damage::file(random, marking);
-        let events = damage::events(random, events);
-        all_calls(random, &events, &file, &marking);
+        let log = Log { store: damaged_store(random, log.store), events: damage::events(random, log.events) };
+        all_calls(random, &log, &file, &marking);
     });
     let mut random = Random::new(0);
     for events in limits::histories() {
-        all_calls(&mut random, &events, &history_file::write(&events), &[4, 0, 2, 0, 1, 0]);
+        for store in [HeldStore::ZERO, HeldStore { edition: 2, starts: [9; 32] }] {
+            let file = history_file::write(&store, &events);
+            all_calls(&mut random, &Log { store, events: events.clone() }, &file, &[4, 0, 2, 0, 1, 0]);
+        }
     }
 }
 
@@ -54,60 +60,102 @@ fn a_touch_beyond_a_buffer_is_stopped() {
     }
 }
 
-fn all_calls(random: &mut Random, events: &[Event], file: &[u8], marking: &[u8]) {
-    let held = columns_of(random, events);
+fn all_calls(random: &mut Random, log: &Log, file: &[u8], marking: &[u8]) {
+    let Log { store, events } = log;
+    let held = Given { store: *store, columns: columns_of(random, events) };
     let (count, prefix) = (events.len(), random.below(events.len() + 1));
-    let lent = columns_for(random, count);
-    let written = output_for(random, history_file::write(events).len());
+    let (starts, lent) = (starts_for(random), columns_for(random, count));
+    let written = output_for(random, history_file::write(store, events).len());
     let found = output_for(random, marking_size(&events[..prefix]));
     let straight = output_for(random, marking.len());
     let moved = list_for(random, store_reads(events).count());
     for side in SIDES {
-        read(side, file, &lent);
-        let columns = GuardedColumns::new(&held, side);
+        read(side, file, &starts, &lent);
+        let guarded = GuardedGiven::new(&held, side);
         let marking_file = Guarded::new(marking, side);
-        assert_eq!(calls::check(columns.view(), count, marking_file.slice()), calls::check(view(&held), count, marking));
-        assert_eq!(calls::scan(columns.view(), count), calls::scan(view(&held), count));
-        assert_eq!(calls::transactions(columns.view(), count), calls::transactions(view(&held), count));
-        assert_eq!(calls::store_reads(columns.view(), count), calls::store_reads(view(&held), count));
-        assert_eq!(calls::tally(columns.view(), count), calls::tally(view(&held), count));
-        fill(side, &columns, &held, &written, |columns, output| calls::write(columns, count, output));
-        fill(side, &columns, &held, &found, |columns, output| calls::find(columns, count, prefix, output));
-        straighten(side, &columns, &held, count, &marking_file, &straight, &moved);
-        assert!(columns.hold(&held) && marking_file.slice() == marking, "a buffer that is only read has changed");
+        both(&guarded, &held, |store, columns| calls::scan(store, columns, count));
+        both(&guarded, &held, |_, columns| calls::transactions(columns, count));
+        both(&guarded, &held, |_, columns| calls::store_reads(columns, count));
+        both(&guarded, &held, |_, columns| calls::tally(columns, count));
+        let checked = calls::check(guarded.store(), guarded.columns.view(), count, marking_file.slice());
+        assert_eq!(checked, calls::check(held.store(), view(&held.columns), count, marking));
+        fill(side, &guarded, &held, &written, |store, columns, output| calls::write(store, columns, count, output));
+        fill(side, &guarded, &held, &found, |store, columns, output| calls::find(store, columns, count, prefix, output));
+        straighten(side, &guarded, &held, count, &marking_file, &straight, &moved);
+        assert!(guarded.holds(&held) && marking_file.slice() == marking, "a buffer that is only read has changed");
     }
 }
 
-fn read(side: Side, file: &[u8], lent: &Held) {
-    let mut columns = GuardedColumns::new(lent, side);
-    let mut plain = lent.clone();
+fn read(side: Side, file: &[u8], starts: &[u32; 32], lent: &Held) {
+    let (mut guarded_starts, mut columns) = (Guarded::new(starts, side), GuardedColumns::new(lent, side));
+    let (mut plain_starts, mut plain) = (*starts, lent.clone());
     let Held { kinds, transactions, registers, values } = &mut plain;
-    let expected = calls::read(file, ColumnsMut { kinds, transactions, registers, values });
+    let expected = calls::read(file, &mut plain_starts, ColumnsMut { kinds, transactions, registers, values });
     let file = Guarded::new(file, side);
-    assert_eq!(calls::read(file.slice(), columns.view_mut()), expected);
+    assert_eq!(calls::read(file.slice(), guarded_starts.starts_mut(), columns.view_mut()), expected);
+    assert_eq!(guarded_starts.starts(), &plain_starts, "the reader left other start values");
     assert!(columns.hold(&plain), "the reader left other columns");
 }
 
+/// A call that only reads.
+fn both(guarded: &GuardedGiven, held: &Given, call: impl Fn(Store, Columns) -> Answer) {
+    assert_eq!(call(guarded.store(), guarded.columns.view()), call(held.store(), view(&held.columns)));
+}
+
 /// A call that fills an output.
-fn fill(side: Side, columns: &GuardedColumns, held: &Held, output: &[u8], call: impl Fn(Columns, &mut [u8]) -> Answer) {
-    let mut guarded = Guarded::new(output, side);
+fn fill(side: Side, guarded: &GuardedGiven, held: &Given, output: &[u8], call: impl Fn(Store, Columns, &mut [u8]) -> Answer) {
+    let mut guarded_output = Guarded::new(output, side);
     let mut plain = output.to_vec();
-    assert_eq!(call(columns.view(), guarded.slice_mut()), call(view(held), &mut plain));
-    assert_eq!(guarded.slice(), plain);
+    let expected = call(held.store(), view(&held.columns), &mut plain);
+    assert_eq!(call(guarded.store(), guarded.columns.view(), guarded_output.slice_mut()), expected);
+    assert_eq!(guarded_output.slice(), plain);
 }
 
 /// The straightener, which fills an output and a list.
-fn straighten(side: Side, columns: &GuardedColumns, held: &Held, count: usize, file: &Guarded<u8>, output: &[u8], list: &[u32]) {
+fn straighten(side: Side, given: &GuardedGiven, held: &Given, count: usize, file: &Guarded<u8>, output: &[u8], list: &[u32]) {
     let (mut guarded, mut guarded_list) = (Guarded::new(output, side), Guarded::new(list, side));
     let (plain_file, mut plain, mut plain_list) = (file.slice().to_vec(), output.to_vec(), list.to_vec());
-    let expected = calls::straighten(view(held), count, &plain_file, &mut plain, &mut plain_list);
-    let answer = calls::straighten(columns.view(), count, file.slice(), guarded.slice_mut(), guarded_list.slice_mut());
-    assert_eq!(answer, expected);
+    let expected = calls::straighten(held.store(), view(&held.columns), count, &plain_file, &mut plain, &mut plain_list);
+    let (output, list) = (guarded.slice_mut(), guarded_list.slice_mut());
+    assert_eq!(calls::straighten(given.store(), given.columns.view(), count, file.slice(), output, list), expected);
     assert_eq!((guarded.slice(), guarded_list.slice()), (&plain[..], &plain_list[..]));
 }
 
 fn view(held: &Held) -> Columns<'_> {
     Columns { kinds: &held.kinds, transactions: &held.transactions, registers: &held.registers, values: &held.values }
+}
+
+/// What a call is given of a history: its store and its columns.
+struct Given {
+    store: HeldStore,
+    columns: Held,
+}
+
+impl Given {
+    fn store(&self) -> Store<'_> {
+        Store { edition: self.store.edition, starts: &self.store.starts }
+    }
+}
+
+struct GuardedGiven {
+    edition: u16,
+    starts: Guarded<u32>,
+    columns: GuardedColumns,
+}
+
+impl GuardedGiven {
+    fn new(held: &Given, side: Side) -> GuardedGiven {
+        let starts = Guarded::new(&held.store.starts, side);
+        GuardedGiven { edition: held.store.edition, starts, columns: GuardedColumns::new(&held.columns, side) }
+    }
+
+    fn store(&self) -> Store<'_> {
+        Store { edition: self.edition, starts: self.starts.starts() }
+    }
+
+    fn holds(&self, held: &Given) -> bool {
+        self.starts.slice() == held.store.starts && self.columns.hold(&held.columns)
+    }
 }
 
 struct GuardedColumns {

@@ -6,34 +6,37 @@ use outside::marks::{careless, changed, in_effect, random_marking};
 use outside::random::Random;
 use outside::rounds;
 use outside::simulate::{simulate, Faults, Plan};
+use outside::stores::random_store;
 use outside::straight;
 use plain::{Scanned, Straightened, Verdict};
 use reference::event::{Columns as Held, Event};
+use reference::log::Log;
 use reference::marking_file::Marking;
 use reference::{history_file, reads};
-use sendoshi::{calls, Cause, Columns, History, Rule, Scan};
+use sendoshi::{calls, Cause, Columns, History, Rule, Scan, Store};
 
 #[test]
 fn the_library_says_what_plain_rust_says() {
     rounds::run((rounds::rounds() / 500).max(1), |random, _| {
-        let events = capture(random);
-        let history = History::read(&history_file::write(&events)).expect("a simulated log is readable");
-        let held = Held::of(&events);
+        let log = capture(random);
+        let (history, events) = (readable(&log), &log.events);
+        let held = Held::of(events);
         assert_eq!(history.columns(), view(&held));
-        assert_eq!(history.transactions(), reads::transactions(&events));
+        assert_eq!(history.store(), library_store(&log));
+        assert_eq!(history.transactions(), reads::transactions(events));
         assert_eq!(history.store_reads(), plain::store_reads(plain_view(&held), events.len()).unwrap());
-        tallied(&history, &events);
-        assert_eq!(history.scan().unwrap(), scanned(&held, events.len()));
+        tallied(&history, events);
+        assert_eq!(history.scan().unwrap(), scanned(&log, &held));
         for prefix in [events.len(), random.below(events.len() + 1)] {
             let mut output = vec![0; 32_768];
-            let found = plain::find(plain_view(&held), events.len(), prefix, &mut output).unwrap();
+            let found = plain::find(plain_store(&log), plain_view(&held), events.len(), prefix, &mut output).unwrap();
             let found = found.map(|length| output[..length].to_vec());
             assert_eq!(history.lowest_marking(prefix).unwrap(), found, "prefix {prefix}");
             let guess = match found {
                 Some(file) => Marking::read(&events[..prefix], &file).unwrap(),
                 None => random_marking(random, &events[..prefix]),
             };
-            verdicts(random, &history, &held, prefix, guess);
+            verdicts(random, &history, &log, prefix, guess);
         }
     });
 }
@@ -42,10 +45,10 @@ fn the_library_says_what_plain_rust_says() {
 #[test]
 fn large_histories_are_tallied_as_in_plain_rust() {
     rounds::run((rounds::rounds() / 500).max(1), |random, _| {
-        let events = full_capture(random);
-        let history = History::read(&history_file::write(&events)).expect("a simulated log is readable");
+        let log = full_capture(random);
+        let (history, events) = (readable(&log), &log.events);
         let earlier = random.below(events.len());
-        tallied(&history, &events);
+        tallied(&history, events);
         tallied(&history.prefix(earlier).expect("a prefix"), &events[..earlier]);
     });
 }
@@ -55,16 +58,32 @@ fn large_histories_are_tallied_as_in_plain_rust() {
 #[test]
 fn large_markings_are_straightened_as_in_plain_rust() {
     let met = rounds::run((rounds::rounds() / 500).max(1), |random, coverage| {
-        let events = full_capture(random);
-        let order = in_effect(random, &events);
+        let log = full_capture(random);
+        let order = in_effect(random, &log.events);
         let order = if random.one_in(4) { changed(random, order) } else { order };
-        straightened(&events, &careless(random, order), coverage);
+        straightened(&log, &careless(random, order), coverage);
     });
     println!("{met}");
     met.allow();
     if rounds::rounds() >= 20_000 {
         met.require(Entry::Straighten, &[0, 205]);
     }
+}
+
+/// The history of a log, by its file. Plain Rust reads the same from it, and writes the same file.
+fn readable(log: &Log) -> History {
+    let (file, count) = (history_file::write(&log.store, &log.events), log.events.len());
+    let (small, mut starts, mut values) = (vec![0; count], [0; 32], vec![0; count]);
+    let (mut kinds, mut transactions, mut registers) = (small.clone(), small.clone(), small);
+    let read = plain::read(&file, &mut starts, &mut kinds, &mut transactions, &mut registers, &mut values);
+    assert_eq!((read, starts), (Ok((log.store.edition, count)), log.store.starts));
+    assert_eq!(Held { kinds, transactions, registers, values }, Held::of(&log.events));
+    let mut output = vec![0; file.len()];
+    let written = plain::write(plain_store(log), plain_view(&Held::of(&log.events)), count, &mut output);
+    assert_eq!((written, &output), (Ok(file.len()), &file));
+    let history = History::read(&file).expect("a simulated log is readable");
+    assert_eq!(history.to_bytes(), file);
+    history
 }
 
 /// A tally against plain Rust and against the definition, which is quick enough for any history that is known to be readable.
@@ -77,7 +96,7 @@ fn tallied(history: &History, events: &[Event]) {
     assert_eq!(committed + aborted + pending + live, history.transactions());
 }
 
-fn full_capture(random: &mut Random) -> Vec<Event> {
+fn full_capture(random: &mut Random) -> Log {
     let faults = [Faults::default(), Faults::default(), Faults::default(), Faults { reads: 1, commits: 5, answers: 5 }];
     let plan = Plan {
         transactions: 64,
@@ -87,26 +106,27 @@ fn full_capture(random: &mut Random) -> Vec<Event> {
         length: random.pick(&[10, 15, 20]),
         faults: random.pick(&faults),
     };
-    simulate(random, plan)
+    let store = random_store(random, plan.registers, 1_000);
+    simulate(random, store, plan)
 }
 
-fn straightened(events: &[Event], marking: &Marking, coverage: &mut Coverage) {
-    let (held, file) = (Held::of(events), marking.to_bytes());
+fn straightened(log: &Log, marking: &Marking, coverage: &mut Coverage) {
+    let (held, file, count) = (Held::of(&log.events), marking.to_bytes(), log.events.len());
     let (mut output, mut list) = (vec![0xee; file.len() + 10], vec![0xeeee; marking.points.len() + 1]);
     let (mut other_output, mut other_list) = (output.clone(), list.clone());
-    let answer = calls::straighten(view(&held), events.len(), &file, &mut output, &mut list);
-    let other = plain::straighten(plain_view(&held), events.len(), &file, &mut other_output, &mut other_list).unwrap();
-    let expected = match other {
+    let answer = calls::straighten(library_store(log), view(&held), count, &file, &mut output, &mut list);
+    let other = plain::straighten(plain_store(log), plain_view(&held), count, &file, &mut other_output, &mut other_list);
+    let expected = match other.unwrap() {
         Straightened::Done { length, moved } => (0, moved * 65_536 + length),
         Straightened::Broken(rule, event, transaction) => (201 + rule as u32 - 'A' as u32, event * 65_536 + transaction),
     };
     assert_eq!((answer.code, answer.place as usize), expected);
     assert_eq!((&output, &list), (&other_output, &other_list));
-    straight::keeps_its_promises(&held, events, marking, answer, &output, &list);
+    straight::keeps_its_promises(&held, log, marking, answer, &output, &list);
     coverage.note(Entry::Straighten, answer.code);
 }
 
-fn capture(random: &mut Random) -> Vec<Event> {
+fn capture(random: &mut Random) -> Log {
     let faults = [Faults::default(), Faults::default(), Faults { reads: 1, commits: 20, answers: 5 }];
     let plan = Plan {
         transactions: 10,
@@ -116,16 +136,18 @@ fn capture(random: &mut Random) -> Vec<Event> {
         length: random.pick(&[10, 50, 100]),
         faults: random.pick(&faults),
     };
-    simulate(random, plan)
+    let store = random_store(random, plan.registers, 1_000);
+    simulate(random, store, plan)
 }
 
 /// The verdicts on a marking and on some that differ from it.
-fn verdicts(random: &mut Random, history: &History, held: &Held, prefix: usize, marking: Marking) {
+fn verdicts(random: &mut Random, history: &History, log: &Log, prefix: usize, marking: Marking) {
+    let held = Held::of(&log.events);
     let judged = history.prefix(prefix).expect("a prefix");
     let mut marking = marking;
     for _ in 0..4 {
         let file = marking.to_bytes();
-        let verdict = match plain::check(plain_view(held), prefix, &file).unwrap() {
+        let verdict = match plain::check(plain_store(log), plain_view(&held), prefix, &file).unwrap() {
             Verdict::Accepted => sendoshi::Verdict::Accepted,
             Verdict::Broken(rule, event, transaction) => {
                 let rules = [Rule::A, Rule::B, Rule::C, Rule::D, Rule::E];
@@ -138,14 +160,22 @@ fn verdicts(random: &mut Random, history: &History, held: &Held, prefix: usize, 
     }
 }
 
-fn scanned(held: &Held, count: usize) -> Scan {
-    match plain::scan(plain_view(held), count).unwrap() {
+fn scanned(log: &Log, held: &Held) -> Scan {
+    match plain::scan(plain_store(log), plain_view(held), log.events.len()).unwrap() {
         Scanned::Opaque => Scan::Opaque,
         Scanned::Faulted(event, cause) => {
             let causes = [Cause::ReadReturned, Cause::Committed, Cause::Aborted, Cause::Other];
             Scan::Faulted { event, cause: causes[usize::from(cause) - 1] }
         }
     }
+}
+
+fn library_store(log: &Log) -> Store<'_> {
+    Store { edition: log.store.edition, starts: &log.store.starts }
+}
+
+fn plain_store(log: &Log) -> plain::Store<'_> {
+    plain::Store { edition: log.store.edition, starts: &log.store.starts }
 }
 
 fn view(held: &Held) -> Columns<'_> {

@@ -3,6 +3,7 @@
 use crate::accesses::{Accesses, StoreRead};
 use crate::columns::*;
 use crate::marking_file::{read_marking, Marking};
+use crate::store::Store;
 
 #[derive(Clone, Copy, Debug, PartialEq, Eq)]
 pub enum Verdict {
@@ -12,13 +13,13 @@ pub enum Verdict {
 }
 
 /// Checks a marking of the first `count` events.
-pub fn check(columns: Columns, count: usize, file: &[u8]) -> Result<Verdict, Refusal> {
-    columns.validate(count)?;
+pub fn check(store: Store, columns: Columns, count: usize, file: &[u8]) -> Result<Verdict, Refusal> {
+    columns.validate_over(store, count)?;
     let accesses = Accesses::of(columns, count);
     let marking = read_marking(file, &accesses)?;
     let broken = broken_order(columns, &accesses, &marking)
-        .or_else(|| first_read(&accesses, &marking, 'D', overwritten))
-        .or_else(|| first_read(&accesses, &marking, 'E', wrong_value));
+        .or_else(|| first_read(&accesses, &marking, 'D', |read, gap| overwritten(&accesses, &marking, read, gap)))
+        .or_else(|| first_read(&accesses, &marking, 'E', |read, gap| wrong_value(store, &accesses, &marking, read, gap)));
     Ok(broken.map_or(Verdict::Accepted, |(rule, event, transaction)| Verdict::Broken(rule, event, transaction)))
 }
 
@@ -51,10 +52,10 @@ fn first_read(
     accesses: &Accesses,
     marking: &Marking,
     rule: char,
-    breaks: fn(&Accesses, &Marking, &StoreRead, usize) -> bool,
+    breaks: impl Fn(&StoreRead, usize) -> bool,
 ) -> Option<(char, usize, usize)> {
     let mut reads = accesses.store_reads.iter().zip(&marking.gaps);
-    let (read, _) = reads.find(|(read, &gap)| breaks(accesses, marking, read, gap))?;
+    let (read, _) = reads.find(|(read, &gap)| breaks(read, gap))?;
     Some((rule, read.event, usize::from(read.transaction)))
 }
 
@@ -74,8 +75,8 @@ pub fn overwritten(accesses: &Accesses, marking: &Marking, read: &StoreRead, gap
 }
 
 /// Rule E.
-pub fn wrong_value(accesses: &Accesses, marking: &Marking, read: &StoreRead, gap: usize) -> bool {
+pub fn wrong_value(store: Store, accesses: &Accesses, marking: &Marking, read: &StoreRead, gap: usize) -> bool {
     let before = marking.order[..gap].iter().rev();
     let last = before.filter_map(|&t| written(accesses, marking, read, t)).next();
-    last.unwrap_or(0) != read.value
+    last.unwrap_or(store.starts[usize::from(read.register)]) != read.value
 }

@@ -3,11 +3,13 @@
 use crate::columns::*;
 use crate::history_file::Writer;
 use crate::search::lowest;
+use crate::store::Store;
 use crate::tables::{Tables, MOST};
 
 /// Writes the lowest marking of a prefix and returns its length, or `None` where no order justifies the prefix.
-pub fn find(columns: Columns, count: usize, prefix: usize, output: &mut [u8]) -> Result<Option<usize>, Refusal> {
+pub fn find(store: Store, columns: Columns, count: usize, prefix: usize, output: &mut [u8]) -> Result<Option<usize>, Refusal> {
     columns.hold(count)?;
+    store.admit(count)?;
     if prefix > count {
         return refuse(18, count);
     }
@@ -24,7 +26,7 @@ pub fn find(columns: Columns, count: usize, prefix: usize, output: &mut [u8]) ->
     if output.len() < length {
         return refuse(32, count);
     }
-    let Some(order) = lowest(&tables) else {
+    let Some(order) = lowest(store.starts, &tables) else {
         return Ok(None);
     };
     let mut place = [0u16; MOST];

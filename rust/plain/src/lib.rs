@@ -13,6 +13,7 @@ mod marking_file;
 mod progress;
 mod scan;
 mod search;
+mod store;
 mod straighten;
 mod tables;
 mod tally;
@@ -22,6 +23,7 @@ pub use columns::{Columns, Refusal};
 pub use find::find;
 pub use history_file::{read, write};
 pub use scan::{scan, Scanned};
+pub use store::Store;
 pub use straighten::{straighten, Straightened};
 pub use tally::{tally, Tally};
 

@@ -19,7 +19,7 @@ const UNPLACED: usize = usize::MAX;
 
 /// Questions 1, 2 and 21 to 29.
 pub fn read_marking(file: &[u8], accesses: &Accesses) -> Result<Marking, Refusal> {
-    let mut rest = behind_head(file, 2, 21)?;
+    let (_, mut rest) = behind_head(file, 2, 1, 21)?;
     let mut marking = Marking {
         order: Vec::with_capacity(accesses.spans.len()),
         place: [UNPLACED; TRANSACTIONS],

@@ -2,6 +2,7 @@
 
 use crate::columns::*;
 use crate::search::lowest;
+use crate::store::Store;
 use crate::tables::{Tables, MOST};
 
 #[derive(Clone, Copy, Debug, PartialEq, Eq)]
@@ -12,15 +13,15 @@ pub enum Scanned {
 }
 
 /// Judges the prefixes of the first `count` events by rising length, each by a search of its own.
-pub fn scan(columns: Columns, count: usize) -> Result<Scanned, Refusal> {
-    columns.validate(count)?;
+pub fn scan(store: Store, columns: Columns, count: usize) -> Result<Scanned, Refusal> {
+    columns.validate_over(store, count)?;
     if columns.kinds[..count].iter().filter(|&&kind| kind == BEGIN).count() > MOST {
         return refuse(31, count);
     }
     let mut tables = Tables::new();
     for (at, event) in columns.events(count).enumerate() {
         tables.add(at, event);
-        if lowest(&tables).is_none() {
+        if lowest(store.starts, &tables).is_none() {
             let cause = match event.kind {
                 READ_RETURNED => 1,
                 COMMITTED => 2,

@@ -6,14 +6,14 @@ use crate::tables::{Tables, Transaction};
 /// A transaction and whether it is taken as committed.
 pub type Place = (usize, bool);
 
-/// The lowest justification of the prefix that the tables describe.
-pub fn lowest(tables: &Tables) -> Option<Vec<Place>> {
+/// The lowest justification of the prefix that the tables describe, in a store that starts with these values.
+pub fn lowest(starts: &[u32; REGISTERS], tables: &Tables) -> Option<Vec<Place>> {
     if tables.hopeless {
         return None;
     }
     let mut order = Vec::with_capacity(tables.transactions.len());
     let all = (1 << tables.transactions.len()) - 1;
-    place_rest(&tables.transactions, all, &[0; REGISTERS], &mut order).then_some(order)
+    place_rest(&tables.transactions, all, starts, &mut order).then_some(order)
 }
 
 /// Places the transactions that are left, lower ones first and aborted before committed.

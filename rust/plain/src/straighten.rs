@@ -4,6 +4,7 @@ use crate::accesses::Accesses;
 use crate::check::{broken_order, overwritten, wrong_value};
 use crate::columns::*;
 use crate::marking_file::{read_marking, Marking};
+use crate::store::Store;
 
 #[derive(Clone, Copy, Debug, PartialEq, Eq)]
 pub enum Straightened {
@@ -15,19 +16,20 @@ pub enum Straightened {
 
 /// Writes a marking of the first `count` events with its careless points moved to their readers, and lists the events of those.
 pub fn straighten(
+    store: Store,
     columns: Columns,
     count: usize,
     file: &[u8],
     output: &mut [u8],
     list: &mut [u32],
 ) -> Result<Straightened, Refusal> {
-    columns.validate(count)?;
+    columns.validate_over(store, count)?;
     let accesses = Accesses::of(columns, count);
     let marking = read_marking(file, &accesses)?;
     if output.len() < file.len() || list.len() < accesses.store_reads.len() {
         return refuse(15, count);
     }
-    let moves = match moves(columns, &accesses, &marking) {
+    let moves = match moves(store, columns, &accesses, &marking) {
         Ok(moves) => moves,
         Err((rule, event, transaction)) => return Ok(Straightened::Broken(rule, event, transaction)),
     };
@@ -41,15 +43,20 @@ pub fn straighten(
 }
 
 /// The points that are moved, each with its reader's place, or what is broken all the same.
-fn moves(columns: Columns, accesses: &Accesses, marking: &Marking) -> Result<Vec<(usize, usize)>, (char, usize, usize)> {
+fn moves(
+    store: Store,
+    columns: Columns,
+    accesses: &Accesses,
+    marking: &Marking,
+) -> Result<Vec<(usize, usize)>, (char, usize, usize)> {
     if let Some(broken) = broken_order(columns, accesses, marking) {
         return Err(broken);
     }
     let mut moves = Vec::with_capacity(accesses.store_reads.len());
     for (point, (read, &gap)) in accesses.store_reads.iter().zip(&marking.gaps).enumerate() {
-        if overwritten(accesses, marking, read, gap) || wrong_value(accesses, marking, read, gap) {
+        if overwritten(accesses, marking, read, gap) || wrong_value(store, accesses, marking, read, gap) {
             let reader = marking.place[usize::from(read.transaction)];
-            if wrong_value(accesses, marking, read, reader) {
+            if wrong_value(store, accesses, marking, read, reader) {
                 return Err(('E', read.event, usize::from(read.transaction)));
             }
             moves.push((point, reader));

@@ -8,6 +8,7 @@ use crate::questions::refused_in_columns;
 use crate::reads;
 use crate::record::{refuse, Refusal};
 use crate::rules::{verdict, Rule, Verdict};
+use crate::store::{Store, REGISTERS};
 use crate::straighten;
 use crate::tally::{self, Tally};
 
@@ -29,23 +30,24 @@ fn answer(result: Result<(u32, usize), Refusal>) -> Answer {
     Answer { code, place: u32::try_from(place).unwrap_or(u32::MAX) }
 }
 
-/// Reads a file into columns.
-pub fn read(file: &[u8], columns: &mut Columns) -> Answer {
-    answer(history_file::read(file).and_then(|events| {
+/// Reads a file into 32 start values and columns.
+pub fn read(file: &[u8], starts: &mut [u32; REGISTERS], columns: &mut Columns) -> Answer {
+    answer(history_file::read(file).and_then(|(store, events)| {
         if !columns.hold(events.len()) {
             return refuse(14, file.len());
         }
         for (at, &event) in events.iter().enumerate() {
             columns.put(at, event);
         }
-        Ok((0, events.len()))
+        *starts = store.starts;
+        Ok((0, usize::from(store.edition) * 65_536 + events.len()))
     }))
 }
 
 /// Writes columns as a file.
-pub fn write(columns: &Columns, count: usize, output: &mut [u8]) -> Answer {
-    answer(history(columns, count).and_then(|events| {
-        let file = history_file::write(&events);
+pub fn write(store: &Store, columns: &Columns, count: usize, output: &mut [u8]) -> Answer {
+    answer(stored_history(store, columns, count).and_then(|events| {
+        let file = history_file::write(store, &events);
         if output.len() < file.len() {
             return refuse(15, count);
         }
@@ -55,8 +57,8 @@ pub fn write(columns: &Columns, count: usize, output: &mut [u8]) -> Answer {
 }
 
 /// The lowest justification of a prefix, as a marking.
-pub fn find(columns: &Columns, count: usize, prefix: usize, output: &mut [u8]) -> Answer {
-    answer(holds(columns, count).and_then(|()| {
+pub fn find(store: &Store, columns: &Columns, count: usize, prefix: usize, output: &mut [u8]) -> Answer {
+    answer(holds_over(store, columns, count).and_then(|()| {
         if prefix > count {
             return refuse(18, count);
         }
@@ -69,7 +71,7 @@ pub fn find(columns: &Columns, count: usize, prefix: usize, output: &mut [u8]) -
         if output.len() < 6 + 8 * transactions + 10 * reads::store_reads(judged).count() {
             return refuse(32, count);
         }
-        let Some(order) = lowest(judged) else {
+        let Some(order) = lowest(store, judged) else {
             return Ok((NONE, 0));
         };
         let file = Marking::of(judged, &order).to_bytes();
@@ -79,12 +81,12 @@ pub fn find(columns: &Columns, count: usize, prefix: usize, output: &mut [u8]) -
 }
 
 /// Judges every prefix.
-pub fn scan(columns: &Columns, count: usize) -> Answer {
-    answer(history(columns, count).and_then(|events| {
+pub fn scan(store: &Store, columns: &Columns, count: usize) -> Answer {
+    answer(stored_history(store, columns, count).and_then(|events| {
         if reads::transactions(&events) > MOST_JUDGED {
             return refuse(31, count);
         }
-        Ok(match judge(&events) {
+        Ok(match judge(store, &events) {
             Scanned::Opaque => (0, 0),
             Scanned::Faulted { event, cause } => (100 + u32::from(cause), event),
         })
@@ -92,10 +94,10 @@ pub fn scan(columns: &Columns, count: usize) -> Answer {
 }
 
 /// Checks a marking of the history.
-pub fn check(columns: &Columns, count: usize, file: &[u8]) -> Answer {
-    answer(history(columns, count).and_then(|events| {
+pub fn check(store: &Store, columns: &Columns, count: usize, file: &[u8]) -> Answer {
+    answer(stored_history(store, columns, count).and_then(|events| {
         let marking = Marking::read(&events, file)?;
-        Ok(match verdict(&events, &marking) {
+        Ok(match verdict(store, &events, &marking) {
             Verdict::Accepted => (0, 0),
             Verdict::Broken { rule, event, transaction } => broken(rule, event, transaction),
         })
@@ -103,17 +105,17 @@ pub fn check(columns: &Columns, count: usize, file: &[u8]) -> Answer {
 }
 
 /// Straightens the read points of a marking of the history, and lists the events of those that were moved.
-pub fn straighten(columns: &Columns, count: usize, file: &[u8], output: &mut [u8], list: &mut [u32]) -> Answer {
-    answer(history(columns, count).and_then(|events| {
+pub fn straighten(store: &Store, columns: &Columns, count: usize, file: &[u8], output: &mut [u8], list: &mut [u32]) -> Answer {
+    answer(stored_history(store, columns, count).and_then(|events| {
         let marking = Marking::read(&events, file)?;
         if output.len() < file.len() || list.len() < reads::store_reads(&events).count() {
             return refuse(15, count);
         }
-        let straight = straighten::straighten(&events, &marking);
-        if let Verdict::Broken { rule, event, transaction } = verdict(&events, &straight) {
+        let straight = straighten::straighten(store, &events, &marking);
+        if let Verdict::Broken { rule, event, transaction } = verdict(store, &events, &straight) {
             return Ok(broken(rule, event, transaction));
         }
-        let (bytes, moved) = (straight.to_bytes(), straighten::moved(&events, &marking));
+        let (bytes, moved) = (straight.to_bytes(), straighten::moved(store, &events, &marking));
         output[..bytes.len()].copy_from_slice(&bytes);
         list[..moved.len()].copy_from_slice(&moved);
         Ok((0, moved.len() * 65_536 + bytes.len()))
@@ -156,6 +158,21 @@ fn holds(columns: &Columns, count: usize) -> Result<(), Refusal> {
         true => Ok(()),
         false => refuse(17, count),
     }
+}
+
+/// Questions 17 and 3.
+fn holds_over(store: &Store, columns: &Columns, count: usize) -> Result<(), Refusal> {
+    holds(columns, count)?;
+    match store.is_admitted() {
+        true => Ok(()),
+        false => refuse(3, count),
+    }
+}
+
+/// The events of columns over a store, by questions 17 and 3 and each event's own.
+fn stored_history(store: &Store, columns: &Columns, count: usize) -> Result<Vec<Event>, Refusal> {
+    holds_over(store, columns, count)?;
+    history(columns, count)
 }
 
 /// The events of columns, by question 17 and each event's own.

@@ -2,6 +2,7 @@
 
 use crate::event::*;
 use crate::reads::*;
+use crate::store::Store;
 
 /// Aborted comes before committed.
 #[derive(Clone, Copy, Debug, PartialEq, Eq, PartialOrd, Ord)]
@@ -61,19 +62,19 @@ pub fn keeps_real_time(history: &[Event], order: &[Place]) -> bool {
     })
 }
 
-/// The value of the last writer placed before the reader, or 0.
-pub fn is_legal(history: &[Event], order: &[Place], read: usize) -> bool {
+/// The value of the last writer placed before the reader, or the register's start value.
+pub fn is_legal(store: &Store, history: &[Event], order: &[Place], read: usize) -> bool {
     let Event { transaction, register, value, .. } = history[read];
     let before = &order[..place_of(order, transaction)];
     let last = before.iter().rev().find_map(|&place| written(history, place, register));
-    value == last.unwrap_or(0)
+    value == last.unwrap_or(store.start(register))
 }
 
 /// The definition, part by part.
-pub fn is_justification(history: &[Event], order: &[Place]) -> bool {
+pub fn is_justification(store: &Store, history: &[Event], order: &[Place]) -> bool {
     is_order(history, order)
         && order.iter().all(|&place| is_allowed(history, place))
         && keeps_real_time(history, order)
         && own_reads(history).all(|read| own_read_is_right(history, read))
-        && store_reads(history).all(|read| is_legal(history, order, read))
+        && store_reads(history).all(|read| is_legal(store, history, order, read))
 }

@@ -19,6 +19,7 @@ pub mod reads;
 pub mod record;
 pub mod report;
 pub mod rules;
+pub mod store;
 pub mod straighten;
 pub mod tally;
 pub mod worked;

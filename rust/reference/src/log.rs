@@ -2,16 +2,24 @@
 
 use crate::event::*;
 use crate::questions::{begins, pending};
+use crate::store::Store;
 
 /// A history under construction. Nothing is refused: a log may hold what no reader would take.
 #[derive(Clone, Debug, Default, PartialEq, Eq)]
 pub struct Log {
+    pub store: Store,
     pub events: Vec<Event>,
 }
 
 impl Log {
+    /// Edition 1, in which every register starts at 0.
     pub fn new() -> Log {
         Log::default()
+    }
+
+    /// Edition 2, in which these registers start with these values and the others with 0.
+    pub fn starting(starts: &[(u16, u32)]) -> Log {
+        Log { store: Store::of(starts), events: Vec::new() }
     }
 
     /// Adds an event as it stands.

@@ -6,6 +6,7 @@ use crate::reads::{store_reads, transactions};
 use crate::record::*;
 
 pub const HEAD: u16 = 2;
+pub const EDITION: u16 = 1;
 pub const PLACE: u16 = 32;
 pub const POINT: u16 = 33;
 
@@ -48,7 +49,7 @@ impl Marking {
 
     /// A file's marking for a history, by questions 1, 2 and 21 to 29.
     pub fn read(history: &[Event], file: &[u8]) -> Result<Marking, Refusal> {
-        let mut byte = head(file, HEAD, 21)?;
+        let (_, mut byte) = head(file, HEAD, &[EDITION], 21)?;
         let mut marking = Marking { places: Vec::new(), points: Vec::new() };
         while byte < file.len() {
             let record = record_at(file, byte)?;

@@ -5,13 +5,16 @@ use crate::judgement::{scan, Scanned};
 use crate::marking_file::Marking;
 use crate::reads::{store_reads, transactions};
 use crate::rules::{verdict, Verdict};
+use crate::store::Store;
 use crate::tally::{tally, Tally};
 use crate::{entries, history_file};
 
 /// The report on a history file and a marking file; an absent one is empty.
 pub fn report(history: &[u8], marking: &[u8]) -> String {
     match history_file::read(history) {
-        Ok(events) => counted(&events) + &tallied(&events) + &checked(&events, marking) + &judged(&events),
+        Ok((store, events)) => {
+            counted(&events) + &tallied(&events) + &checked(&store, &events, marking) + &judged(&store, &events)
+        }
         Err(refusal) => format!("history refused {} byte {}\n", refusal.number, refusal.place),
     }
 }
@@ -28,8 +31,8 @@ pub fn tallied(events: &[Event]) -> String {
 }
 
 /// The line on the marking.
-fn checked(events: &[Event], marking: &[u8]) -> String {
-    match Marking::read(events, marking).map(|m| verdict(events, &m)) {
+fn checked(store: &Store, events: &[Event], marking: &[u8]) -> String {
+    match Marking::read(events, marking).map(|m| verdict(store, events, &m)) {
         Err(refusal) => format!("marking refused {} byte {}\n", refusal.number, refusal.place),
         Ok(Verdict::Accepted) => "marking accepted\n".to_string(),
         Ok(Verdict::Broken { rule, event, transaction }) => {
@@ -39,11 +42,11 @@ fn checked(events: &[Event], marking: &[u8]) -> String {
 }
 
 /// The last line.
-fn judged(events: &[Event]) -> String {
+fn judged(store: &Store, events: &[Event]) -> String {
     if transactions(events) > entries::MOST_JUDGED {
         return "opaque refused 31\n".to_string();
     }
-    match scan(events) {
+    match scan(store, events) {
         Scanned::Opaque => "opaque yes\n".to_string(),
         Scanned::Faulted { event, cause } => format!("opaque no event {event} cause {cause}\n"),
     }

@@ -4,6 +4,7 @@ use crate::event::*;
 use crate::justification::*;
 use crate::marking_file::{Marking, Point};
 use crate::reads::*;
+use crate::store::Store;
 
 #[derive(Clone, Copy, Debug, PartialEq, Eq)]
 pub enum Rule {
@@ -21,7 +22,7 @@ pub enum Verdict {
 }
 
 /// The first rule that is broken, at its lowest transaction or event.
-pub fn verdict(history: &[Event], marking: &Marking) -> Verdict {
+pub fn verdict(store: &Store, history: &[Event], marking: &Marking) -> Verdict {
     let all = 0..transactions(history) as u16;
     let order = &marking.places;
     if let Some(t) = all.clone().find(|&t| !is_allowed(history, order[place_of(order, t)])) {
@@ -39,7 +40,7 @@ pub fn verdict(history: &[Event], marking: &Marking) -> Verdict {
     if let Some(p) = marking.points.iter().find(|p| is_overwritten(history, order, p)) {
         return at_read(history, Rule::D, p.event as usize);
     }
-    if let Some(p) = marking.points.iter().find(|p| is_misread(history, order, p)) {
+    if let Some(p) = marking.points.iter().find(|p| is_misread(store, history, order, p)) {
         return at_read(history, Rule::E, p.event as usize);
     }
     Verdict::Accepted
@@ -66,13 +67,13 @@ pub fn is_overwritten(history: &[Event], order: &[Place], point: &Point) -> bool
 }
 
 /// Rule E: is the value another one than that at the point?
-pub fn is_misread(history: &[Event], order: &[Place], point: &Point) -> bool {
-    history[point.event as usize].value != value_at(history, order, point)
+pub fn is_misread(store: &Store, history: &[Event], order: &[Place], point: &Point) -> bool {
+    history[point.event as usize].value != value_at(store, history, order, point)
 }
 
-/// The value of the last writer before the gap other than the reader, or 0.
-fn value_at(history: &[Event], order: &[Place], point: &Point) -> u32 {
+/// The value of the last writer before the gap other than the reader, or the register's start value.
+fn value_at(store: &Store, history: &[Event], order: &[Place], point: &Point) -> u32 {
     let Event { transaction, register, .. } = history[point.event as usize];
     let before = order[..usize::from(point.gap)].iter().rev().filter(|p| p.transaction != transaction);
-    before.filter_map(|&place| written(history, place, register)).next().unwrap_or(0)
+    before.filter_map(|&place| written(history, place, register)).next().unwrap_or(store.start(register))
 }

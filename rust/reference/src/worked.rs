@@ -1,29 +1,54 @@
 //! The histories of the paper and of its sources with what each call must answer: one list, which the tests put to this crate and to
 //! the library alike.
 
+mod starts;
+
 use crate::entries::{Answer, NONE};
-use crate::event::*;
 use crate::history_file;
 use crate::justification::{Outcome, Place};
 use crate::log::Log;
 use crate::marking_file::{Marking, Point};
+use crate::store::{Store, REGISTERS};
 use Outcome::{Aborted, Committed};
 
 /// A call. Columns are exactly as long as the history; outputs and the columns of a reader are long enough.
 #[derive(Clone, Debug)]
 pub enum Call {
     Read(Vec<u8>),
-    Scan(Vec<Event>),
+    Write(Log),
+    Scan(Log),
     /// The finder on the whole history.
-    Find(Vec<Event>),
-    Check(Vec<Event>, Vec<u8>),
+    Find(Log),
+    Check(Log, Vec<u8>),
     /// The list is as long as the history.
-    Straighten(Vec<Event>, Vec<u8>),
-    Tally(Vec<Event>),
+    Straighten(Log, Vec<u8>),
+    Tally(Log),
+}
+
+/// What a call may write to, besides columns.
+#[derive(Clone, Debug)]
+pub struct Buffers {
+    pub output: Vec<u8>,
+    pub moved: Vec<u32>,
+    pub starts: [u32; REGISTERS],
+}
+
+/// What the start values hold before a call.
+const UNREAD: [u32; REGISTERS] = [0xeeee_eeee; REGISTERS];
+
+impl Buffers {
+    /// An output of zeros for any file, a list of zeros with an entry for every event, and start values that are none.
+    pub fn for_call(call: &Call) -> Buffers {
+        let entries = match call {
+            Call::Straighten(log, _) => log.events.len(),
+            _ => 0,
+        };
+        Buffers { output: vec![0; 32_768], moved: vec![0; entries], starts: UNREAD }
+    }
 }
 
 /// A call with its answer, and with what it writes to the output and to the list of moved events, where that is of interest. Nothing
-/// is written behind it.
+/// is written behind it. Start values are written by a reader that is done, and by nothing else.
 #[derive(Clone, Debug)]
 pub struct Worked {
     pub name: String,
@@ -31,14 +56,15 @@ pub struct Worked {
     pub answer: Answer,
     pub output: Option<Vec<u8>>,
     pub moved: Option<Vec<u32>>,
+    pub starts: Option<[u32; REGISTERS]>,
 }
 
 impl Worked {
-    /// Do an output and a list that held zeros now hold what they should, and zeros behind it?
-    pub fn is_written(&self, output: &[u8], list: &[u32]) -> bool {
-        let output_is = self.output.as_ref().is_none_or(|bytes| begins_with_only(output, bytes));
-        let list_is = self.moved.as_ref().is_none_or(|events| begins_with_only(list, events));
-        output_is && list_is
+    /// Do the buffers, after the call, hold what they should, and behind it what they held?
+    pub fn is_written(&self, buffers: &Buffers) -> bool {
+        let output_is = self.output.as_ref().is_none_or(|bytes| begins_with_only(&buffers.output, bytes));
+        let list_is = self.moved.as_ref().is_none_or(|events| begins_with_only(&buffers.moved, events));
+        output_is && list_is && buffers.starts == self.starts.unwrap_or(UNREAD)
     }
 }
 
@@ -47,7 +73,7 @@ fn begins_with_only<T: PartialEq + Default>(buffer: &[T], entries: &[T]) -> bool
 }
 
 fn worked(name: &str, call: Call, code: u32, place: u32) -> Worked {
-    Worked { name: name.to_string(), call, answer: Answer { code, place }, output: None, moved: None }
+    Worked { name: name.to_string(), call, answer: Answer { code, place }, output: None, moved: None, starts: None }
 }
 
 /// A broken rule, packed as the library does.
@@ -56,19 +82,25 @@ fn broken(name: &str, call: Call, rule: char, event: u32, transaction: u32) -> W
 }
 
 fn check(log: &Log, places: &[(u16, Outcome)], points: &[(u32, u16)]) -> Call {
-    Call::Check(log.events.clone(), marking(places, points))
+    Call::Check(log.clone(), marking(places, points))
+}
+
+/// A file that is read: its edition, its event count and its start values.
+fn is_read(name: &str, file: Vec<u8>, store: Store, count: u32) -> Worked {
+    let place = u32::from(store.edition) * 65_536 + count;
+    Worked { starts: Some(store.starts), ..worked(name, Call::Read(file), 0, place) }
 }
 
 /// A marking that is straightened: what is written, and the events whose points are moved.
 fn straightened(name: &str, log: &Log, file: Vec<u8>, straight: Vec<u8>, moved: &[u32]) -> Worked {
     let place = moved.len() as u32 * 65_536 + straight.len() as u32;
-    let example = worked(name, Call::Straighten(log.events.clone(), file), 0, place);
+    let example = worked(name, Call::Straighten(log.clone(), file), 0, place);
     Worked { output: Some(straight), moved: Some(moved.to_vec()), ..example }
 }
 
 /// A marking whose points are of no help: nothing is written.
 fn unjustified(name: &str, log: &Log, file: Vec<u8>, rule: char, event: u32, transaction: u32) -> Worked {
-    let example = broken(name, Call::Straighten(log.events.clone(), file), rule, event, transaction);
+    let example = broken(name, Call::Straighten(log.clone(), file), rule, event, transaction);
     Worked { output: Some(vec![]), moved: Some(vec![]), ..example }
 }
 
@@ -78,15 +110,23 @@ fn tallied(name: &str, log: &Log, [committed, aborted, pending, live]: [u32; 4])
 }
 
 fn tally(log: &Log) -> Call {
-    Call::Tally(log.events.clone())
+    Call::Tally(log.clone())
 }
 
 fn scan(log: &Log) -> Call {
-    Call::Scan(log.events.clone())
+    Call::Scan(log.clone())
+}
+
+fn find(log: &Log) -> Call {
+    Call::Find(log.clone())
 }
 
 fn read(log: &Log) -> Call {
-    Call::Read(history_file::write(&log.events))
+    Call::Read(file(log))
+}
+
+fn file(log: &Log) -> Vec<u8> {
+    history_file::write(&log.store, &log.events)
 }
 
 /// The bytes of a marking with these places and points.
@@ -104,7 +144,7 @@ pub fn h0_marking() -> Vec<u8> {
 
 /// Every example.
 pub fn all() -> Vec<Worked> {
-    [starred(), straightenings(), tallies(), limits(), sources()].concat()
+    [starred(), straightenings(), tallies(), limits(), sources(), starts::all()].concat()
 }
 
 /// The starred histories of the paper, in its order.
@@ -117,23 +157,23 @@ fn starred() -> Vec<Worked> {
     let stale = Log::new().begin(0).write(0, 0, 1).commit(0).begin(1).read(1, 0, 0);
     let own = Log::new().begin(0).write(0, 0, 5).read(0, 0, 0);
     vec![
-        worked("head alone is read", read(&Log::new()), 0, 0),
+        is_read("head alone is read", file(&Log::new()), Store::ZERO, 0),
         worked("head alone is opaque", scan(&Log::new()), 0, 0),
-        worked("head alone has an accepted marking", Call::Check(vec![], vec![4, 0, 2, 0, 1, 0]), 0, 0),
-        Worked { output: Some(h0_marking()), ..worked("the lowest marking of H0", Call::Find(h0.events.clone()), 0, 42) },
-        worked("H0 with its marking", Call::Check(h0.events.clone(), h0_marking()), 0, 0),
+        worked("head alone has an accepted marking", Call::Check(Log::new(), vec![4, 0, 2, 0, 1, 0]), 0, 0),
+        Worked { output: Some(h0_marking()), ..worked("the lowest marking of H0", find(&h0), 0, 42) },
+        worked("H0 with its marking", Call::Check(h0.clone(), h0_marking()), 0, 0),
         worked("H0 is opaque", scan(&h0), 0, 0),
         worked("H0, event 9 at gap 1", check(&h0, &[(1, Aborted), (0, Committed)], &[(5, 0), (9, 1)]), 0, 0),
         broken("H0, event 9 at gap 2", check(&h0, &[(1, Aborted), (0, Committed)], &[(5, 0), (9, 2)]), 'D', 9, 1),
         worked("H7 is faulted", scan(&h7), 101, 9),
-        worked("H7 has no justification", Call::Find(h7.events.clone()), NONE, 0),
+        worked("H7 has no justification", find(&h7), NONE, 0),
         broken("H7, T0 then T1, both gaps 1", check(&h7, &serial, &[(5, 1), (9, 1)]), 'E', 5, 1),
         broken("H7, event 5 at gap 0", check(&h7, &serial, &[(5, 0), (9, 1)]), 'D', 5, 1),
         worked("reads that cross", scan(&cross), 102, 13),
         worked("a read from a pending commit", scan(&pending), 0, 0),
         worked("the pending commit is aborted", scan(&pending.aborted(0)), 103, 7),
         worked("a read before the commit is called", scan(&early), 101, 5),
-        worked("that history as a whole has a justification", Call::Find(early.events.clone()), 0, 32),
+        worked("that history as a whole has a justification", find(&early), 0, 32),
         broken("an order against real time", check(&stale, &[(1, Aborted), (0, Committed)], &[(7, 0)]), 'B', 5, 1),
         broken("a read of 0 after an own write of 5", check(&own, &[(0, Aborted)], &[]), 'C', 4, 0),
         worked("an own read that is wrong", scan(&own), 101, 4),
@@ -187,7 +227,7 @@ fn straightenings() -> Vec<Worked> {
         unjustified("an order against real time is not mended", &stale, reader_first(&[(7, 0)]), 'B', 5, 1),
         unjustified("a wrong own read is not mended", &own, marking(&[(0, Aborted)], &[(2, 1)]), 'C', 6, 0),
         unjustified("an outcome is not mended", &lost, writer_first(&[(6, 0)]), 'A', 3, 0),
-        worked("a marking without points", Call::Straighten(h0.events.clone(), reader_first(&[])), 29, 22),
+        worked("a marking without points", Call::Straighten(h0.clone(), reader_first(&[])), 29, 22),
     ]
 }
 
@@ -232,22 +272,24 @@ fn limits() -> Vec<Worked> {
     let concurrent = |n| (0..n).fold(Log::new(), |log, thread| log.begin(thread));
     let reads = |n| (0..n).fold(Log::new().begin(0), |log, _| log.read(0, 0, 0));
     let full = reads(1_023).read_called(0, 0);
-    let full_length = history_file::write(&full.events).len() as u32;
-    let (h0, head) = (Log::h0().events, history_file::write(&[]));
+    let full_length = file(&full).len() as u32;
+    let (h0, head) = (Log::h0(), file(&Log::new()));
+    let taken = |name, log: &Log, count| is_read(name, file(log), Store::ZERO, count);
     vec![
-        worked("register 31", read(&register(31)), 0, 3),
+        taken("register 31", &register(31), 3),
         worked("register 32", read(&register(32)), 12, 14),
-        worked("64 begins", read(&serial(64)), 0, 128),
+        taken("64 begins", &serial(64), 128),
         worked("65 begins", read(&serial(65)), 7, 6 + 64 * 14),
-        worked("2,048 events", read(&full), 0, 2_048),
+        taken("2,048 events", &full, 2_048),
         worked("2,049 events", read(&full.read_returned(0, 0)), 6, full_length),
         worked("10 transactions", scan(&concurrent(10)), 0, 0),
         worked("11 transactions", scan(&concurrent(11)), 31, 11),
         worked("a length of 1", Call::Read([&head[..], &[1, 0, 16]].concat()), 2, 6),
         worked("a body of another size", Call::Read([&head[..], &[4, 0, 16, 0, 0, 0]].concat()), 5, 6),
         worked("an empty history", Call::Read(vec![]), 3, 0),
-        worked("another edition", Call::Read(vec![4, 0, 1, 0, 2, 0]), 3, 0),
+        worked("another edition", Call::Read(vec![4, 0, 1, 0, 3, 0]), 3, 0),
         worked("an empty marking", Call::Check(h0.clone(), vec![]), 21, 0),
+        worked("a marking of another edition", Call::Check(h0.clone(), vec![4, 0, 2, 0, 2, 0]), 21, 0),
         worked("a marking without places", Call::Check(h0.clone(), vec![4, 0, 2, 0, 1, 0]), 28, 6),
         worked("a marking without points", Call::Check(h0, marking(&[(1, Aborted), (0, Committed)], &[])), 29, 22),
     ]

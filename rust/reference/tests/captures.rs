@@ -1,9 +1,11 @@
 //! The captures under `examples/captures`: the bytes of each, and the report on it. With SENDOSHI_WRITE_CAPTURES set, the test writes
 //! the files instead of comparing them.
 
-use reference::history_file;
+use reference::event::BEGIN;
+use reference::history_file::{self, start_record};
 use reference::justification::Outcome::{Aborted, Committed};
 use reference::log::Log;
+use reference::record::record;
 use reference::report::{counted, report, tallied};
 use reference::worked::{h0_marking, marking};
 use std::path::PathBuf;
@@ -23,7 +25,8 @@ struct Capture {
 
 /// A readable history, with the four lines of its report.
 fn capture(name: &'static str, log: &Log, marking: Option<Vec<u8>>, lines: [&str; 4]) -> Capture {
-    Capture { name, history: Some(history_file::write(&log.events)), marking, report: lines.join("\n") + "\n" }
+    let history = history_file::write(&log.store, &log.events);
+    Capture { name, history: Some(history), marking, report: lines.join("\n") + "\n" }
 }
 
 /// A history that is refused, with the one line of its report.
@@ -50,6 +53,42 @@ fn all_states_marking() -> Vec<u8> {
     marking(&places, &[(21, 6)])
 }
 
+/// T0 reads register 3, which starts with 9, register 31, which starts with the largest value, and register 4, which starts at 0.
+fn first_reads(value: u32) -> Log {
+    Log::starting(&[(3, 9), (31, u32::MAX)]).begin(0).read(0, 3, value).read(0, 31, u32::MAX).read(0, 4, 0).commit(0)
+}
+
+/// T1 reads the start value while T0 is running; T2, which begins after T0 has committed 7, reads that.
+fn hidden_start() -> Log {
+    Log::starting(&[(3, 9)]).begin(0).begin(1).read(1, 3, 9).write(0, 3, 7).commit(0).begin(0).read(2, 3, 7)
+}
+
+/// Edition 2, and the start records that are refused.
+fn starts() -> Vec<Capture> {
+    let (counts, tally) = ("events 9 transactions 1 reads 3", "committed 1 aborted 0 pending 0 live 0");
+    let alone = Some(marking(&[(0, Committed)], &[(2, 0), (4, 0), (6, 0)]));
+    let (wrong, fault) = ("marking rule E event 2 transaction 0", "opaque no event 2 cause 1");
+    let in_order = marking(&[(1, Aborted), (0, Committed), (2, Aborted)], &[(3, 0), (10, 2)]);
+    let file = |edition: u16, records: &[Vec<u8>]| Some([record(1, &edition.to_le_bytes()), records.concat()].concat());
+    let begin = record(BEGIN, &[0, 0, 0, 0]);
+    let nine = start_record(3, 9);
+    vec![
+        capture("starts", &first_reads(9), alone.clone(), [counts, tally, "marking accepted", "opaque yes"]),
+        capture("starts-torn", &first_reads(0), alone, [counts, tally, wrong, fault]),
+        capture(
+            "starts-hidden",
+            &hidden_start(),
+            Some(in_order),
+            ["events 11 transactions 3 reads 2", "committed 1 aborted 0 pending 0 live 2", "marking accepted", "opaque yes"],
+        ),
+        // The first two have what a later question would refuse too.
+        refused("start-late", file(2, &[begin, start_record(32, 0)]), None, "history refused 43 byte 14"),
+        refused("start-falls", file(2, &[nine.clone(), start_record(2, 0)]), None, "history refused 41 byte 16"),
+        refused("start-zero", file(2, &[nine.clone(), start_record(4, 0)]), None, "history refused 42 byte 16"),
+        refused("start-in-edition-1", file(1, &[nine]), None, "history refused 4 byte 6"),
+    ]
+}
+
 fn captures() -> Vec<Capture> {
     let head = vec![4, 0, 2, 0, 1, 0];
     let gap_2 = marking(&[(1, Aborted), (0, Committed)], &[(5, 0), (9, 2)]);
@@ -59,7 +98,7 @@ fn captures() -> Vec<Capture> {
     let h0 = |name, marking, marked| capture(name, &Log::h0(), marking, [h0_counts, h0_tally, marked, "opaque yes"]);
     let eleven = (0..11).fold(Log::new(), |log, thread| log.begin(thread));
     let eleven_marking = marking(&(0..11).map(|t| (t, Aborted)).collect::<Vec<_>>(), &[]);
-    let cut = [&history_file::write(&[])[..], &[4, 0, 16, 0, 0, 0]].concat();
+    let cut = [4, 0, 1, 0, 1, 0, 4, 0, 16, 0, 0, 0].to_vec();
     vec![
         h0("h0", Some(h0_marking()), "marking accepted"),
         h0("h0-gap-2", Some(gap_2), "marking rule D event 9 transaction 1"),
@@ -103,9 +142,9 @@ fn captures() -> Vec<Capture> {
 #[test]
 fn reports_count_what_the_events_say() {
     for folder in fs::read_dir(top()).unwrap().map(|entry| entry.unwrap().path()).filter(|path| path.is_dir()) {
-        let events = history_file::read(&fs::read(folder.join("capture.hst")).unwrap_or_default());
-        let expected = match events {
-            Ok(events) => counted(&events) + &tallied(&events),
+        let history = history_file::read(&fs::read(folder.join("capture.hst")).unwrap_or_default());
+        let expected = match history {
+            Ok((_, events)) => counted(&events) + &tallied(&events),
             Err(refusal) => format!("history refused {} byte {}\n", refusal.number, refusal.place),
         };
         let report = fs::read_to_string(folder.join("report.txt")).unwrap();
@@ -116,7 +155,7 @@ fn reports_count_what_the_events_say() {
 #[test]
 fn captures_have_their_bytes_and_their_report() {
     let top = top();
-    for capture in captures() {
+    for capture in captures().into_iter().chain(starts()) {
         let bytes = |file: &Option<Vec<u8>>| file.clone().unwrap_or_default();
         assert_eq!(report(&bytes(&capture.history), &bytes(&capture.marking)), capture.report, "{}", capture.name);
         let files = [

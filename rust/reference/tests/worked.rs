@@ -7,34 +7,35 @@ use reference::justification::{Outcome, Place};
 use reference::log::Log;
 use reference::marking_file::{Marking, Point};
 use reference::reads::{own_reads, store_reads};
-use reference::worked::{self, Call};
+use reference::store::Store;
+use reference::worked::{self, Buffers, Call};
 use reference::{history_file, questions};
 
-fn answered(call: &Call) -> (Answer, Vec<u8>, Vec<u32>) {
-    let (mut output, mut moved) = (vec![0; 32_768], vec![]);
+fn answered(call: &Call) -> (Answer, Buffers) {
+    let mut buffers = Buffers::for_call(call);
+    let Buffers { output, moved, starts } = &mut buffers;
+    let columns = |log: &Log| Columns::of(&log.events);
     let answer = match call {
         Call::Read(file) => {
             let mut columns = Columns::of(&[Event { kind: 0, transaction: 0, register: 0, value: 0 }; 2_048]);
-            entries::read(file, &mut columns)
+            entries::read(file, starts, &mut columns)
         }
-        Call::Scan(events) => entries::scan(&Columns::of(events), events.len()),
-        Call::Find(events) => entries::find(&Columns::of(events), events.len(), events.len(), &mut output),
-        Call::Check(events, file) => entries::check(&Columns::of(events), events.len(), file),
-        Call::Straighten(events, file) => {
-            moved.resize(events.len(), 0);
-            entries::straighten(&Columns::of(events), events.len(), file, &mut output, &mut moved)
-        }
-        Call::Tally(events) => entries::tally(&Columns::of(events), events.len()),
+        Call::Write(log) => entries::write(&log.store, &columns(log), log.events.len(), output),
+        Call::Scan(log) => entries::scan(&log.store, &columns(log), log.events.len()),
+        Call::Find(log) => entries::find(&log.store, &columns(log), log.events.len(), log.events.len(), output),
+        Call::Check(log, file) => entries::check(&log.store, &columns(log), log.events.len(), file),
+        Call::Straighten(log, file) => entries::straighten(&log.store, &columns(log), log.events.len(), file, output, moved),
+        Call::Tally(log) => entries::tally(&columns(log), log.events.len()),
     };
-    (answer, output, moved)
+    (answer, buffers)
 }
 
 #[test]
 fn every_example_is_answered_as_written() {
     for example in worked::all() {
-        let (answer, output, moved) = answered(&example.call);
+        let (answer, buffers) = answered(&example.call);
         assert_eq!(answer, example.answer, "{}", example.name);
-        assert!(example.is_written(&output, &moved), "{}", example.name);
+        assert!(example.is_written(&buffers), "{}", example.name);
     }
 }
 
@@ -47,15 +48,15 @@ fn h0_is_the_papers() {
     assert_eq!(columns.transactions, [0, 0, 0, 1, 1, 1, 0, 0, 1, 1]);
     assert_eq!(columns.registers, [0, 3, 0, 1, 3, 3, 0, 0, 3, 3]);
     assert_eq!(columns.values, [0, 7, 0, 0, 0, 0, 0, 0, 0, 0]);
-    let file = history_file::write(&events);
+    let file = history_file::write(&Store::ZERO, &events);
     assert_eq!(file.len(), 88);
-    assert_eq!(history_file::read(&file), Ok(events));
+    assert_eq!(history_file::read(&file), Ok((Store::ZERO, events)));
 }
 
 #[test]
 fn the_marking_of_h0_says_what_it_should() {
     let events = Log::h0().events;
-    let order = lowest(&events).expect("H0 has a justification");
+    let order = lowest(&Store::ZERO, &events).expect("H0 has a justification");
     assert_eq!(order[0], Place { transaction: 1, outcome: Outcome::Aborted });
     assert_eq!(order[1], Place { transaction: 0, outcome: Outcome::Committed });
     let marking = Marking::of(&events, &order);
@@ -71,11 +72,34 @@ fn the_marking_of_h0_says_what_it_should() {
 #[test]
 fn usual_mistakes_would_show() {
     let early = Log::new().begin(0).write(0, 0, 5).begin(1).read(1, 0, 5).commit(0).events;
-    assert!(is_justified(&early), "judging the whole history only would pass the early read");
+    assert!(is_justified(&Store::ZERO, &early), "judging the whole history only would pass the early read");
     let without_reads: Vec<Event> = Log::h7().events.into_iter().filter(|e| e.transaction == 0).collect();
-    assert!(is_justified(&without_reads), "dropping the reads of transactions that did not commit would pass H7");
+    assert!(is_justified(&Store::ZERO, &without_reads), "dropping the reads of transactions that did not commit would pass H7");
     let twice = Log::new().begin(0).write(0, 0, 5).write(0, 0, 6).commit(0).begin(0).read(1, 0, 6).events;
-    assert!(is_justified(&twice), "the last write of a writer counts");
+    assert!(is_justified(&Store::ZERO, &twice), "the last write of a writer counts");
+}
+
+/// A start value counts only where no writer is placed before, and for its own register.
+#[test]
+fn start_values_stand_where_nobody_wrote() {
+    let store = Store::of(&[(3, 9)]);
+    let read = |value| Log::new().begin(0).read(0, 3, value).events;
+    assert!(is_justified(&store, &read(9)) && !is_justified(&store, &read(0)));
+    assert!(!is_justified(&Store::ZERO, &read(9)) && is_justified(&Store::ZERO, &read(0)));
+    let hidden = |value| Log::new().begin(0).write(0, 3, 7).commit(0).begin(1).read(1, 3, value).events;
+    assert!(is_justified(&store, &hidden(7)) && !is_justified(&store, &hidden(9)) && !is_justified(&store, &hidden(0)));
+}
+
+/// Another edition is none, and edition 1 starts at 0.
+#[test]
+fn stores_that_are_admitted() {
+    let with = |edition, starts: &[(u16, u32)]| Store { edition, ..Store::of(starts) };
+    for store in [with(1, &[]), with(2, &[]), with(2, &[(0, 1)]), with(2, &[(31, u32::MAX)])] {
+        assert!(store.is_admitted(), "{store:?}");
+    }
+    for store in [with(1, &[(0, 1)]), with(1, &[(31, 1)]), with(0, &[]), with(3, &[]), with(258, &[]), with(65_535, &[(3, 9)])] {
+        assert!(!store.is_admitted(), "{store:?}");
+    }
 }
 
 #[test]

@@ -40,8 +40,8 @@ impl Answer {
         }
     }
 
-    /// The two numbers that share the place of a broken rule, its event and its transaction, or of a straightened marking, how many
-    /// points were moved and its length.
+    /// The two numbers that share the place of a history that is read, its edition and its event count; of a broken rule, its event
+    /// and its transaction; or of a straightened marking, how many points were moved and its length.
     pub fn halves(self) -> (usize, usize) {
         ((self.place >> 16) as usize, (self.place & 0xffff) as usize)
     }

@@ -1,7 +1,7 @@
 //! The library's calls on lent slices, as they are: every refusal comes back as a number, and every buffer is the caller's.
 //!
 //! Nothing is tested before a call. The library has no condition on numbers or contents, and what it cannot test is given by the
-//! types: a slice is good for its length, and a `&mut` slice overlaps no other.
+//! types: a slice is good for its length, an array has its 32 entries, and what is borrowed by `&mut` overlaps nothing else.
 
 use crate::answer::Answer;
 use crate::ffi;
@@ -24,13 +24,28 @@ pub struct ColumnsMut<'a> {
     pub values: &'a mut [u32],
 }
 
+/// The store that a history finds: its edition, and what stands in each register before any writer. Any numbers may stand here; what
+/// is neither edition 1 with zeros nor edition 2 is refused by the calls that are told of it.
+#[derive(Clone, Copy, Debug, PartialEq, Eq)]
+pub struct Store<'a> {
+    pub edition: u16,
+    pub starts: &'a [u32; 32],
+}
+
+impl Store<'static> {
+    /// Edition 1, in which every register starts at 0.
+    pub const ZERO: Store<'static> = Store { edition: 1, starts: &[0; 32] };
+}
+
 /// Calls a function whose first parameters are the four columns.
 macro_rules! with_columns {
-    ($function:ident, $columns:expr, $($rest:expr),+) => {{
+    ($function:ident, $columns:expr, $($rest:expr),+) => { with_columns!($function [] $columns, $($rest),+) };
+    ($function:ident [$($first:expr),*] $columns:expr, $($rest:expr),+) => {{
         let c = $columns;
         // SAFETY: pointers and lengths are those of slices that live through the call; the borrows keep written ones apart.
         let answer = unsafe {
             ffi::$function(
+                $($first,)*
                 c.kinds.as_ptr(),
                 c.kinds.len(),
                 c.transactions.as_ptr(),
@@ -46,13 +61,21 @@ macro_rules! with_columns {
     }};
 }
 
-/// Reads a history file into the columns. Code 0: the event count.
-pub fn read(file: &[u8], columns: ColumnsMut) -> Answer {
+/// Calls a function whose first parameters are the edition, the start values and the four columns.
+macro_rules! with_store {
+    ($function:ident, $store:expr, $columns:expr, $($rest:expr),+) => {
+        with_columns!($function [$store.edition, $store.starts] $columns, $($rest),+)
+    };
+}
+
+/// Reads a history file into the start values and the columns. Code 0: the edition and the event count ([`Answer::halves`]).
+pub fn read(file: &[u8], starts: &mut [u32; 32], columns: ColumnsMut) -> Answer {
     // SAFETY: as in `with_columns`.
     let answer = unsafe {
         ffi::sendoshi_read(
             file.as_ptr(),
             file.len(),
+            starts,
             columns.kinds.as_mut_ptr(),
             columns.kinds.len(),
             columns.transactions.as_mut_ptr(),
@@ -67,30 +90,31 @@ pub fn read(file: &[u8], columns: ColumnsMut) -> Answer {
 }
 
 /// Writes the first `count` events as a history file. Code 0: its length.
-pub fn write(columns: Columns, count: usize, output: &mut [u8]) -> Answer {
-    with_columns!(sendoshi_write, columns, count, output.as_mut_ptr(), output.len())
+pub fn write(store: Store, columns: Columns, count: usize, output: &mut [u8]) -> Answer {
+    with_store!(sendoshi_write, store, columns, count, output.as_mut_ptr(), output.len())
 }
 
 /// Writes the lowest marking of the first `prefix` of `count` events. Code 0: its length; code 100: there is none.
-pub fn find(columns: Columns, count: usize, prefix: usize, output: &mut [u8]) -> Answer {
-    with_columns!(sendoshi_find, columns, count, prefix, output.as_mut_ptr(), output.len())
+pub fn find(store: Store, columns: Columns, count: usize, prefix: usize, output: &mut [u8]) -> Answer {
+    with_store!(sendoshi_find, store, columns, count, prefix, output.as_mut_ptr(), output.len())
 }
 
 /// Judges every prefix of the first `count` events. Code 0: opaque; codes 101 to 104: the first fault.
-pub fn scan(columns: Columns, count: usize) -> Answer {
-    with_columns!(sendoshi_scan, columns, count)
+pub fn scan(store: Store, columns: Columns, count: usize) -> Answer {
+    with_store!(sendoshi_scan, store, columns, count)
 }
 
 /// Checks a marking file of the first `count` events. Code 0: accepted; codes 201 to 205: the broken rule.
-pub fn check(columns: Columns, count: usize, file: &[u8]) -> Answer {
-    with_columns!(sendoshi_check, columns, count, file.as_ptr(), file.len())
+pub fn check(store: Store, columns: Columns, count: usize, file: &[u8]) -> Answer {
+    with_store!(sendoshi_check, store, columns, count, file.as_ptr(), file.len())
 }
 
 /// Writes a marking file of the first `count` events with its careless read points moved to their readers, and lists the events of
 /// those moved. Code 0: the number moved and the length ([`Answer::halves`]); codes 201 to 203 and 205: the rule broken all the same.
-pub fn straighten(columns: Columns, count: usize, file: &[u8], output: &mut [u8], moved: &mut [u32]) -> Answer {
-    with_columns!(
+pub fn straighten(store: Store, columns: Columns, count: usize, file: &[u8], output: &mut [u8], moved: &mut [u32]) -> Answer {
+    with_store!(
         sendoshi_straighten,
+        store,
         columns,
         count,
         file.as_ptr(),

@@ -1,12 +1,15 @@
-//! The library's functions as `include/sendoshi.h` declares them. A slice is passed as a pointer and a length.
+//! The library's functions as version 2 of `include/sendoshi.h` declares them. A slice is passed as a pointer and a length, the 32
+//! start values as one pointer.
 //!
 //! Each answers code × 2^32 + place. They have no condition on numbers or contents. What they cannot test, and a caller must see
-//! to, is that each pointer is good for its length, and that a buffer that is written overlaps no other.
+//! to, is that each pointer is good for its length, that of the start values for 32 of them, and that a buffer that is written
+//! overlaps no other.
 
 extern "C" {
     pub fn sendoshi_read(
         file: *const u8,
         file_length: usize,
+        starts: *mut [u32; 32],
         kinds: *mut u16,
         kinds_length: usize,
         transactions: *mut u16,
@@ -18,6 +21,8 @@ extern "C" {
     ) -> u64;
 
     pub fn sendoshi_write(
+        edition: u16,
+        starts: *const [u32; 32],
         kinds: *const u16,
         kinds_length: usize,
         transactions: *const u16,
@@ -32,6 +37,8 @@ extern "C" {
     ) -> u64;
 
     pub fn sendoshi_find(
+        edition: u16,
+        starts: *const [u32; 32],
         kinds: *const u16,
         kinds_length: usize,
         transactions: *const u16,
@@ -47,6 +54,8 @@ extern "C" {
     ) -> u64;
 
     pub fn sendoshi_scan(
+        edition: u16,
+        starts: *const [u32; 32],
         kinds: *const u16,
         kinds_length: usize,
         transactions: *const u16,
@@ -59,6 +68,8 @@ extern "C" {
     ) -> u64;
 
     pub fn sendoshi_check(
+        edition: u16,
+        starts: *const [u32; 32],
         kinds: *const u16,
         kinds_length: usize,
         transactions: *const u16,
@@ -73,6 +84,8 @@ extern "C" {
     ) -> u64;
 
     pub fn sendoshi_straighten(
+        edition: u16,
+        starts: *const [u32; 32],
         kinds: *const u16,
         kinds_length: usize,
         transactions: *const u16,

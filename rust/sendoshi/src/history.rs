@@ -1,7 +1,7 @@
 //! A history that the library has taken.
 
 use crate::answer::NONE;
-use crate::calls::{self, Columns, ColumnsMut};
+use crate::calls::{self, Columns, ColumnsMut, Store};
 use crate::judgement::{Cause, Scan, Straightening, Verdict};
 use crate::question::{Place, Refusal};
 use crate::tally::Tally;
@@ -10,6 +10,8 @@ use crate::tally::Tally;
 const MOST_EVENTS: usize = 2_048;
 /// No judged history has more transactions.
 const MOST_JUDGED: usize = 10;
+/// Every history has so many registers, each with a start value.
+const REGISTERS: usize = 32;
 
 /// A readable history: the library has put its questions to every event, and refused none.
 ///
@@ -30,6 +32,9 @@ const MOST_JUDGED: usize = 10;
 /// ```
 #[derive(Clone, Debug, PartialEq, Eq)]
 pub struct History {
+    // Edition 1 with zeros, or edition 2.
+    edition: u16,
+    starts: [u32; REGISTERS],
     // All of one length. Every event has passed its questions, so that a prefix has too.
     kinds: Vec<u16>,
     transactions: Vec<u16>,
@@ -49,6 +54,8 @@ impl History {
     pub fn read(file: &[u8]) -> Result<History, Refusal> {
         // Columns for the most events that are read: question 14 is never answered with no.
         let mut history = History {
+            edition: 0,
+            starts: [0; REGISTERS],
             kinds: vec![0; MOST_EVENTS],
             transactions: vec![0; MOST_EVENTS],
             registers: vec![0; MOST_EVENTS],
@@ -60,7 +67,10 @@ impl History {
             registers: &mut history.registers,
             values: &mut history.values,
         };
-        let count = calls::read(file, columns).done(Place::Byte)?;
+        let answer = calls::read(file, &mut history.starts, columns);
+        answer.done(Place::Byte)?;
+        let (edition, count) = answer.halves();
+        history.edition = edition as u16;
         history.kinds.truncate(count);
         history.transactions.truncate(count);
         history.registers.truncate(count);
@@ -68,13 +78,42 @@ impl History {
         Ok(history)
     }
 
-    /// A copy of the history that stands in these columns. Columns of different lengths are refused: a column is shorter than
-    /// the count, which is the longest one's length.
+    /// A copy of the history that stands in these columns, in edition 1: every register starts at 0. Columns of different lengths are
+    /// refused: a column is shorter than the count, which is the longest one's length.
     pub fn from_columns(columns: Columns) -> Result<History, Refusal> {
+        History::over(Store::ZERO, columns)
+    }
+
+    /// The same in edition 2: each register starts with its value.
+    ///
+    /// ```
+    /// use sendoshi::{Cause, Columns, History, Scan};
+    ///
+    /// // Register 3 held 9 when recording began, and T0 reads it.
+    /// let mut starts = [0; 32];
+    /// starts[3] = 9;
+    /// let columns = Columns { kinds: &[16, 17, 18], transactions: &[0; 3], registers: &[0, 3, 3], values: &[0, 0, 9] };
+    /// let history = History::with_starts(starts, columns)?;
+    /// assert_eq!((history.edition(), history.starts()[3]), (2, 9));
+    /// assert_eq!(history.scan()?, Scan::Opaque);
+    ///
+    /// // In a store that starts at 0 nobody wrote what it read.
+    /// let scan = History::from_columns(columns)?.scan()?;
+    /// assert_eq!(scan, Scan::Faulted { event: 2, cause: Cause::ReadReturned });
+    /// # Ok::<(), sendoshi::Refusal>(())
+    /// ```
+    pub fn with_starts(starts: [u32; REGISTERS], columns: Columns) -> Result<History, Refusal> {
+        History::over(Store { edition: 2, starts: &starts }, columns)
+    }
+
+    /// A copy of the history in these columns, over a store that every call takes.
+    fn over(store: Store, columns: Columns) -> Result<History, Refusal> {
         let lengths = [columns.kinds.len(), columns.transactions.len(), columns.registers.len(), columns.values.len()];
         let count = lengths.into_iter().max().unwrap_or(0);
         calls::transactions(columns, count).done(Place::Event)?;
         Ok(History {
+            edition: store.edition,
+            starts: *store.starts,
             kinds: columns.kinds.to_vec(),
             transactions: columns.transactions.to_vec(),
             registers: columns.registers.to_vec(),
@@ -85,6 +124,21 @@ impl History {
     /// The columns, all as long as the history.
     pub fn columns(&self) -> Columns<'_> {
         Columns { kinds: &self.kinds, transactions: &self.transactions, registers: &self.registers, values: &self.values }
+    }
+
+    /// The edition: 1, or 2 if the file or the caller gave start values.
+    pub fn edition(&self) -> u16 {
+        self.edition
+    }
+
+    /// What stood in each register before any writer: zeros in edition 1.
+    pub fn starts(&self) -> &[u32; REGISTERS] {
+        &self.starts
+    }
+
+    /// Edition and start values, as the calls take them.
+    pub fn store(&self) -> Store<'_> {
+        Store { edition: self.edition, starts: &self.starts }
     }
 
     /// The number of events.
@@ -131,9 +185,11 @@ impl History {
         Tally { committed, aborted, pending, live }
     }
 
-    /// The history of the first `length` events, if there are so many.
+    /// The history of the first `length` events, if there are so many, in the same edition with the same start values.
     pub fn prefix(&self, length: usize) -> Option<History> {
         Some(History {
+            edition: self.edition,
+            starts: self.starts,
             kinds: self.kinds.get(..length)?.to_vec(),
             transactions: self.transactions.get(..length)?.to_vec(),
             registers: self.registers.get(..length)?.to_vec(),
@@ -143,9 +199,9 @@ impl History {
 
     /// The history as a file.
     pub fn to_bytes(&self) -> Vec<u8> {
-        // The head has 6 bytes and no event more than 12: the output is never too short.
-        let mut output = vec![0; 6 + 12 * self.len()];
-        let answer = calls::write(self.columns(), self.len(), &mut output);
+        // The head has 6 bytes, a start record 10 and no event more than 12: the output is never too short.
+        let mut output = vec![0; 6 + 10 * REGISTERS + 12 * self.len()];
+        let answer = calls::write(self.store(), self.columns(), self.len(), &mut output);
         let length = answer.done(Place::Event).unwrap_or_else(|refusal| refused_again(refusal));
         output.truncate(length);
         output
@@ -169,7 +225,7 @@ impl History {
     /// # Ok::<(), sendoshi::Refusal>(())
     /// ```
     pub fn scan(&self) -> Result<Scan, Refusal> {
-        let answer = calls::scan(self.columns(), self.len());
+        let answer = calls::scan(self.store(), self.columns(), self.len());
         match Cause::from_code(answer.code) {
             Some(cause) => Ok(Scan::Faulted { event: answer.place as usize, cause }),
             None => answer.done(Place::Event).map(|_| Scan::Opaque),
@@ -198,7 +254,7 @@ impl History {
     pub fn lowest_marking(&self, prefix: usize) -> Result<Option<Vec<u8>>, Refusal> {
         // Room for a place of every transaction and a read point at every event: the output is never too short.
         let mut output = vec![0; 6 + 8 * MOST_JUDGED + 10 * prefix.min(self.len())];
-        let answer = calls::find(self.columns(), self.len(), prefix, &mut output);
+        let answer = calls::find(self.store(), self.columns(), self.len(), prefix, &mut output);
         if answer.code == NONE {
             return Ok(None);
         }
@@ -223,7 +279,7 @@ impl History {
     /// # Ok::<(), sendoshi::Refusal>(())
     /// ```
     pub fn check(&self, marking: &[u8]) -> Result<Verdict, Refusal> {
-        let answer = calls::check(self.columns(), self.len(), marking);
+        let answer = calls::check(self.store(), self.columns(), self.len(), marking);
         match answer.broken() {
             Some((rule, event, transaction)) => Ok(Verdict::Broken { rule, event, transaction }),
             // The events have passed their questions, so what is refused is the file.
@@ -259,7 +315,7 @@ impl History {
     pub fn straighten(&self, marking: &[u8]) -> Result<Straightening, Refusal> {
         // The result is as long as the marking, and a list with an entry for every event has one for every store read.
         let (mut output, mut moved) = (vec![0; marking.len()], vec![0; self.len()]);
-        let answer = calls::straighten(self.columns(), self.len(), marking, &mut output, &mut moved);
+        let answer = calls::straighten(self.store(), self.columns(), self.len(), marking, &mut output, &mut moved);
         if let Some((rule, event, transaction)) = answer.broken() {
             return Ok(Straightening::Broken { rule, event, transaction });
         }

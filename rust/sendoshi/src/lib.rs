@@ -1,8 +1,8 @@
 //! Opacity of recorded transactional histories: a safe wrapper over the proved static library.
 //!
-//! A [`History`] is read from a file or taken from columns. It can be written back, tallied by what has become of its transactions,
-//! scanned for the first prefix that no order of them justifies, given its lowest marking, and compared with a marking from
-//! elsewhere, whose read points it can straighten.
+//! A [`History`] is read from a file or taken from columns, in edition 1, in which every register starts at 0, or in edition 2 with
+//! start values. It can be written back, tallied by what has become of its transactions, scanned for the first prefix that no order of
+//! them justifies, given its lowest marking, and compared with a marking from elsewhere, whose read points it can straighten.
 //!
 //! ```
 //! use sendoshi::History;
@@ -29,7 +29,8 @@
 //! not fit is refused with a [`Question`] and a [`Place`], and a refusal leaves every lent buffer as it was. What the library
 //! cannot test is given by Rust: a slice is good for its length, and a buffer that is written is borrowed by the call alone. The
 //! wrapper only sees to it that the buffers it allocates itself are long enough, so that [`History`] never meets the questions
-//! about lent buffers (14, 15, 32). [`calls`] has the functions on the caller's own buffers.
+//! about lent buffers (14, 15, 32), and that it holds no edition but 1 and 2, so that question 3 is about a file. [`calls`] has the
+//! functions on the caller's own buffers.
 //!
 //! # Linking
 //!
@@ -45,7 +46,7 @@ mod question;
 mod tally;
 
 pub use answer::Answer;
-pub use calls::{Columns, ColumnsMut};
+pub use calls::{Columns, ColumnsMut, Store};
 pub use history::History;
 pub use judgement::{Cause, Rule, Scan, Straightening, Verdict};
 pub use question::{Place, Question, Refusal};

@@ -1,6 +1,6 @@
 //! The wrapper's own promises: what it takes, how it refuses and how its answers read.
 
-use sendoshi::{calls, Answer, Columns, History, Place, Question, Refusal, Rule, Scan, Straightening, Tally, Verdict};
+use sendoshi::{calls, Answer, Columns, History, Place, Question, Refusal, Rule, Scan, Store, Straightening, Tally, Verdict};
 use std::error::Error;
 
 const KINDS: [u16; 10] = [16, 19, 20, 16, 17, 18, 21, 22, 17, 18];
@@ -133,6 +133,89 @@ fn a_prefix_is_a_history() {
     assert!(history.prefix(0).unwrap().is_empty());
 }
 
+/// H0 over a store in which register 3 starts with 9 and register 31 with 1.
+fn started(values: &[u32; 10]) -> History {
+    let mut starts = [0; 32];
+    (starts[3], starts[31]) = (9, 1);
+    let columns = Columns { kinds: &KINDS, transactions: &TRANSACTIONS, registers: &REGISTERS, values };
+    History::with_starts(starts, columns).unwrap()
+}
+
+#[test]
+fn a_history_keeps_its_edition_and_its_start_values() {
+    let history = started(&[0, 7, 0, 0, 0, 9, 0, 0, 0, 9]);
+    assert_eq!((history.edition(), history.starts()[3], history.starts()[31], history.starts()[4]), (2, 9, 1, 0));
+    let file = history.to_bytes();
+    assert_eq!(file.len(), 88 + 2 * 10);
+    assert_eq!(file[..26], [4, 0, 1, 0, 2, 0, 8, 0, 3, 0, 3, 0, 9, 0, 0, 0, 8, 0, 3, 0, 31, 0, 1, 0, 0, 0]);
+    assert_eq!(History::read(&file).unwrap(), history);
+    let prefix = history.prefix(6).unwrap();
+    assert_eq!((prefix.edition(), prefix.starts()), (2, history.starts()));
+    assert_eq!(History::read(&prefix.to_bytes()).unwrap(), prefix);
+    let empty = history.prefix(0).unwrap();
+    assert_eq!((empty.to_bytes().len(), History::read(&empty.to_bytes())), (26, Ok(empty)));
+}
+
+#[test]
+fn edition_1_starts_at_0() {
+    let history = h0();
+    assert_eq!((history.edition(), history.starts()), (1, &[0; 32]));
+    assert_eq!(history.to_bytes()[..6], [4, 0, 1, 0, 1, 0]);
+    assert_eq!(history.store(), Store::ZERO);
+    let columns = Columns { kinds: &KINDS, transactions: &TRANSACTIONS, registers: &REGISTERS, values: &VALUES };
+    let zeros = History::with_starts([0; 32], columns).unwrap();
+    assert_eq!((zeros.edition(), zeros.starts(), zeros.scan()), (2, &[0; 32], Ok(Scan::Opaque)));
+    assert_eq!(zeros.to_bytes()[..6], [4, 0, 1, 0, 2, 0]);
+    assert_eq!(zeros.to_bytes()[6..], history.to_bytes()[6..]);
+    assert_ne!(zeros, history);
+}
+
+/// H0's marking fits H0 over a start value, if its reads return that value; and no marking does if they return 0.
+#[test]
+fn reads_are_of_start_values() {
+    let marking = h0().lowest_marking(10).unwrap().unwrap();
+    let mut careless = marking.clone();
+    careless[40] = 2; // event 9 at gap 2
+    let sound = started(&[0, 7, 0, 0, 0, 9, 0, 0, 0, 9]);
+    assert_eq!(sound.scan(), Ok(Scan::Opaque));
+    assert_eq!(sound.lowest_marking(10), Ok(Some(marking.clone())));
+    assert_eq!(sound.check(&marking), Ok(Verdict::Accepted));
+    let straightened = Straightening::Straightened { marking: marking.clone(), moved: vec![9] };
+    assert_eq!(sound.straighten(&careless), Ok(straightened));
+    let torn = started(&VALUES);
+    assert_eq!(torn.scan().unwrap().to_string(), "opaque no event 5 cause 1");
+    assert_eq!(torn.prefix(6).unwrap().scan(), torn.scan());
+    assert_eq!((torn.lowest_marking(5).unwrap().is_some(), torn.lowest_marking(6)), (true, Ok(None)));
+    assert_eq!(torn.check(&marking), Ok(Verdict::Broken { rule: Rule::E, event: 5, transaction: 1 }));
+    assert_eq!(torn.straighten(&marking), Ok(Straightening::Broken { rule: Rule::E, event: 5, transaction: 1 }));
+}
+
+#[test]
+fn start_records_are_refused_by_their_own_questions() {
+    let (head, start) = ([4, 0, 1, 0, 2, 0], [8, 0, 3, 0, 3, 0, 9, 0, 0, 0]);
+    let read = |parts: &[&[u8]]| History::read(&parts.concat()).map(|history| history.starts()[3]);
+    assert_eq!(read(&[&head, &start]), Ok(9));
+    assert_eq!(read(&[&head, &start, &start]), Err(refusal(Question::StartRegister, Place::Byte(16))));
+    assert_eq!(read(&[&head, &[8, 0, 3, 0, 3, 0, 0, 0, 0, 0]]), Err(refusal(Question::StartZero, Place::Byte(6))));
+    let begin = [6, 0, 16, 0, 0, 0, 0, 0];
+    assert_eq!(read(&[&head, &begin, &start]), Err(refusal(Question::StartLate, Place::Byte(14))));
+    assert_eq!(read(&[&[4, 0, 1, 0, 1, 0], &start]), Err(refusal(Question::EventKind, Place::Byte(6))));
+    assert_eq!(read(&[&[4, 0, 1, 0, 3, 0], &start]), Err(refusal(Question::HistoryHead, Place::Byte(0))));
+}
+
+/// The calls themselves take any numbers, and refuse other editions and edition 1 with a start value.
+#[test]
+fn calls_refuse_other_editions() {
+    let (history, starts) = (h0(), [1; 32]);
+    for store in
+        [Store { edition: 1, starts: &starts }, Store { edition: 0, starts: &[0; 32] }, Store { edition: 3, starts: &starts }]
+    {
+        assert_eq!(calls::scan(store, history.columns(), 10), Answer { code: 3, place: 10 });
+        assert_eq!(calls::scan(store, history.columns(), 11), Answer { code: 17, place: 11 });
+    }
+    assert_eq!(calls::scan(Store { edition: 2, starts: &starts }, history.columns(), 10), Answer { code: 101, place: 5 });
+}
+
 #[test]
 fn what_is_judged_has_at_most_10_transactions() {
     let (kinds, threads, zeros) = ([16; 11], [0, 1, 2, 3, 4, 5, 6, 7, 8, 9, 10], [0; 11]);
@@ -148,7 +231,7 @@ fn what_is_judged_has_at_most_10_transactions() {
 #[test]
 fn questions_keep_their_numbers_and_say_what_is_wrong() {
     let numbers: Vec<u8> = Question::ALL.iter().map(|question| question.number()).collect();
-    let expected: Vec<u8> = (1..=18).chain(21..=29).chain(31..=32).collect();
+    let expected: Vec<u8> = (1..=18).chain(21..=29).chain(31..=32).chain(41..=43).collect();
     assert_eq!(numbers, expected);
     for &question in Question::ALL {
         assert_eq!(Question::from_number(question.number()), Some(question));
@@ -156,12 +239,15 @@ fn questions_keep_their_numbers_and_say_what_is_wrong() {
     }
     assert_eq!(Question::from_number(0), None);
     assert_eq!(Question::from_number(30), None);
+    assert_eq!(Question::from_number(40), None);
+    assert_eq!(Question::from_number(44), None);
 }
 
 #[test]
 fn a_refusal_is_an_error() {
     let error: Box<dyn Error> = Box::new(History::read(&[]).unwrap_err());
-    assert_eq!(error.to_string(), "refused 3 at byte 0: the file does not start with the head of a history of edition 1");
+    let text = "there is no head of a history of edition 1 or 2, or edition 1 is given with a start value that is not 0";
+    assert_eq!(error.to_string(), format!("refused 3 at byte 0: {text}"));
     let error = h0().check(&[]).unwrap_err();
     assert_eq!(error, refusal(Question::MarkingHead, Place::Byte(0)));
 }

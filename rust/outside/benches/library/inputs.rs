@@ -6,13 +6,14 @@ use reference::event::*;
 use reference::justification::Outcome;
 use reference::log::Log;
 use reference::reads::transactions;
+use reference::store::Store;
 use reference::worked::marking;
 
 /// A log of a simulated transactional memory, with exactly so many transactions and events. It is opaque.
 pub fn simulated(begins: usize, events: usize, seed: u64) -> Vec<Event> {
     let length = (events / begins / 2).max(2);
     let plan = Plan { transactions: begins, threads: begins.min(4), registers: 16, events, length, faults: Faults::default() };
-    let mut logs = (seed * 1_000_000..).map(|seed| simulate(&mut Random::new(seed), plan));
+    let mut logs = (seed * 1_000_000..).map(|seed| simulate(&mut Random::new(seed), Store::ZERO, plan).events);
     logs.find(|log| log.len() == events && transactions(log) == begins).expect("some seed gives such a log")
 }
 

@@ -4,8 +4,13 @@ use crate::measure::{measure, Measured};
 use plain::{Scanned, Straightened, Tally, Verdict};
 use reference::event::{Columns as Held, Event};
 use reference::history_file;
-use sendoshi::{calls, Columns, ColumnsMut};
+use reference::store::Store as HeldStore;
+use sendoshi::{calls, Columns, ColumnsMut, Store};
 use std::hint::black_box;
+
+/// All captures are of edition 1.
+const STORE: Store = Store::ZERO;
+const PLAIN_STORE: plain::Store = plain::Store { edition: STORE.edition, starts: STORE.starts };
 
 /// A capture, in columns that the reader may fill.
 pub struct Capture {
@@ -17,7 +22,8 @@ pub struct Capture {
 
 impl Capture {
     pub fn new(events: &[Event]) -> Capture {
-        Capture { file: history_file::write(events), held: Held::of(events), count: events.len(), output: vec![0; 32_768] }
+        let file = history_file::write(&HeldStore::ZERO, events);
+        Capture { file, held: Held::of(events), count: events.len(), output: vec![0; 32_768] }
     }
 
     fn library(&self) -> Columns<'_> {
@@ -36,12 +42,13 @@ impl Capture {
         let file = &self.file;
         let library = |held: &mut Held| {
             let Held { kinds, transactions, registers, values } = held;
-            let answer = calls::read(black_box(file), ColumnsMut { kinds, transactions, registers, values });
-            (answer.code == 0).then_some(answer.place as usize)
+            let answer = calls::read(black_box(file), &mut [0; 32], ColumnsMut { kinds, transactions, registers, values });
+            (answer.code == 0).then_some(answer.halves().1)
         };
         let plain = |held: &mut Held| {
             let Held { kinds, transactions, registers, values } = held;
-            plain::read(black_box(file), kinds, transactions, registers, values).ok()
+            let read = plain::read(black_box(file), &mut [0; 32], kinds, transactions, registers, values);
+            read.ok().map(|(_, count)| count)
         };
         assert_eq!(library(&mut held), Some(self.count));
         assert_eq!(plain(&mut other), Some(self.count));
@@ -52,8 +59,8 @@ impl Capture {
     pub fn write(&self) -> Measured {
         let mut output = self.output.clone();
         let mut other = self.output.clone();
-        let library = |output: &mut [u8]| calls::write(black_box(self.library()), self.count, output).place as usize;
-        let plain = |output: &mut [u8]| plain::write(black_box(self.plain()), self.count, output).ok();
+        let library = |output: &mut [u8]| calls::write(STORE, black_box(self.library()), self.count, output).place as usize;
+        let plain = |output: &mut [u8]| plain::write(PLAIN_STORE, black_box(self.plain()), self.count, output).ok();
         assert_eq!(Some(library(&mut output)), plain(&mut other));
         assert_eq!(output, other);
         measure(|| library(&mut output), || plain(&mut other))
@@ -68,8 +75,8 @@ impl Capture {
     }
 
     pub fn scan(&self) -> Measured {
-        let library = || calls::scan(black_box(self.library()), self.count);
-        let plain = || plain::scan(black_box(self.plain()), self.count);
+        let library = || calls::scan(STORE, black_box(self.library()), self.count);
+        let plain = || plain::scan(PLAIN_STORE, black_box(self.plain()), self.count);
         let expected = match plain().expect("a capture that is judged") {
             Scanned::Opaque => (0, 0),
             Scanned::Faulted(event, cause) => (100 + u32::from(cause), event as u32),
@@ -83,10 +90,11 @@ impl Capture {
         let mut output = self.output.clone();
         let mut other = self.output.clone();
         let library = |output: &mut [u8]| {
-            let answer = calls::find(black_box(self.library()), self.count, self.count, output);
+            let answer = calls::find(STORE, black_box(self.library()), self.count, self.count, output);
             (answer.code == 0).then_some(answer.place as usize)
         };
-        let plain = |output: &mut [u8]| plain::find(black_box(self.plain()), self.count, self.count, output).ok().flatten();
+        let plain =
+            |output: &mut [u8]| plain::find(PLAIN_STORE, black_box(self.plain()), self.count, self.count, output).ok().flatten();
         assert_eq!(library(&mut output), plain(&mut other));
         assert_eq!(output, other);
         measure(|| library(&mut output), || plain(&mut other))
@@ -94,8 +102,8 @@ impl Capture {
 
     /// The checker on a marking that is accepted.
     pub fn check(&self, marking: &[u8]) -> Measured {
-        let library = || calls::check(black_box(self.library()), self.count, black_box(marking));
-        let plain = || plain::check(black_box(self.plain()), self.count, black_box(marking));
+        let library = || calls::check(STORE, black_box(self.library()), self.count, black_box(marking));
+        let plain = || plain::check(PLAIN_STORE, black_box(self.plain()), self.count, black_box(marking));
         assert_eq!(library().code, 0);
         assert_eq!(plain(), Ok(Verdict::Accepted));
         measure(library, plain)
@@ -106,11 +114,11 @@ impl Capture {
         let (mut output, mut list) = (self.output.clone(), vec![0; self.count]);
         let (mut other, mut other_list) = (self.output.clone(), vec![0; self.count]);
         let library = |output: &mut [u8], list: &mut [u32]| {
-            let answer = calls::straighten(black_box(self.library()), self.count, black_box(marking), output, list);
+            let answer = calls::straighten(STORE, black_box(self.library()), self.count, black_box(marking), output, list);
             (answer.code == 0).then_some(answer.halves())
         };
         let plain = |output: &mut [u8], list: &mut [u32]| {
-            let result = plain::straighten(black_box(self.plain()), self.count, black_box(marking), output, list);
+            let result = plain::straighten(PLAIN_STORE, black_box(self.plain()), self.count, black_box(marking), output, list);
             match result {
                 Ok(Straightened::Done { length, moved }) => Some((moved, length)),
                 _ => None,
@@ -125,8 +133,9 @@ impl Capture {
 
 /// The scan of several captures, for the mean of one.
 pub fn scan_all(captures: &[Capture]) -> Measured {
-    let library = || captures.iter().map(|c| calls::scan(black_box(c.library()), c.count).code).max();
-    let plain = || captures.iter().filter(|c| plain::scan(black_box(c.plain()), c.count) != Ok(Scanned::Opaque)).count();
+    let library = || captures.iter().map(|c| calls::scan(STORE, black_box(c.library()), c.count).code).max();
+    let plain =
+        || captures.iter().filter(|c| plain::scan(PLAIN_STORE, black_box(c.plain()), c.count) != Ok(Scanned::Opaque)).count();
     assert_eq!((library(), plain()), (Some(0), 0), "all captures are opaque");
     let Measured { library, plain, ratio, samples } = measure(library, plain);
     let each = captures.len() as f64;
