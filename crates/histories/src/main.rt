@@ -1,10 +1,14 @@
 // Shows the reader's and the writer's limits on files built here: one line a case. The expected
 // lines are in stdout.
 use libc::STDOUT_FILENO;
+use reader::HistoryRead;
 use reader::Reading;
 use reader::read_history;
 use writer::Writing;
 use writer::write_history;
+
+// What every register of edition 1 starts with.
+const NO_STARTS: [u32; 32] = [0; 32];
 
 // A file under construction; what does not fit is left out.
 fn put(file: &mut [u8; 33000], at: usize, x: u8) -> usize {
@@ -26,10 +30,22 @@ fn put_u32(file: &mut [u8; 33000], at: usize, x: u32) -> usize {
     put_u16(file, next, (x / 65536) as u16)
 }
 
-fn head(file: &mut [u8; 33000]) -> usize {
+fn head_of(file: &mut [u8; 33000], edition: u16) -> usize {
     let a = put_u16(file, 0, 4);
     let b = put_u16(file, a, 1);
-    put_u16(file, b, 1)
+    put_u16(file, b, edition)
+}
+
+fn head(file: &mut [u8; 33000]) -> usize {
+    head_of(file, 1)
+}
+
+// A start record.
+fn start(file: &mut [u8; 33000], at: usize, r: u16, v: u32) -> usize {
+    let a = put_u16(file, at, 8);
+    let b = put_u16(file, a, 3);
+    let c = put_u16(file, b, r);
+    put_u32(file, c, v)
 }
 
 // A record of a transaction alone; with a thread or register; with a value; with both.
@@ -69,7 +85,12 @@ fn number(n: usize) {
     io::print_decimal(STDOUT_FILENO, n as u64);
 }
 
-fn say_reading(v: Reading) {
+fn wide(x: u32) -> usize {
+    x as usize
+}
+
+fn say_reading(read: HistoryRead) {
+    let v = read.reading;
     match v {
         Reading::Read(n) => {
             say(b"read ");
@@ -202,12 +223,30 @@ fn h0_back(file: &[u8], n: usize) {
         &mut values,
     ));
     say(b"H0 back: ");
-    say_writing(write_history(&kinds, &transactions, &registers, &values, 10, &mut output));
+    say_writing(write_history(
+        1,
+        &NO_STARTS,
+        &kinds,
+        &transactions,
+        &registers,
+        &values,
+        10,
+        &mut output,
+    ));
     if check::same(h0, &output) {
         say(b"H0 back: the same bytes\n");
     }
     say(b"H0 with a count of 11: ");
-    say_writing(write_history(&kinds, &transactions, &registers, &values, 11, &mut output));
+    say_writing(write_history(
+        1,
+        &NO_STARTS,
+        &kinds,
+        &transactions,
+        &registers,
+        &values,
+        11,
+        &mut output,
+    ));
 }
 
 // The same into an output of 87 bytes, and into a column of 9 entries.
@@ -233,7 +272,131 @@ fn h0_short(file: &[u8], n: usize) {
         &mut values,
     ));
     say(b"H0 into 87 bytes: ");
-    say_writing(write_history(&kinds, &transactions, &registers, &values, 10, &mut output));
+    say_writing(write_history(
+        1,
+        &NO_STARTS,
+        &kinds,
+        &transactions,
+        &registers,
+        &values,
+        10,
+        &mut output,
+    ));
+}
+
+// A start record in a file of an edition, and a begin.
+fn start_case(name: &[u8], edition: u16, r: u16, v: u32) {
+    let mut file = [0u8; 33000];
+    let a = head_of(&mut file, edition);
+    let b = start(&mut file, a, r, v);
+    let n = with_register(&mut file, b, 16, 0, 0);
+    show(name, &file, n);
+}
+
+// Two start records, of one register.
+fn starts_case() {
+    let mut file = [0u8; 33000];
+    let a = head_of(&mut file, 2);
+    let b = start(&mut file, a, 3, 7);
+    let n = start(&mut file, b, 3, 8);
+    show(b"a register that starts twice: ", &file, n);
+}
+
+// A start record behind an event, with a register and a value that are refused before it.
+fn late_case() {
+    let mut file = [0u8; 33000];
+    let a = head_of(&mut file, 2);
+    let b = with_register(&mut file, a, 16, 0, 0);
+    let n = start(&mut file, b, 32, 0);
+    show(b"a start after an event: ", &file, n);
+}
+
+// A file of edition 2 in which register 3 starts with 7 and register 31 with 9, read and written back.
+fn second_back(file: &[u8], n: usize) {
+    let mut kinds = [0u16; 10];
+    let mut transactions = [0u16; 10];
+    let mut registers = [0u16; 10];
+    let mut values = [0u32; 10];
+    let mut output = [0u8; 34];
+    if file.len() < n {
+        return;
+    }
+    let second = &file[..n];
+    let read = read_history(
+        second,
+        &mut kinds,
+        &mut transactions,
+        &mut registers,
+        &mut values,
+    );
+    let starts = read.starts;
+    say(b"edition ");
+    number(read.edition as usize);
+    say(b", register 3 starts with ");
+    number(wide(starts[3]));
+    say(b", register 31 with ");
+    number(wide(starts[31]));
+    say(b": ");
+    say_reading(read);
+    say(b"edition 2 back: ");
+    say_writing(write_history(
+        2,
+        &starts,
+        &kinds,
+        &transactions,
+        &registers,
+        &values,
+        1,
+        &mut output,
+    ));
+    if check::same(second, &output) {
+        say(b"edition 2 back: the same bytes\n");
+    }
+}
+
+// Its start values, told to the writer for edition 1.
+fn second_as_first(file: &[u8], n: usize) {
+    let mut kinds = [0u16; 10];
+    let mut transactions = [0u16; 10];
+    let mut registers = [0u16; 10];
+    let mut values = [0u32; 10];
+    let mut output = [0u8; 34];
+    if file.len() < n {
+        return;
+    }
+    let read = read_history(
+        &file[..n],
+        &mut kinds,
+        &mut transactions,
+        &mut registers,
+        &mut values,
+    );
+    let starts = read.starts;
+    say(b"its start values in edition 1: ");
+    say_writing(write_history(
+        1,
+        &starts,
+        &kinds,
+        &transactions,
+        &registers,
+        &values,
+        1,
+        &mut output,
+    ));
+}
+
+fn second_case() {
+    let mut file = [0u8; 33000];
+    let a = head_of(&mut file, 2);
+    let b = start(&mut file, a, 3, 7);
+    let c = start(&mut file, b, 31, 9);
+    let n = with_register(&mut file, c, 16, 0, 0);
+    second_cases(&file, n);
+}
+
+fn second_cases(file: &[u8; 33000], n: usize) {
+    second_back(file, n);
+    second_as_first(file, n);
 }
 
 fn h0_case() {
@@ -259,4 +422,12 @@ fn main() {
     show(b"an empty file: ", &empty, 0);
     show(b"32769 bytes: ", &empty, 32769);
     h0_case();
+    start_case(b"register 31 starts with 5: ", 2, 31, 5);
+    start_case(b"register 32 starts with 5: ", 2, 32, 5);
+    start_case(b"register 0 starts with 0: ", 2, 0, 0);
+    start_case(b"a start in edition 1: ", 1, 0, 5);
+    start_case(b"edition 3: ", 3, 0, 5);
+    starts_case();
+    late_case();
+    second_case();
 }
