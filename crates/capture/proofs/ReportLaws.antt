@@ -6,7 +6,6 @@ use mathlib.Core.Path.{_≡_, refl, sym, ap, _∙_}
 use mathlib.Core.Bool.{true, cond}
 use mathlib.Core.List.{List}
 use lib.ListN.{length}
-use Rattle.events.specs.declared.event.Event.{Event}
 use Rattle.events.specs.declared.columns.Checked.{Checked}
 use Rattle.events.specs.Bytes.{Bytes}
 use Rattle.events.specs.Columns.{Columns, history, hold, filledWith}
@@ -21,7 +20,7 @@ use Rattle.marking.specs.Answer.{afterColumns, verdictAnswer}
 use Rattle.reader.specs.declared.HistoryRead.{HistoryRead}
 use Rattle.reader.specs.declared.Reading.{Reading}
 use Rattle.reader.specs.Reading.{Log, Outcome, readable, refused, historyOf, told, declined, ReadAnswer, answered, filled, readAnswer}
-use Rattle.writer.proofs.WriteBack.{Back, write-back}
+use Rattle.writer.proofs.WriteBack.{write-back}
 use Rattle.writer.proofs.RoundTrip.{read-stands}
 use Rattle.capture.specs.declared.Report.{Report}
 use Rattle.capture.specs.Report.{markingOf, opacityOf, judged, saidOf, reportOn, markingBy, opacityBy}

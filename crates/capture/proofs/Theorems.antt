@@ -31,7 +31,7 @@ use Rattle.marking.proofs.ContentLaws.{content-readable}
 use Rattle.reader.specs.Reading.{Log, Outcome, readable, refused, historyOf}
 use Rattle.reader.specs.FirstEdition.{FirstOutcome, events, refuses, firstHistory}
 use Rattle.reader.proofs.FirstEdition.{either, same-history}
-use Rattle.writer.proofs.WriteBack.{Back, write-back}
+use Rattle.writer.proofs.WriteBack.{write-back}
 use Rattle.scan.specs.declared.Judgement.{Judgement}
 use Rattle.scan.specs.Answer.{sizeRefusal, decided}
 use Rattle.scan.proofs.AnswerLaws.{decided-refused, decided-scanned, scanned-e, refused-31, passes-31, passes-31-e}

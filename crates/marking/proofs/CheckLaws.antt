@@ -13,12 +13,10 @@ use Rattle.events.specs.declared.event.Event.{Event}
 use Rattle.events.specs.Lists.{_and_, keep, push, range}
 use Rattle.events.specs.Events.{eventAt, noEvent, begins, isRead}
 use Rattle.events.specs.Columns.{Columns, history}
-use Rattle.events.specs.declared.columns.Checked.the-variants.{Readable}
-use Rattle.events.specs.Questions.{readable, historyAnswer}
+use Rattle.events.specs.Questions.{readable}
 use Rattle.events.proofs.ListLaws.{keep-append}
 use Rattle.events.proofs.ColumnLaws.{history-length, history-at, begins-take, Held}
-use Rattle.events.proofs.ReadableLaws.{readable-most, columns-readable}
-use Rattle.events.proofs.StartLaws.{fine}
+use Rattle.events.proofs.ReadableLaws.{readable-most}
 use Rattle.events.proofs.QuestionLaws.{begun}
 use Rattle.opacity.proofs.Bounds.{at-most-64, register-low}
 use Rattle.opacity.specs.Transactions.{isStoreRead, storeReads}
@@ -33,10 +31,6 @@ use Rattle.marking.specs.State.{knownBy, pointsOf, soFar, readAs, Kept}
 use Rattle.marking.proofs.WalkLaws.{refused-as, content-as}
 
 -- ---- a readable history
-
--- where no question refuses the history, the columns hold it and it is readable
-pub history-readable : (edition : ℕ) (starts : List ℕ) (c : Columns) (n : ℕ) → historyAnswer edition starts c n ≡ Readable → Held c n × (readable (history c n) ≡ true)
-history-readable edition starts c n e = columns-readable c n (fine edition starts c n e .columns)
 
 module _ (c : Columns) (n : ℕ) (r : readable (history c n) ≡ true) where
   few-events : n ≤ 2048

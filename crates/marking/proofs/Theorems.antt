@@ -14,7 +14,7 @@ use Rattle.events.specs.Bytes.{Bytes}
 use Rattle.events.specs.Columns.{Columns, history}
 use Rattle.events.specs.Starts.{startOf, noStarts}
 use Rattle.events.specs.Questions.{readable, historyAnswer}
-use Rattle.events.proofs.StartLaws.{no-starts, first-edition as first-asked}
+use Rattle.events.proofs.StartLaws.{no-starts, first-edition as first-asked, history-readable}
 use Rattle.opacity.specs.declared.verdict.Verdict.{Verdict}
 use Rattle.opacity.specs.declared.verdict.Verdict.the-variants.{Accepted, Broken}
 use Rattle.opacity.specs.declared.verdict.Rule.{Rule}
@@ -24,7 +24,6 @@ use Rattle.opacity.proofs.Theorems.{accepted-iff-rules, accepted-iff-justified,
 use Rattle.marking.specs.declared.check.Judged.the-variants.{Ruled, HistoryRefused, MarkingRefused}
 use Rattle.marking.specs.File.{known, FileRead, content, refused, fileRead}
 use Rattle.marking.specs.Answer.{ruled, afterColumns, verdictAnswer, firstEditionAnswer}
-use Rattle.marking.proofs.CheckLaws.{history-readable}
 use Rattle.marking.proofs.ContentLaws.{content-readable}
 use Rattle.marking.proofs.ReadBack.{bytes-content}
 use Rattle.marking.proofs.WriteBack.{content-bytes}

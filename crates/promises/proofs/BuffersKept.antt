@@ -4,12 +4,11 @@
 -- Assumes nothing.
 use Prim.Native.Nat.{ℕ}
 use native.Mathlib.Omega.{arith}
-use mathlib.Core.Path.{_≡_, refl, sym, ap, _∙_}
+use mathlib.Core.Path.{_≡_, refl, ap}
 use mathlib.Core.Logic.{_⊎_, ⊎-elim}
 use mathlib.Core.List.{List}
-use Rattle.events.specs.declared.columns.Checked.{Checked}
-use Rattle.events.specs.declared.columns.Checked.the-variants.{Readable, Refused as Refuses}
-use Rattle.events.specs.Columns.{Columns, history}
+use Rattle.events.specs.declared.columns.Checked.the-variants.{Readable}
+use Rattle.events.specs.Columns.{Columns}
 use Rattle.events.specs.Questions.{historyAnswer}
 use Rattle.reader.specs.declared.Reading.{Reading}
 use Rattle.reader.specs.declared.Reading.the-variants.{Read, Refused as Unread}

@@ -3,8 +3,7 @@
 -- Assumes nothing.
 use Prim.Native.Nat.{ℕ, _≤_}
 use native.Mathlib.Omega.{arith}
-use mathlib.Core.Path.{_≡_, refl, sym, ap, _∙_, subst}
-use mathlib.Core.Bool.{true}
+use mathlib.Core.Path.{_≡_, sym, ap, _∙_, subst}
 use mathlib.Core.List.{List}
 use lib.ListN.{length, take}
 use Rattle.events.specs.declared.event.Event.{Event}
@@ -16,7 +15,7 @@ use Rattle.events.proofs.ColumnLaws.{Held, hold-e, history-take}
 use Rattle.events.proofs.ReadableLaws.{readable-columns, readable-fewer}
 use Rattle.events.proofs.StartLaws.{fine-answer}
 use Rattle.opacity.specs.declared.verdict.Verdict.the-variants.{Accepted}
-use Rattle.opacity.specs.Marking.{Marking, ReadableFor, marked, markingBytes, verdict}
+use Rattle.opacity.specs.Marking.{Marking, ReadableFor, marked, verdict}
 use Rattle.finder.specs.declared.Found.{Found}
 use Rattle.finder.specs.Answer.{foundAnswer}
 use Rattle.finder.proofs.AnswerLaws.{Passed, passed}

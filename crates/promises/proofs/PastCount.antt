@@ -7,7 +7,6 @@ use mathlib.Core.Bool.{Bool, true, false, cond}
 use mathlib.Core.List.{List}
 use lib.Dec.{leb}
 use lib.ListN.{length}
-use Rattle.events.specs.declared.event.Event.{Event}
 use Rattle.events.specs.declared.columns.Checked.{Checked}
 use Rattle.events.specs.declared.columns.Checked.the-variants.{Readable, Refused as Refuses}
 use Rattle.events.specs.Bytes.{over}

@@ -17,7 +17,7 @@ use Rattle.events.specs.Columns.{Columns, history, hold}
 use Rattle.events.specs.Starts.{startOf, noStarts}
 use Rattle.events.specs.Questions.{historyAnswer}
 use Rattle.events.proofs.BufferLaws.{take-over, drop-over}
-use Rattle.events.proofs.StartLaws.{no-starts, first-edition as first-asked}
+use Rattle.events.proofs.StartLaws.{no-starts, history-readable, first-edition as first-asked}
 use Rattle.opacity.specs.declared.verdict.Rule.{Rule}
 use Rattle.opacity.specs.declared.verdict.Rule.the-variants.{D, E}
 use Rattle.opacity.specs.declared.verdict.Verdict.{Verdict}
@@ -28,7 +28,6 @@ use Rattle.opacity.proofs.Rules.{justified-accepted}
 use Rattle.marking.specs.declared.check.Judged.the-variants.{Ruled}
 use Rattle.marking.specs.File.{known, FileRead, content, refused, fileRead}
 use Rattle.marking.specs.Answer.{verdictAnswer}
-use Rattle.marking.proofs.CheckLaws.{history-readable}
 use Rattle.marking.proofs.ContentLaws.{content-readable}
 use Rattle.marking.proofs.ReadBack.{bytes-content}
 use Rattle.marking.proofs.WriteBack.{content-bytes}

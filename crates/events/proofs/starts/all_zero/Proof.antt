@@ -1,7 +1,7 @@
 -- `all_zero` meets its contract: the registers below r start at 0. Assumes nothing.
 use Prim.Native.Nat.{ℕ, _-_, _≤_, _<_}
 use mathlib.Core.Path.{_≡_, sym}
-use mathlib.Core.Bool.{Bool, true, false}
+use mathlib.Core.Bool.{true}
 use mathlib.Core.Logic.{⊎-elim}
 use native.Mathlib.Omega.{arith}
 use native.Mathlib.Nat.{not-suc-le-zero}
@@ -10,7 +10,7 @@ use lib.Dec.{eqb}
 use borrow.Author.Tests.{eq-eqb}
 use Rattle.events.specs.Starts.{startOf, allZero}
 use Rattle.events.proofs.ListLaws.{every-i, below-cases}
-use Rattle.events.proofs.StartLaws.{zero-start, not-all-zero}
+use Rattle.events.proofs.StartLaws.{not-all-zero}
 use Rattle.events.proofs.starts.all_zero.Statement.{statement}
 use Rattle.events.proofs.starts.all_zero.Tie as tie
 

@@ -3,7 +3,8 @@
 use mathlib.Core.Path.{sym, _∙_}
 use Rattle.events.specs.Columns.{columns}
 use Rattle.marking.specs.Answer.{verdictAnswer}
-use Rattle.marking.proofs.CheckLaws.{history-readable, ground}
+use Rattle.events.proofs.StartLaws.{history-readable}
+use Rattle.marking.proofs.CheckLaws.{ground}
 use borrow.Author.Needs.{needs}
 use Rattle.marking.proofs.check.check_marking.Statement.{statement}
 use Rattle.marking.proofs.check.check_marking.Tie as tie
