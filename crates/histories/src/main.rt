@@ -106,6 +106,27 @@ fn say_reading(read: HistoryRead) {
     say(b"\n");
 }
 
+// Writes a history of edition 1.
+fn write_first(
+    kinds: &[u16],
+    transactions: &[u16],
+    registers: &[u16],
+    values: &[u32],
+    count: usize,
+    output: &mut [u8],
+) -> Writing {
+    write_history(
+        1,
+        &NO_STARTS,
+        kinds,
+        transactions,
+        registers,
+        values,
+        count,
+        output,
+    )
+}
+
 fn say_writing(v: Writing) {
     match v {
         Writing::Written(n) => {
@@ -223,30 +244,12 @@ fn h0_back(file: &[u8], n: usize) {
         &mut values,
     ));
     say(b"H0 back: ");
-    say_writing(write_history(
-        1,
-        &NO_STARTS,
-        &kinds,
-        &transactions,
-        &registers,
-        &values,
-        10,
-        &mut output,
-    ));
+    say_writing(write_first(&kinds, &transactions, &registers, &values, 10, &mut output));
     if check::same(h0, &output) {
         say(b"H0 back: the same bytes\n");
     }
     say(b"H0 with a count of 11: ");
-    say_writing(write_history(
-        1,
-        &NO_STARTS,
-        &kinds,
-        &transactions,
-        &registers,
-        &values,
-        11,
-        &mut output,
-    ));
+    say_writing(write_first(&kinds, &transactions, &registers, &values, 11, &mut output));
 }
 
 // The same into an output of 87 bytes, and into a column of 9 entries.
@@ -272,16 +275,7 @@ fn h0_short(file: &[u8], n: usize) {
         &mut values,
     ));
     say(b"H0 into 87 bytes: ");
-    say_writing(write_history(
-        1,
-        &NO_STARTS,
-        &kinds,
-        &transactions,
-        &registers,
-        &values,
-        10,
-        &mut output,
-    ));
+    say_writing(write_first(&kinds, &transactions, &registers, &values, 10, &mut output));
 }
 
 // A start record in a file of an edition, and a begin.

@@ -1,7 +1,7 @@
 -- `h0_back` meets its contract. Assumes nothing.
 use lib.ListN.{length-take}
-use borrow.Author.Needs.{needs}
 use native.Mathlib.Omega.{arith}
+use borrow.Author.Needs.{needs}
 use Rattle.histories.proofs.h0_back.Statement.{statement}
 use Rattle.histories.proofs.h0_back.Tie as tie
 
@@ -41,23 +41,23 @@ slice-aggregate-say-2 c = search needs
 say-requires-2 : tie.Need-say-requires-2
 say-requires-2 c κs = search needs
 
-slice-aggregate-write-history : tie.Need-slice-aggregate-write-history
-slice-aggregate-write-history c = search needs
+slice-aggregate-write-first : tie.Need-slice-aggregate-write-first
+slice-aggregate-write-first c = search needs
 
-slice-aggregate-write-history-2 : tie.Need-slice-aggregate-write-history-2
-slice-aggregate-write-history-2 c = search needs
+slice-aggregate-write-first-2 : tie.Need-slice-aggregate-write-first-2
+slice-aggregate-write-first-2 c = search needs
 
-slice-aggregate-write-history-3 : tie.Need-slice-aggregate-write-history-3
-slice-aggregate-write-history-3 c = search needs
+slice-aggregate-write-first-3 : tie.Need-slice-aggregate-write-first-3
+slice-aggregate-write-first-3 c = search needs
 
-slice-aggregate-write-history-4 : tie.Need-slice-aggregate-write-history-4
-slice-aggregate-write-history-4 c = search needs
+slice-aggregate-write-first-4 : tie.Need-slice-aggregate-write-first-4
+slice-aggregate-write-first-4 c = search needs
 
-slice-aggregate-write-history-5 : tie.Need-slice-aggregate-write-history-5
-slice-aggregate-write-history-5 c = search needs
+slice-aggregate-write-first-5 : tie.Need-slice-aggregate-write-first-5
+slice-aggregate-write-first-5 c = search needs
 
-write-history-requires : tie.Need-write-history-requires
-write-history-requires c κs = search needs
+write-first-requires : tie.Need-write-first-requires
+write-first-requires c κs = search needs
 
 say-writing-requires : tie.Need-say-writing-requires
 say-writing-requires c κs = search needs
@@ -80,23 +80,23 @@ slice-aggregate-say-4 c = search needs
 say-requires-4 : tie.Need-say-requires-4
 say-requires-4 c κs = search needs
 
-slice-aggregate-write-history-6 : tie.Need-slice-aggregate-write-history-6
-slice-aggregate-write-history-6 c = search needs
+slice-aggregate-write-first-6 : tie.Need-slice-aggregate-write-first-6
+slice-aggregate-write-first-6 c = search needs
 
-slice-aggregate-write-history-7 : tie.Need-slice-aggregate-write-history-7
-slice-aggregate-write-history-7 c = search needs
+slice-aggregate-write-first-7 : tie.Need-slice-aggregate-write-first-7
+slice-aggregate-write-first-7 c = search needs
 
-slice-aggregate-write-history-8 : tie.Need-slice-aggregate-write-history-8
-slice-aggregate-write-history-8 c = search needs
+slice-aggregate-write-first-8 : tie.Need-slice-aggregate-write-first-8
+slice-aggregate-write-first-8 c = search needs
 
-slice-aggregate-write-history-9 : tie.Need-slice-aggregate-write-history-9
-slice-aggregate-write-history-9 c = search needs
+slice-aggregate-write-first-9 : tie.Need-slice-aggregate-write-first-9
+slice-aggregate-write-first-9 c = search needs
 
-slice-aggregate-write-history-10 : tie.Need-slice-aggregate-write-history-10
-slice-aggregate-write-history-10 c = search needs
+slice-aggregate-write-first-10 : tie.Need-slice-aggregate-write-first-10
+slice-aggregate-write-first-10 c = search needs
 
-write-history-requires-2 : tie.Need-write-history-requires-2
-write-history-requires-2 c κs = search needs
+write-first-requires-2 : tie.Need-write-first-requires-2
+write-first-requires-2 c κs = search needs
 
 say-writing-requires-2 : tie.Need-say-writing-requires-2
 say-writing-requires-2 c κs = search needs
@@ -120,12 +120,12 @@ h0-back-spec =
     say-reading-requires
     slice-aggregate-say-2
     say-requires-2
-    slice-aggregate-write-history
-    slice-aggregate-write-history-2
-    slice-aggregate-write-history-3
-    slice-aggregate-write-history-4
-    slice-aggregate-write-history-5
-    write-history-requires
+    slice-aggregate-write-first
+    slice-aggregate-write-first-2
+    slice-aggregate-write-first-3
+    slice-aggregate-write-first-4
+    slice-aggregate-write-first-5
+    write-first-requires
     say-writing-requires
     slice-aggregate-same
     same-requires
@@ -133,11 +133,11 @@ h0-back-spec =
     say-requires-3
     slice-aggregate-say-4
     say-requires-4
-    slice-aggregate-write-history-6
-    slice-aggregate-write-history-7
-    slice-aggregate-write-history-8
-    slice-aggregate-write-history-9
-    slice-aggregate-write-history-10
-    write-history-requires-2
+    slice-aggregate-write-first-6
+    slice-aggregate-write-first-7
+    slice-aggregate-write-first-8
+    slice-aggregate-write-first-9
+    slice-aggregate-write-first-10
+    write-first-requires-2
     say-writing-requires-2
     returns-2)

@@ -1,7 +1,7 @@
 -- `h0_short` meets its contract. Assumes nothing.
 use lib.ListN.{length-take}
-use borrow.Author.Needs.{needs}
 use native.Mathlib.Omega.{arith}
+use borrow.Author.Needs.{needs}
 use Rattle.histories.proofs.h0_short.Statement.{statement}
 use Rattle.histories.proofs.h0_short.Tie as tie
 
@@ -65,23 +65,23 @@ slice-aggregate-say-3 c = search needs
 say-requires-3 : tie.Need-say-requires-3
 say-requires-3 c κs = search needs
 
-slice-aggregate-write-history : tie.Need-slice-aggregate-write-history
-slice-aggregate-write-history c = search needs
+slice-aggregate-write-first : tie.Need-slice-aggregate-write-first
+slice-aggregate-write-first c = search needs
 
-slice-aggregate-write-history-2 : tie.Need-slice-aggregate-write-history-2
-slice-aggregate-write-history-2 c = search needs
+slice-aggregate-write-first-2 : tie.Need-slice-aggregate-write-first-2
+slice-aggregate-write-first-2 c = search needs
 
-slice-aggregate-write-history-3 : tie.Need-slice-aggregate-write-history-3
-slice-aggregate-write-history-3 c = search needs
+slice-aggregate-write-first-3 : tie.Need-slice-aggregate-write-first-3
+slice-aggregate-write-first-3 c = search needs
 
-slice-aggregate-write-history-4 : tie.Need-slice-aggregate-write-history-4
-slice-aggregate-write-history-4 c = search needs
+slice-aggregate-write-first-4 : tie.Need-slice-aggregate-write-first-4
+slice-aggregate-write-first-4 c = search needs
 
-slice-aggregate-write-history-5 : tie.Need-slice-aggregate-write-history-5
-slice-aggregate-write-history-5 c = search needs
+slice-aggregate-write-first-5 : tie.Need-slice-aggregate-write-first-5
+slice-aggregate-write-first-5 c = search needs
 
-write-history-requires : tie.Need-write-history-requires
-write-history-requires c κs = search needs
+write-first-requires : tie.Need-write-first-requires
+write-first-requires c κs = search needs
 
 say-writing-requires : tie.Need-say-writing-requires
 say-writing-requires c κs = search needs
@@ -113,11 +113,11 @@ h0-short-spec =
     say-reading-requires-2
     slice-aggregate-say-3
     say-requires-3
-    slice-aggregate-write-history
-    slice-aggregate-write-history-2
-    slice-aggregate-write-history-3
-    slice-aggregate-write-history-4
-    slice-aggregate-write-history-5
-    write-history-requires
+    slice-aggregate-write-first
+    slice-aggregate-write-first-2
+    slice-aggregate-write-first-3
+    slice-aggregate-write-first-4
+    slice-aggregate-write-first-5
+    write-first-requires
     say-writing-requires
     returns-2)
