@@ -13,10 +13,9 @@ use Rattle.events.specs.Questions.{columnsAnswer}
 use Rattle.opacity.specs.declared.verdict.Rule.{Rule}
 use Rattle.opacity.specs.declared.verdict.Verdict.{Verdict}
 use Rattle.opacity.specs.declared.verdict.Scanned.{Scanned}
-use Rattle.opacity.specs.Justification.{zeros}
 use Rattle.opacity.specs.Transactions.{storeReads}
 use Rattle.reader.specs.declared.Reading.{Reading}
-use Rattle.reader.specs.Reading.{readAnswer, number as readNumber, value as readValue}
+use Rattle.reader.specs.Reading.{readAnswer}
 use Rattle.writer.specs.declared.Writing.{Writing}
 use Rattle.writer.specs.Writing.{writtenAnswer, number as writtenNumber, value as writtenValue}
 use Rattle.finder.specs.declared.Found.{Found}
@@ -35,109 +34,109 @@ use Rattle.straighten.specs.declared.Straightening.{Straightening}
 use Rattle.straighten.specs.Answer.{straightenedAnswer}
 use Rattle.straighten.proofs.AnswerLaws.{told}
 use Rattle.straighten.proofs.Theorems.{never-broken-D}
-use Rattle.exports.specs.Codes.{brokenPlace, straightPlace, tallyPlace, readCode, writtenCode, foundCode, scannedCode, scanCode, verdictCode, checkCode, countCode, straightenCode, tallyCode, codeOf}
+use Rattle.exports.specs.Codes.{readPlace, readingCode, brokenPlace, straightPlace, tallyPlace, readCode, writtenCode, foundCode, scannedCode, scanCode, verdictCode, checkCode, countCode, straightenCode, tallyCode, codeOf}
 use Rattle.exports.specs.Calls.{readCall, writeCall, findCall, scanCall, checkCall, straightenCall, transactionsCall, storeReadsCall, tallyCall}
 use Rattle.exports.specs.Classes.{classOf, readClass, writtenClass, foundClass, scanClass, checkClass, straightenClass, countClass, tallyClass}
 use Rattle.exports.proofs.Bounds.{faulted-cause}
 use Rattle.exports.proofs.CodeLaws.{code-back}
 use Rattle.exports.proofs.Numbers.{Within}
 use Rattle.exports.proofs.Decode.{class-done, class-refused, class-none, class-faulted, class-broken}
-use Rattle.exports.proofs.Refusals.{below-100, read-refusal, write-refusal, find-refusal, scan-refusal, check-history, check-marking, straighten-refusal, straighten-marking, count-refusal, tally-refusal}
+use Rattle.exports.proofs.Refusals.{below-100, file-below-100, read-refusal, write-refusal, find-refusal, scan-refusal, check-history, check-marking, straighten-refusal, straighten-marking, count-refusal, tally-refusal}
 
-pub read-class : (file : List ℕ) (c : Columns) → classOf (codeOf (readCall file c .number)) ≡ readClass (readAnswer file c .result)
-unfolding readCall readCode readNumber readValue
-read-class file c = go (readAnswer file c .result) refl
+pub read-class : (file starts : List ℕ) (c : Columns) → classOf (codeOf (readCall file starts c .number)) ≡ readClass (readAnswer file c .result .reading)
+unfolding readCall readCode
+read-class file starts c = go (readAnswer file c .result .reading) refl
   where
-    go : (r : Reading) → readAnswer file c .result ≡ r → classOf (codeOf (readCode r)) ≡ readClass r
-    go (Reading.Read n) w = class-done n
-    go (Reading.Refused q b) w = class-refused q b (read-refusal file c q b w .0)
+    go : (r : Reading) → readAnswer file c .result .reading ≡ r → classOf (codeOf (readingCode (readAnswer file c .result .edition) r)) ≡ readClass r
+    go (Reading.Read n) w = class-done (readPlace (readAnswer file c .result .edition) n)
+    go (Reading.Refused q b) w = class-refused q b (file-below-100 (read-refusal file c q b w .0))
 
-pub write-class : (c : Columns) (count : ℕ) (output : List ℕ) → classOf (codeOf (writeCall c count output .number)) ≡ writtenClass (writtenAnswer c count output .result)
+pub write-class : (edition : ℕ) (starts : List ℕ) (c : Columns) (count : ℕ) (output : List ℕ) → classOf (codeOf (writeCall edition starts c count output .number)) ≡ writtenClass (writtenAnswer edition starts c count output .result)
 unfolding writeCall writtenCode writtenNumber writtenValue
-write-class c count output = go (writtenAnswer c count output .result) refl
+write-class edition starts c count output = go (writtenAnswer edition starts c count output .result) refl
   where
-    go : (r : Writing) → writtenAnswer c count output .result ≡ r → classOf (codeOf (writtenCode r)) ≡ writtenClass r
+    go : (r : Writing) → writtenAnswer edition starts c count output .result ≡ r → classOf (codeOf (writtenCode r)) ≡ writtenClass r
     go (Writing.Written n) w = class-done n
-    go (Writing.Refused q e) w = class-refused q e (below-100 (omega arith) (omega arith) (write-refusal c count output q e w))
+    go (Writing.Refused q e) w = class-refused q e (below-100 (omega arith) (omega arith) (write-refusal edition starts c count output q e w))
 
-pub find-class : (c : Columns) (count prefix : ℕ) (output : List ℕ)
-    → classOf (codeOf (findCall c count prefix output .number)) ≡ foundClass (foundAnswer c count prefix output .result)
+pub find-class : (edition : ℕ) (starts : List ℕ) (c : Columns) (count prefix : ℕ) (output : List ℕ)
+    → classOf (codeOf (findCall edition starts c count prefix output .number)) ≡ foundClass (foundAnswer edition starts c count prefix output .result)
 unfolding findCall foundCode foundAnswer
-find-class c count prefix output = go (foundAnswer c count prefix output .result) refl
+find-class edition starts c count prefix output = go (foundAnswer edition starts c count prefix output .result) refl
   where
-    go : (r : Found) → foundAnswer c count prefix output .result ≡ r → classOf (codeOf (foundCode r)) ≡ foundClass r
+    go : (r : Found) → foundAnswer edition starts c count prefix output .result ≡ r → classOf (codeOf (foundCode r)) ≡ foundClass r
     go (Found.Marking n) w = class-done n
     go Found.None w = class-none
     go (Found.Refused q e) w =
         class-refused q e
-        (below-100 (omega arith) (omega arith) (find-refusal c count prefix (length output) q e (refused-e _ _ output q e w .0)))
+        (below-100 (omega arith) (omega arith) (find-refusal edition starts c count prefix (length output) q e (refused-e _ _ output q e w .0)))
 
-pub scan-class : (c : Columns) (count : ℕ) → classOf (codeOf (scanCall c count)) ≡ scanClass (scanAnswer c count)
+pub scan-class : (edition : ℕ) (starts : List ℕ) (c : Columns) (count : ℕ) → classOf (codeOf (scanCall edition starts c count)) ≡ scanClass (scanAnswer edition starts c count)
 unfolding scanCall scanCode scannedCode
-scan-class c count = go (scanAnswer c count) refl
+scan-class edition starts c count = go (scanAnswer edition starts c count) refl
   where
-    go : (r : Judgement) → scanAnswer c count ≡ r → classOf (codeOf (scanCode r)) ≡ scanClass r
+    go : (r : Judgement) → scanAnswer edition starts c count ≡ r → classOf (codeOf (scanCode r)) ≡ scanClass r
     go (Judgement.Scanned Scanned.Opaque) w = class-done 0
-    go (Judgement.Scanned (Scanned.Faulted e k)) w = class-faulted e k (faulted-cause c count e k w)
-    go (Judgement.Refused q e) w = class-refused q e (below-100 (omega arith) (omega arith) (scan-refusal c count q e w))
+    go (Judgement.Scanned (Scanned.Faulted e k)) w = class-faulted e k (faulted-cause edition starts c count e k w)
+    go (Judgement.Refused q e) w = class-refused q e (below-100 (omega arith) (omega arith) (scan-refusal edition starts c count q e w))
 
 -- 104 never comes: no history is faulted by a begin, a call or a returned write.
-pub never-104 : (c : Columns) (count : ℕ) → codeOf (scanCall c count) ≡ 104 → ⊥
+pub never-104 : (edition : ℕ) (starts : List ℕ) (c : Columns) (count : ℕ) → codeOf (scanCall edition starts c count) ≡ 104 → ⊥
 unfolding scanCall scanCode scannedCode
-never-104 c count x = go (scanAnswer c count) refl x
+never-104 edition starts c count x = go (scanAnswer edition starts c count) refl x
   where
-    go : (r : Judgement) → scanAnswer c count ≡ r → codeOf (scanCode r) ≡ 104 → ⊥
+    go : (r : Judgement) → scanAnswer edition starts c count ≡ r → codeOf (scanCode r) ≡ 104 → ⊥
     go (Judgement.Scanned Scanned.Opaque) w k = omega (arith, code-back 0 0)
     go (Judgement.Scanned (Scanned.Faulted e n)) w k =
         let a : n ≡ 4 = omega (arith, code-back (100 + n) e) in
-        no-cause-four c count e (w ∙ ap (λ (m : ℕ). Judgement.Scanned (Scanned.Faulted e m)) a)
+        no-cause-four edition starts c count e (w ∙ ap (λ (m : ℕ). Judgement.Scanned (Scanned.Faulted e m)) a)
     go (Judgement.Refused q e) w k =
-        let r : Within 1 99 q = below-100 (omega arith) (omega arith) (scan-refusal c count q e w) in
+        let r : Within 1 99 q = below-100 (omega arith) (omega arith) (scan-refusal edition starts c count q e w) in
         omega (arith, code-back q e, r .most)
 
-pub check-class : (c : Columns) (count : ℕ) (file : List ℕ) → classOf (codeOf (checkCall c count file)) ≡ checkClass (verdictAnswer c count file)
+pub check-class : (edition : ℕ) (starts : List ℕ) (c : Columns) (count : ℕ) (file : List ℕ) → classOf (codeOf (checkCall edition starts c count file)) ≡ checkClass (verdictAnswer edition starts c count file)
 unfolding checkCall checkCode verdictCode
-check-class c count file = go (verdictAnswer c count file) refl
+check-class edition starts c count file = go (verdictAnswer edition starts c count file) refl
   where
-    go : (r : Judged) → verdictAnswer c count file ≡ r → classOf (codeOf (checkCode r)) ≡ checkClass r
+    go : (r : Judged) → verdictAnswer edition starts c count file ≡ r → classOf (codeOf (checkCode r)) ≡ checkClass r
     go (Judged.Ruled Verdict.Accepted) w = class-done 0
     go (Judged.Ruled (Verdict.Broken r e t)) w = class-broken r (brokenPlace e t)
-    go (Judged.HistoryRefused q e) w = class-refused q e (below-100 (omega arith) (omega arith) (check-history c count file q e w))
+    go (Judged.HistoryRefused q e) w = class-refused q e (below-100 (omega arith) (omega arith) (check-history edition starts c count file q e w))
     go (Judged.MarkingRefused q b) w =
-        let m = check-marking c count file q b w .0 in
+        let m = check-marking edition starts c count file q b w .0 in
         class-refused q b (record { least = m .least; most = omega (arith, m .most) })
 
-pub straighten-class : (c : Columns) (count : ℕ) (file output list : List ℕ)
-    → classOf (codeOf (straightenCall c count file output list .number)) ≡ straightenClass (straightenedAnswer c count file output list .result)
+pub straighten-class : (edition : ℕ) (starts : List ℕ) (c : Columns) (count : ℕ) (file output list : List ℕ)
+    → classOf (codeOf (straightenCall edition starts c count file output list .number)) ≡ straightenClass (straightenedAnswer edition starts c count file output list .result)
 unfolding straightenCall straightenCode
-straighten-class c count file output list = go (straightenedAnswer c count file output list .result) refl
+straighten-class edition starts c count file output list = go (straightenedAnswer edition starts c count file output list .result) refl
   where
-    go : (r : Straightening) → straightenedAnswer c count file output list .result ≡ r → classOf (codeOf (straightenCode r)) ≡ straightenClass r
+    go : (r : Straightening) → straightenedAnswer edition starts c count file output list .result ≡ r → classOf (codeOf (straightenCode r)) ≡ straightenClass r
     go (Straightening.Straightened n k) w = class-done (straightPlace n k)
     go (Straightening.Broken r e t) w = class-broken r (brokenPlace e t)
-    go (Straightening.Refused q e) w = class-refused q e (below-100 (omega arith) (omega arith) (straighten-refusal c count file output list q e w))
+    go (Straightening.Refused q e) w = class-refused q e (below-100 (omega arith) (omega arith) (straighten-refusal edition starts c count file output list q e w))
     go (Straightening.MarkingRefused q b) w =
-        let m = straighten-marking c count file output list q b w .0 in
+        let m = straighten-marking edition starts c count file output list q b w .0 in
         class-refused q b (record { least = m .least; most = omega (arith, m .most) })
 
 -- 204 never comes of straighten: a point at its reader's place breaks no rule D.
-pub straighten-never-204 : (c : Columns) (count : ℕ) (file output list : List ℕ) → codeOf (straightenCall c count file output list .number) ≡ 204 → ⊥
+pub straighten-never-204 : (edition : ℕ) (starts : List ℕ) (c : Columns) (count : ℕ) (file output list : List ℕ) → codeOf (straightenCall edition starts c count file output list .number) ≡ 204 → ⊥
 unfolding straightenCall straightenCode straightenedAnswer
-straighten-never-204 c count file output list x = go (straightenedAnswer c count file output list .result) refl x
+straighten-never-204 edition starts c count file output list x = go (straightenedAnswer edition starts c count file output list .result) refl x
   where
-    go : (r : Straightening) → straightenedAnswer c count file output list .result ≡ r → codeOf (straightenCode r) ≡ 204 → ⊥
+    go : (r : Straightening) → straightenedAnswer edition starts c count file output list .result ≡ r → codeOf (straightenCode r) ≡ 204 → ⊥
     go (Straightening.Straightened n k) w z = omega (arith, code-back 0 (straightPlace n k))
     go (Straightening.Broken Rule.A e t) w z = omega (arith, code-back 201 (brokenPlace e t))
     go (Straightening.Broken Rule.B e t) w z = omega (arith, code-back 202 (brokenPlace e t))
     go (Straightening.Broken Rule.C e t) w z = omega (arith, code-back 203 (brokenPlace e t))
     go (Straightening.Broken Rule.D e t) w z =
-        let m = told zeros c count file output list (Straightening.Broken Rule.D e t) w .0 in
-        never-broken-D zeros c count file output list (m .0) (m .1) e t w
+        let m = told edition starts c count file output list (Straightening.Broken Rule.D e t) w .0 in
+        never-broken-D edition starts c count file output list (m .0) (m .1) e t w
     go (Straightening.Broken Rule.E e t) w z = omega (arith, code-back 205 (brokenPlace e t))
     go (Straightening.Refused q e) w z =
-        let r : Within 1 99 q = below-100 (omega arith) (omega arith) (straighten-refusal c count file output list q e w) in
+        let r : Within 1 99 q = below-100 (omega arith) (omega arith) (straighten-refusal edition starts c count file output list q e w) in
         omega (arith, code-back q e, r .most)
-    go (Straightening.MarkingRefused q b) w z = omega (arith, code-back q b, straighten-marking c count file output list q b w .0 .most)
+    go (Straightening.MarkingRefused q b) w z = omega (arith, code-back q b, straighten-marking edition starts c count file output list q b w .0 .most)
 
 count-class : (c : Columns) (count n : ℕ) → classOf (codeOf (countCode (counted (columnsAnswer c count) n))) ≡ countClass (counted (columnsAnswer c count) n)
 unfolding countCode countNumber countValue

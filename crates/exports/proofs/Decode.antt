@@ -5,9 +5,10 @@ use mathlib.Core.Logic.{⊎-elim}
 use Prim.Native.Nat.{ℕ, _+_, _-_, _≤_}
 use native.Mathlib.Omega.{arith}
 use mathlib.Core.Bool.{true, false}
+use mathlib.Core.List.{List}
 use lib.Dec.{eqb, ltb}
 use borrow.Author.Tests.{ne-eqb, lt-ltb, le-ltb}
-use Rattle.reader.specs.declared.Reading.{Reading}
+use Rattle.reader.specs.Reading.{told, declined}
 use Rattle.writer.specs.declared.Writing.{Writing}
 use Rattle.finder.specs.declared.Found.{Found}
 use Rattle.opacity.specs.declared.verdict.Rule.{Rule}
@@ -20,8 +21,8 @@ use Rattle.counts.specs.declared.Counting.{Counting}
 use Rattle.counts.specs.declared.Tallying.{Tallying}
 use Rattle.counts.specs.declared.tally.Tally.{Tally}
 use Rattle.straighten.specs.declared.Straightening.{Straightening}
-use Rattle.exports.specs.Codes.{most, packed, brokenCode, straightPlace, tallyPlace, Cause, Named, Halves, Bytes, codeOf, placeOf, eventOf, transactionOf}
-use Rattle.exports.specs.Decoded.{readingOf, writingOf, foundOf, judgementOf, ruleOf, byCode, judgedOf, straighteningOf, countingOf, tallyOf, tallyingOf}
+use Rattle.exports.specs.Codes.{most, packed, readPlace, brokenCode, straightPlace, tallyPlace, Cause, Named, Halves, Bytes, codeOf, placeOf, eventOf, transactionOf}
+use Rattle.exports.specs.Decoded.{readOf, writingOf, foundOf, judgementOf, ruleOf, byCode, judgedOf, straighteningOf, countingOf, tallyOf, tallyingOf}
 use Rattle.exports.specs.Classes.{Class, classOf}
 use Rattle.exports.proofs.CodeLaws.{code-back, place-back, upper-back, lower-back, committed-back, aborted-back, pending-back, live-back, rule-told, event-told, transaction-told}
 use Rattle.exports.proofs.Numbers.{Within}
@@ -32,10 +33,6 @@ use Rattle.exports.proofs.Files.{MarkingNumber}
 module _ (n : ℕ) (l : n ≤ most) where
   exact : placeOf (packed 0 n) ≡ n
   exact = place-back 0 n .1 l
-
-  pub read-back : readingOf (packed 0 n) ≡ Reading.Read n
-  unfolding readingOf
-  read-back = rw (code-back 0 n, exact)
 
   pub written-back : writingOf (packed 0 n) ≡ Writing.Written n
   unfolding writingOf
@@ -48,6 +45,10 @@ module _ (n : ℕ) (l : n ≤ most) where
   pub counted-back : countingOf (packed 0 n) ≡ Counting.Counted n
   unfolding countingOf
   counted-back = rw (code-back 0 n, exact)
+
+pub read-back : (edition n : ℕ) (starts : List ℕ) → Halves edition n → readOf (packed 0 (readPlace edition n)) starts ≡ told n edition starts
+unfolding readOf
+read-back edition n starts b = rw (code-back 0 (readPlace edition n), upper-back 0 edition n b, lower-back 0 edition n b)
 
 pub none-back : foundOf (packed 100 0) ≡ Found.None
 unfolding foundOf
@@ -121,9 +122,9 @@ module _ {q e : ℕ} (w : Within 1 99 q) (l : e ≤ most) where
   not-faulted : ltb 100 q ≡ false
   not-faulted = let a = w .most in le-ltb 100 q (omega arith)
 
-  pub unread-back : readingOf (packed q e) ≡ Reading.Refused q e
-  unfolding readingOf
-  unread-back = rw (code-back q e, at, not-done)
+  pub unread-back : (starts : List ℕ) → readOf (packed q e) starts ≡ declined q e
+  unfolding readOf
+  unread-back starts = rw (code-back q e, at, not-done)
 
   pub unwritten-back : writingOf (packed q e) ≡ Writing.Refused q e
   unfolding writingOf

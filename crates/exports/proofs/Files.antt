@@ -1,8 +1,8 @@
 -- The questions that refuse a file, and the byte that comes with them, which no file that is read goes beyond; and how many events a file
--- that is read has.
+-- that is read has, and which editions there are.
 -- Assumes nothing.
-use mathlib.Core.Path.{_≡_, refl, ap}
-use mathlib.Core.Logic.{_⊎_, inl, inr}
+use mathlib.Core.Path.{_≡_, refl, sym, ap, _∙_}
+use mathlib.Core.Logic.{_⊎_, inl, inr, ⊎-elim}
 use Prim.Native.Nat.{ℕ, zero, suc, _+_, _≤_, _<_}
 use native.Mathlib.Omega.{arith}
 use mathlib.Core.Bool.{Bool, true, false, cond}
@@ -15,108 +15,145 @@ use Rattle.events.specs.declared.event.Event.{Event}
 use Rattle.events.specs.declared.record.Record.{Record}
 use Rattle.events.specs.declared.record.Found.{Found}
 use Rattle.events.specs.declared.step.Step.{Step}
-use Rattle.events.specs.Lists.{_and_, all}
-use Rattle.events.specs.Questions.{refusal, Past, past, eventQuestions}
-use Rattle.events.specs.Records.{recordAt, bodyOf, eventIn, recordQuestions, unless, stepOn, stepAt}
-use Rattle.events.proofs.ListLaws.{and-l, and-r}
+use Rattle.events.specs.Lists.{_and_, _or_, all}
+use Rattle.events.specs.Questions.{Question, refusal, Past, past, eventQuestions}
+use Rattle.events.specs.Bytes.{pick}
+use Rattle.events.specs.Records.{recordAt, bodyOf, eventIn, recordQuestions, unless, stepOn, isStart, startQuestions, startRefusal, startOn, recordOn, recordStep}
+use Rattle.events.proofs.ListLaws.{and-l, and-r, or-cases}
 use Rattle.events.proofs.QuestionLaws.{asked, head-yes}
 use Rattle.events.proofs.RecordLaws.{whole-in}
-use Rattle.events.proofs.StepLaws.{taken-in}
-use Rattle.reader.specs.Reading.{isHead, opening, readable, refused, goOn, walk, opened, historyOf}
-use Rattle.reader.proofs.OpeningLaws.{Opens, opens}
+use Rattle.events.proofs.StepLaws.{starting}
+use Rattle.reader.specs.Reading.{isEdition, opening, Log, readable, refused, goOn, walk, opened, historyOf}
+use Rattle.reader.proofs.OpeningLaws.{opens, head-long, head-known}
+use Rattle.reader.proofs.WalkLaws.{event-in, readable≢}
 use Rattle.opacity.specs.Marking.{Marking}
 use Rattle.marking.specs.declared.step.Step.{Step as MarkingStep}
 use Rattle.marking.specs.File.{Known, Asked, asked as askedOf, everyPointed, isPlace, headQuestions, recordQuestions as markingQuestions, endQuestions, taken, unless as unlessBy, bodyStep, endStep, stepOn as markingStepOn, stepAt as markingStepAt, refused as refusedFile, goOn as goOnMarking, walk as walkMarking, headed, opening as openingMarking, nothingRead, afterOpening, fileRead}
 use Rattle.marking.proofs.StepLaws.{placed-told, pointed-told}
 use Rattle.marking.proofs.WalkLaws.{place-ends, point-ends}
-use Rattle.exports.proofs.Numbers.{Within, numbered}
+use Rattle.exports.proofs.Numbers.{Within, within, is-within, numbered-by, numbered}
 
 -- ---- a history's file
 
-step-number : (s : List ℕ) (at : ℕ) (p : Past) (q : ℕ) → stepAt s at p ≡ Step.Refused q → Within 2 13 q
-unfolding stepAt recordQuestions eventQuestions all _and_
-step-number s at p q x = go (recordAt s at) x
-  where
-    body : (r : Record) (o : Option ℕ) → refusal (recordQuestions p r (eventIn p s r)) ≡ o
-        → unless o (Step.Taken (eventIn p s r) (r .start + r .size)) ≡ Step.Refused q → Within 2 13 q
-    body r none w k = let z : _≡_ {A = ℕ} 0 1 = cc in absurd (omega arith)
-    body r (some n) w k =
-        let e : n ≡ q = cc in
-        let m = numbered 2 13 (recordQuestions p r (eventIn p s r)) refl n w in
-        record { least = omega (arith, m .least); most = omega (arith, m .most) }
+-- 1 to the last number given, and 41 to 43
+pub record HistoryNumber (last q : ℕ) : Type 0 where
+  pub least : 1 ≤ q
+  pub most : q ≤ 43
+  pub apart : (q ≤ last) ⊎ (41 ≤ q)
 
-    go : (f : Found) → stepOn p s f ≡ Step.Refused q → Within 2 13 q
-    go (Found.Whole r) k = body r (refusal (recordQuestions p r (eventIn p s r))) refl k
-    go Found.Short k = let e : 2 ≡ q = cc in record { least = omega arith; most = omega arith }
+abbrev ofFile : ℕ → Bool
+ofFile q = within 1 13 q or within 41 43 q
+
+of-file : (q : ℕ) → ofFile q ≡ true → HistoryNumber 13 q
+of-file q t =
+    ⊎-elim
+    (λ a. let w = is-within 1 13 q a in record { least = w .least; most = omega arith; apart = inl (w .most) })
+    (λ a. let w = is-within 41 43 q a in record { least = omega arith; most = w .most; apart = inr (w .least) })
+    (or-cases _ _ t)
+
+-- the question that refuses a record: 2, 4 to 13, and 41 to 43
+step-number : (edition : ℕ) (s : List ℕ) (at next : ℕ) (p : Past) (q : ℕ) → recordStep edition s at next p ≡ Step.Refused q → HistoryNumber 13 q
+unfolding recordStep recordQuestions eventQuestions startQuestions all _and_ _or_
+step-number edition s at next p q x = go (recordAt s at) x
+  where
+    its : (qs : List Question) → all (λ n. ofFile (n .number)) qs ≡ true → (o : Option ℕ) → refusal qs ≡ o → (y : Step)
+        → ((k : ℕ) → y ≡ Step.Refused k → ⊥) → unless o y ≡ Step.Refused q → HistoryNumber 13 q
+    its qs a none w y other k = absurd (other q k)
+    its qs a (some n) w y other k = let e : n ≡ q = cc in of-file q (ap ofFile (sym e) ∙ numbered-by ofFile qs a n w)
+
+    whole : (r : Record) (b : Bool) → pick b (startOn (p .count) next s r) (stepOn p s (Found.Whole r)) ≡ Step.Refused q → HistoryNumber 13 q
+    whole r true k = its _ refl (startRefusal (p .count) next s r) refl _ (λ n w. let z : _≡_ {A = ℕ} 0 1 = cc in omega arith) k
+    whole r false k = its _ refl (refusal (recordQuestions p r (eventIn p s r))) refl _ (λ n w. let z : _≡_ {A = ℕ} 0 1 = cc in omega arith) k
+
+    go : (f : Found) → recordOn edition next p s f ≡ Step.Refused q → HistoryNumber 13 q
+    go (Found.Whole r) k = whole r (isStart edition (r .kind)) k
+    go Found.Short k = let e : 2 ≡ q = cc in record { least = omega arith; most = omega arith; apart = inl (omega arith) }
     go Found.End k = let z : _≡_ {A = ℕ} 0 1 = cc in absurd (omega arith)
 
 -- the walk has as many steps as it needs, so that a question ends it
-walk-number : (left : ℕ) (s : List ℕ) (at : ℕ) (h : List Event) (q b : ℕ) → at ≤ length s → length s < at + left → walk left s at h ≡ refused q b
-    → Within 2 13 q × (b ≤ length s)
+walk-number : (left : ℕ) (s : List ℕ) (at next : ℕ) (l : Log) (q b : ℕ) → at ≤ length s → length s < at + left → walk left s at next l ≡ refused q b
+    → HistoryNumber 13 q × (b ≤ length s)
 unfolding walk
-walk-number zero s at h q b l m x = absurd (omega arith)
-walk-number (suc n) s at h q b l m x = go (stepAt s at (past h)) refl x (λ e end. walk-number n s end (h ++ (e ∷ [])) q b)
+walk-number zero s at next l q b i m x = absurd (omega arith)
+walk-number (suc n) s at next l q b i m x =
+    go (recordStep (l .edition) s at next (past (l .events))) refl x (λ end k y. walk-number n s end k y q b)
   where
-    go : (y : Step) → stepAt s at (past h) ≡ y → goOn (walk n s) at h y ≡ refused q b
-        → ((e : Event) (end : ℕ) → end ≤ length s → length s < end + n → walk n s end (h ++ (e ∷ [])) ≡ refused q b → Within 2 13 q × (b ≤ length s))
-        → Within 2 13 q × (b ≤ length s)
-    go (Step.Taken e end) w k ih = let t = taken-in s at (past h) e end w in ih e end (t .1) (omega (arith, t .0)) k
+    go : (y : Step) → recordStep (l .edition) s at next (past (l .events)) ≡ y → goOn (walk n s) at next l y ≡ refused q b
+        → ((end k : ℕ) (y : Log) → end ≤ length s → length s < end + n → walk n s end k y ≡ refused q b → HistoryNumber 13 q × (b ≤ length s))
+        → HistoryNumber 13 q × (b ≤ length s)
+    go (Step.Taken e end) w k ih =
+        let t = event-in (l .edition) s at next (past (l .events)) e end w in
+        ih end next _ (t .1) (omega (arith, t .0)) k
     go (Step.Refused p) w k ih =
         let e : p ≡ q = cc in
         let f : at ≡ b = cc in
-        let m = step-number s at (past h) p w in
-        (record { least = omega (arith, m .least); most = omega (arith, m .most) }, omega arith)
+        (rw e at (step-number (l .edition) s at next (past (l .events)) p w), omega arith)
     go Step.Finished w k ih = let z : _≡_ {A = ℕ} 0 1 = cc in absurd (omega arith)
-
-head-room : (s : List ℕ) → Opens s → 6 ≤ length s
-unfolding isHead
-head-room s o =
-    let i = whole-in s 0 (o .first) (o .there) in
-    let z : o .first .size ≡ 2 = eqb-true _ _ (and-l _ _ (and-r (eqb (o .first .kind) 1) _ (o .head))) in
-    omega (arith, i .0, i .1)
+    go (Step.Started r v end) w k ih =
+        let t = starting (l .edition) next (past (l .events)) s at r v end w in
+        ih end (r + 1) _ (t .within) (omega (arith, t .goes-on)) k
 
 opening-number : (s : List ℕ) (q : ℕ) → opening s ≡ some q → Within 1 3 q
 unfolding opening all _and_
 opening-number s q e = numbered 1 3 _ refl q e
 
--- 1 to 13, at a byte of a file of at most 32,768 bytes
-pub history-number : (s : List ℕ) (q b : ℕ) → historyOf s ≡ refused q b → Within 1 13 q × (b ≤ 32768)
+-- 1 to 13 and 41 to 43, at a byte of a file of at most 32,768 bytes
+pub history-number : (s : List ℕ) (q b : ℕ) → historyOf s ≡ refused q b → HistoryNumber 13 q × (b ≤ 32768)
 unfolding historyOf
 history-number s q b x = go (opening s) refl x
   where
-    go : (o : Option ℕ) → opening s ≡ o → opened s o ≡ refused q b → Within 1 13 q × (b ≤ 32768)
+    go : (o : Option ℕ) → opening s ≡ o → opened s o ≡ refused q b → HistoryNumber 13 q × (b ≤ 32768)
     go none w k =
-        let o = opens s w in
-        let r = walk-number (suc (length s)) s 6 [] q b (head-room s o) (omega arith) k in
-        (record { least = omega (arith, r .0 .least); most = r .0 .most }, omega (arith, r .1, o .short))
+        let r = walk-number (suc (length s)) s 6 0 _ q b (head-long s w) (omega arith) k in
+        (r .0, omega (arith, r .1, opens s w .short))
     go (some n) w k =
         let e : n ≡ q = cc in
         let f : 0 ≡ b = cc in
         let m = opening-number s n w in
-        (record { least = omega (arith, m .least); most = omega (arith, m .most) }, omega arith)
+        (record { least = omega (arith, m .least); most = omega (arith, m .most); apart = inl (omega (arith, m .most)) }, omega arith)
 
--- a file that question 14 is put to has at most 32,768 bytes and 2,048 events
-walk-count : (left : ℕ) (s : List ℕ) (at : ℕ) (h evs : List Event) → length h ≤ 2048 → walk left s at h ≡ readable evs → length evs ≤ 2048
+-- what a file that is read holds: at most 2,048 events, and the edition that its head names
+record Walked (edition : ℕ) (m : Log) : Type 0 where
+  few : length (m .events) ≤ 2048
+  same : m .edition ≡ edition
+
+walk-count : (left : ℕ) (s : List ℕ) (at next : ℕ) (l m : Log) → length (l .events) ≤ 2048 → walk left s at next l ≡ readable m → Walked (l .edition) m
 unfolding walk eventQuestions
-walk-count zero s at h evs l x = let z : _≡_ {A = ℕ} 0 1 = cc in absurd (omega arith)
-walk-count (suc n) s at h evs l x = go (stepAt s at (past h)) refl x (λ e end. walk-count n s end (h ++ (e ∷ [])) evs)
+walk-count zero s at next l m i x = let z : _≡_ {A = ℕ} 0 1 = cc in absurd (omega arith)
+walk-count (suc n) s at next l m i x = go (recordStep (l .edition) s at next (past (l .events))) refl x (λ end k y. walk-count n s end k y m)
   where
-    go : (y : Step) → stepAt s at (past h) ≡ y → goOn (walk n s) at h y ≡ readable evs
-        → ((e : Event) (end : ℕ) → length (h ++ (e ∷ [])) ≤ 2048 → walk n s end (h ++ (e ∷ [])) ≡ readable evs → length evs ≤ 2048)
-        → length evs ≤ 2048
+    go : (y : Step) → recordStep (l .edition) s at next (past (l .events)) ≡ y → goOn (walk n s) at next l y ≡ readable m
+        → ((end k : ℕ) (y : Log) → length (y .events) ≤ 2048 → walk n s end k y ≡ readable m → Walked (y .edition) m)
+        → Walked (l .edition) m
     go (Step.Taken e end) w k ih =
-        let t = taken-in s at (past h) e end w in
-        ih e end (omega (arith, asked (past h) e (t .2) .room, length-append h (e ∷ []))) k
-    go (Step.Refused p) w k ih = let z : _≡_ {A = ℕ} 0 1 = cc in absurd (omega arith)
-    go Step.Finished w k ih = let e : h ≡ evs = cc in let f : length h ≡ length evs = ap length e in omega arith
+        let t = event-in (l .edition) s at next (past (l .events)) e end w in
+        ih end next _ (omega (arith, asked (past (l .events)) e (t .2) .room, length-append (l .events) (e ∷ []))) k
+    go (Step.Refused p) w k ih = absurd (readable≢ p at m k)
+    go Step.Finished w k ih =
+        let e : l ≡ m = cc in
+        let f : length (l .events) ≡ length (m .events) = ap (λ (y : Log). length (y .events)) e in
+        record { few = omega arith; same = ap (λ (y : Log). y .edition) (sym e) }
+    go (Step.Started r v end) w k ih = ih end (r + 1) _ i k
 
-pub read-limits : (s : List ℕ) (evs : List Event) → historyOf s ≡ readable evs → (length s ≤ 32768) × (length evs ≤ 2048)
-unfolding historyOf
-read-limits s evs x = go (opening s) refl x
+-- A file that question 14 is put to has at most 32,768 bytes and 2,048 events, and its edition is 1 or 2.
+pub record ReadLimits (s : List ℕ) (l : Log) : Type 0 where
+  pub bytes : length s ≤ 32768
+  pub events : length (l .events) ≤ 2048
+  pub edition : (l .edition ≡ 1) ⊎ (l .edition ≡ 2)
+
+pub read-limits : (s : List ℕ) (l : Log) → historyOf s ≡ readable l → ReadLimits s l
+unfolding historyOf isEdition
+read-limits s l x = go (opening s) refl x
   where
-    go : (o : Option ℕ) → opening s ≡ o → opened s o ≡ readable evs → (length s ≤ 32768) × (length evs ≤ 2048)
-    go none w k = (opens s w .short, walk-count (suc (length s)) s 6 [] evs (omega arith) k)
-    go (some n) w k = let z : _≡_ {A = ℕ} 0 1 = cc in absurd (omega arith)
+    go : (o : Option ℕ) → opening s ≡ o → opened s o ≡ readable l → ReadLimits s l
+    go none w k =
+        let d = walk-count (suc (length s)) s 6 0 _ l (omega arith) k in
+        record {
+          bytes = opens s w .short;
+          events = d .few;
+          edition = ⊎-elim (λ a. inl (d .same ∙ eqb-true _ 1 a)) (λ a. inr (d .same ∙ eqb-true _ 2 a)) (or-cases _ _ (head-known s w));
+        }
+    go (some n) w k = absurd (readable≢ n 0 l k)
 
 -- ---- a marking's file
 

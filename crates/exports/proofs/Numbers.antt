@@ -2,27 +2,28 @@
 -- paper's, below 100, and the place is that of a readable part, or the count.
 -- Assumes nothing.
 use mathlib.Core.Path.{_≡_, refl, sym, ap, _∙_}
-use mathlib.Core.Logic.{_⊎_, inl, inr}
+use mathlib.Core.Logic.{_⊎_, inl, inr, ⊎-elim}
 use Prim.Native.Nat.{ℕ, zero, suc, _≤_, _<_}
-use native.Mathlib.Decide.{decLe}
 use native.Mathlib.Omega.{arith}
 use mathlib.Core.Bool.{Bool, true, false, cond}
 use mathlib.Core.List.{List, [], _∷_}
 use mathlib.Core.Option.{Option, none, some, Option·getD, Option·none-ne-some, Option·some-injective}
-use lib.Dec.{leb}
+use lib.Dec.{eqb, leb}
 use lib.ListN.{length, take}
 use lib.Seq.{length-take-le}
-use borrow.Author.Tests.{leb-true}
+use borrow.Author.Tests.{eqb-true, leb-true}
 use Rattle.events.specs.declared.event.Event.{Event}
 use Rattle.events.specs.declared.columns.Checked.{Checked}
-use Rattle.events.specs.Lists.{_and_, all, lowest}
+use Rattle.events.specs.Lists.{_and_, _or_, all, lowest}
 use Rattle.events.specs.Events.{eventAt}
 use Rattle.events.specs.Columns.{Columns, history, hold}
-use Rattle.events.specs.Questions.{Question, refusal, Past, past, eventQuestions, columnQuestions, refusedAt, readable, refusedWith, eventsAnswer, columnsAnswer}
-use Rattle.events.proofs.ListLaws.{and-l, and-r, lowest-some, Lowest}
+use Rattle.events.specs.Starts.{admits}
+use Rattle.events.specs.Questions.{Question, refusal, Past, past, eventQuestions, columnQuestions, refusedAt, readable, refusedWith, eventsAnswer, columnsAnswer, historyAnswer}
+use Rattle.events.proofs.ListLaws.{and-l, and-r, or-cases, lowest-some, Lowest}
 use Rattle.events.proofs.ColumnLaws.{history-length}
 use Rattle.events.proofs.QuestionLaws.{asked, fit}
-use Rattle.events.proofs.ReadableLaws.{readable-most}
+use Rattle.events.proofs.ReadableLaws.{columns-readable, readable-most}
+use Rattle.events.proofs.StartLaws.{fine}
 use Rattle.tables.specs.Calls.{askedOf, thenChecked}
 
 -- a number from one to another
@@ -33,32 +34,43 @@ pub record Within (low high q : ℕ) : Type 0 where
 abbrev pub within : ℕ → ℕ → ℕ → Bool
 within low high q = leb low q and leb q high
 
--- the question that refuses is one of those that are put
-pub numbered : (low high : ℕ) (qs : List Question) → all (λ q. within low high (q .number)) qs ≡ true → (n : ℕ) → refusal qs ≡ some n → Within low high n
+pub is-within : (low high q : ℕ) → within low high q ≡ true → Within low high q
+is-within low high q w = record { least = leb-true _ _ (and-l _ _ w); most = leb-true _ _ (and-r _ _ w) }
+
+-- the question that refuses is one of those that are put: what is so of each of their numbers is so of its number
+pub numbered-by : (f : ℕ → Bool) (qs : List Question) → all (λ q. f (q .number)) qs ≡ true → (n : ℕ) → refusal qs ≡ some n → f n ≡ true
 unfolding refusal all
-numbered low high [] a n e = absurd (Option·none-ne-some n e)
-numbered low high (q ∷ qs) a n e = go (q .yes) e (numbered low high qs (and-r _ _ a) n)
+numbered-by f [] a n e = absurd (Option·none-ne-some n e)
+numbered-by f (q ∷ qs) a n e = go (q .yes) e (numbered-by f qs (and-r _ _ a) n)
   where
-    go : (b : Bool) → cond b (refusal qs) (some (q .number)) ≡ some n → (refusal qs ≡ some n → Within low high n) → Within low high n
+    go : (b : Bool) → cond b (refusal qs) (some (q .number)) ≡ some n → (refusal qs ≡ some n → f n ≡ true) → f n ≡ true
     go true k ih = ih k
     go false k ih =
-        let w : within low high (q .number) ≡ true = and-l _ _ a in
         let s : q .number ≡ n = Option·some-injective (q .number) n k in
-        let l : low ≤ q .number = leb-true _ _ (and-l _ _ w) in
-        let m : q .number ≤ high = leb-true _ _ (and-r _ _ w) in
-        record { least = omega arith; most = omega arith }
+        ap f (sym s) ∙ and-l _ _ a
+
+pub numbered : (low high : ℕ) (qs : List Question) → all (λ q. within low high (q .number)) qs ≡ true → (n : ℕ) → refusal qs ≡ some n → Within low high n
+numbered low high qs a n e = is-within low high n (numbered-by (within low high) qs a n e)
 
 -- ---- columns
 
--- 17 and 18, whose event is the count, however large that is
+-- 17, 3 and 18, whose event is the count, however large that is
+abbrev pub OfCount : ℕ → Type 0
+OfCount q = (q ≡ 17) ⊎ ((q ≡ 3) ⊎ (q ≡ 18))
+
 pub record CountRefused (count q e : ℕ) : Type 0 where
   pub event : e ≡ count
-  pub question : (q ≡ 17) ⊎ (q ≡ 18)
+  pub question : OfCount q
 
--- a question of columns or of a call, with its event: at most 2,048, or the count of 17 or 18
+-- a question of columns or of a call, with its event: at most 2,048, or the count of 17, 3 or 18
 pub record Refusal (low high count q e : ℕ) : Type 0 where
   pub number : Within low high q
   pub place : (e ≤ 2048) ⊎ CountRefused count q e
+
+-- within wider limits
+pub widen : {low high low′ high′ count q e : ℕ} → low′ ≤ low → high ≤ high′ → Refusal low high count q e → Refusal low′ high′ count q e
+widen {low} {high} {low′} {high′} {count} {q} {e} a b r =
+    record { number = record { least = omega (arith, r .number .least); most = omega (arith, r .number .most) }; place = r .place }
 
 columns-numbered : (p : Past) (e : Event) (n : ℕ) → refusal (columnQuestions p e) ≡ some n → Within 4 17 n
 unfolding columnQuestions eventQuestions all _and_
@@ -111,48 +123,71 @@ columns-number c count q e x = go (hold c count) x
         let b : count ≡ e = cc in
         record { number = record { least = omega arith; most = omega arith }; place = inr (record { event = sym b; question = inl (sym a) }) }
 
+-- with the edition and the start values, 3 comes between
+pub call-number : (edition : ℕ) (starts : List ℕ) (c : Columns) (count q e : ℕ) → historyAnswer edition starts c count ≡ Checked.Refused q e → Refusal 3 17 count q e
+unfolding historyAnswer columnsAnswer
+call-number edition starts c count q e x = go (hold c count) refl (admits edition starts) x
+  where
+    go : (b : Bool) → hold c count ≡ b → (a : Bool) → cond b (cond a (eventsAnswer (history c count)) (Checked.Refused 3 count)) (Checked.Refused 17 count) ≡ Checked.Refused q e
+        → Refusal 3 17 count q e
+    go true w true k = widen (omega arith) (omega arith) (events-number (history c count) count q e k)
+    go true w false k =
+        let a : 3 ≡ q = cc in
+        let b : count ≡ e = cc in
+        record { number = record { least = omega arith; most = omega arith }; place = inr (record { event = sym b; question = inr (inl (sym a)) }) }
+    go false w a k = widen (omega arith) (omega arith) (columns-number c count q e (rw w k))
+
+pub call-readable : (edition : ℕ) (starts : List ℕ) (c : Columns) (count : ℕ) → historyAnswer edition starts c count ≡ Checked.Readable → readable (history c count) ≡ true
+call-readable edition starts c count x = columns-readable c count (fine edition starts c count x .columns) .1
+
 -- ---- questions of a call
 
-asked-number : (low high count : ℕ) (qs : List Question) → all (λ q. within low high (q .number)) qs ≡ true → (q e : ℕ)
-    → askedOf count qs ≡ Checked.Refused q e → Within low high q × (e ≡ count)
+asked-by : (f : ℕ → Bool) (count : ℕ) (qs : List Question) → all (λ q. f (q .number)) qs ≡ true → (q e : ℕ)
+    → askedOf count qs ≡ Checked.Refused q e → (f q ≡ true) × (e ≡ count)
 unfolding askedOf
-asked-number low high count qs a q e x = go (refusal qs) refl x
+asked-by f count qs a q e x = go (refusal qs) refl x
   where
-    go : (o : Option ℕ) → refusal qs ≡ o → Option·getD (refusedWith count o) Checked.Readable ≡ Checked.Refused q e → Within low high q × (e ≡ count)
+    go : (o : Option ℕ) → refusal qs ≡ o → Option·getD (refusedWith count o) Checked.Readable ≡ Checked.Refused q e → (f q ≡ true) × (e ≡ count)
     go none w k = let z : _≡_ {A = ℕ} 0 1 = cc in absurd (omega arith)
     go (some n) w k =
         let s : n ≡ q = cc in
         let t : count ≡ e = cc in
-        let m = numbered low high qs a n w in
-        (record { least = omega (arith, m .least); most = omega (arith, m .most) }, sym t)
+        (ap f (sym s) ∙ numbered-by f qs a n w, sym t)
 
--- 17 and 18 come before the events,
-pub first-number : (count : ℕ) (qs : List Question) → all (λ q. within 17 18 (q .number)) qs ≡ true → (q e : ℕ)
-    → askedOf count qs ≡ Checked.Refused q e → Refusal 17 18 count q e
+-- 17, 3 and 18 come before the events,
+abbrev pub ofCount : ℕ → Bool
+ofCount q = eqb q 17 or (eqb q 3 or eqb q 18)
+
+of-count : (q : ℕ) → ofCount q ≡ true → OfCount q
+of-count q t =
+    ⊎-elim
+    (λ a. inl (eqb-true q 17 a))
+    (λ b. ⊎-elim (λ a. inr (inl (eqb-true q 3 a))) (λ a. inr (inr (eqb-true q 18 a))) (or-cases _ _ b))
+    (or-cases _ _ t)
+
+pub first-number : (count : ℕ) (qs : List Question) → all (λ q. ofCount (q .number)) qs ≡ true → (q e : ℕ)
+    → askedOf count qs ≡ Checked.Refused q e → Refusal 3 18 count q e
 first-number count qs a q e x =
-    let r = asked-number 17 18 count qs a q e x in
-    record { number = r .0; place = inr (record { event = r .1; question = which (r .0) }) }
+    let r = asked-by ofCount count qs a q e x in
+    let k = of-count q (r .0) in
+    record { number = near k; place = inr (record { event = r .1; question = k }) }
   where
-    which : Within 17 18 q → (q ≡ 17) ⊎ (q ≡ 18)
-    which w =
-        let l = w .least in
-        let m = w .most in
-        elim (decLe q 17) [ yes y ↦ inl (omega arith) | no y ↦ inr (omega arith) ]
+    near : OfCount q → Within 3 18 q
+    near k =
+        ⊎-elim
+        (λ a. record { least = omega arith; most = omega arith })
+        (λ b. ⊎-elim (λ a. record { least = omega arith; most = omega arith }) (λ a. record { least = omega arith; most = omega arith }) b)
+        k
 
 -- and the others after them, where the count is that of a readable history
 pub late-number : (low high : ℕ) (c : Columns) (count : ℕ) (qs : List Question) → all (λ q. within low high (q .number)) qs ≡ true
     → readable (history c count) ≡ true → (q e : ℕ) → askedOf count qs ≡ Checked.Refused q e → Refusal low high count q e
 late-number low high c count qs a r q e x =
-    let w = asked-number low high count qs a q e x in
-    record { number = w .0; place = inl (omega (arith, w .1, readable-most (history c count) r, history-length c count)) }
+    let w = asked-by (within low high) count qs a q e x in
+    record { number = is-within low high q (w .0); place = inl (omega (arith, w .1, readable-most (history c count) r, history-length c count)) }
 
 pub then-cases : (a b : Checked) (q e : ℕ) → thenChecked a b ≡ Checked.Refused q e
     → (a ≡ Checked.Refused q e) ⊎ ((a ≡ Checked.Readable) × (b ≡ Checked.Refused q e))
 unfolding thenChecked
 then-cases Checked.Readable b q e x = inr (refl, x)
 then-cases (Checked.Refused p f) b q e x = inl x
-
--- within wider limits
-pub widen : {low high low′ high′ count q e : ℕ} → low′ ≤ low → high ≤ high′ → Refusal low high count q e → Refusal low′ high′ count q e
-widen {low} {high} {low′} {high′} {count} {q} {e} a b r =
-    record { number = record { least = omega (arith, r .number .least); most = omega (arith, r .number .most) }; place = r .place }

@@ -3,6 +3,8 @@
 use Prim.Native.Nat.{ℕ}
 use mathlib.Core.List.{List}
 use Rattle.events.specs.Columns.{Columns}
+use Rattle.reader.specs.declared.Reading.{Reading}
+use Rattle.reader.specs.declared.HistoryRead.{HistoryRead}
 use Rattle.reader.specs.Reading.{ReadAnswer, readAnswer}
 use Rattle.writer.specs.Writing.{WrittenAnswer, writtenAnswer}
 use Rattle.finder.specs.Answer.{Given, foundAnswer}
@@ -12,13 +14,14 @@ use Rattle.counts.specs.Answer.{transactionsAnswer, storeReadsAnswer, tallyAnsw
 use Rattle.straighten.specs.Answer.{Given as Straight, straightenedAnswer}
 use Rattle.exports.specs.Codes.{readCode, writtenCode, foundCode, scanCode, checkCode, countCode, straightenCode, tallyCode}
 
--- A call that is lent columns to fill, one that is lent an output, and one that is lent an output and a list.
-pub record FilledColumns : Type 0 where
+-- A call that is lent start values and columns to fill, one that is lent an output, and one that is lent an output and a list.
+pub record FilledHistory : Type 0 where
   pub number : ℕ
+  pub starts : List ℕ
   pub columns : Columns
 
-abbrev pub filled : ℕ → Columns → FilledColumns
-filled n c = record { number = n; columns = c }
+abbrev pub filled : ℕ → List ℕ → Columns → FilledHistory
+filled n s c = record { number = n; starts = s; columns = c }
 
 pub record FilledOutput : Type 0 where
   pub number : ℕ
@@ -35,8 +38,16 @@ pub record FilledBoth : Type 0 where
 abbrev pub putBoth : ℕ → List ℕ → List ℕ → FilledBoth
 putBoth n o l = record { number = n; output = o; list = l }
 
-abbrev pub readTold : ReadAnswer → FilledColumns
-readTold a = filled (readCode (a .result)) (a .columns)
+-- the lent start values afterwards: those of the history that was read, and on a refusal what they were
+abbrev pub startsBy : Reading → List ℕ → List ℕ → List ℕ
+startsBy (Reading.Read n) told lent = told
+startsBy (Reading.Refused q byte) told lent = lent
+
+unfoldable pub startsAfter : HistoryRead → List ℕ → List ℕ
+startsAfter a lent = startsBy (a .reading) (a .starts) lent
+
+abbrev pub readTold : List ℕ → ReadAnswer → FilledHistory
+readTold lent a = filled (readCode (a .result)) (startsAfter (a .result) lent) (a .columns)
 
 abbrev pub writtenTold : WrittenAnswer → FilledOutput
 writtenTold a = put (writtenCode (a .result)) (a .output)
@@ -47,23 +58,23 @@ foundTold a = put (foundCode (a .result)) (a .output)
 abbrev pub straightenTold : Straight → FilledBoth
 straightenTold a = putBoth (straightenCode (a .result)) (a .output) (a .list)
 
-unfoldable pub readCall : List ℕ → Columns → FilledColumns
-readCall file c = readTold (readAnswer file c)
+unfoldable pub readCall : List ℕ → List ℕ → Columns → FilledHistory
+readCall file starts c = readTold starts (readAnswer file c)
 
-unfoldable pub writeCall : Columns → ℕ → List ℕ → FilledOutput
-writeCall c count output = writtenTold (writtenAnswer c count output)
+unfoldable pub writeCall : ℕ → List ℕ → Columns → ℕ → List ℕ → FilledOutput
+writeCall edition starts c count output = writtenTold (writtenAnswer edition starts c count output)
 
-unfoldable pub findCall : Columns → ℕ → ℕ → List ℕ → FilledOutput
-findCall c count prefix output = foundTold (foundAnswer c count prefix output)
+unfoldable pub findCall : ℕ → List ℕ → Columns → ℕ → ℕ → List ℕ → FilledOutput
+findCall edition starts c count prefix output = foundTold (foundAnswer edition starts c count prefix output)
 
-unfoldable pub scanCall : Columns → ℕ → ℕ
-scanCall c count = scanCode (scanAnswer c count)
+unfoldable pub scanCall : ℕ → List ℕ → Columns → ℕ → ℕ
+scanCall edition starts c count = scanCode (scanAnswer edition starts c count)
 
-unfoldable pub checkCall : Columns → ℕ → List ℕ → ℕ
-checkCall c count file = checkCode (verdictAnswer c count file)
+unfoldable pub checkCall : ℕ → List ℕ → Columns → ℕ → List ℕ → ℕ
+checkCall edition starts c count file = checkCode (verdictAnswer edition starts c count file)
 
-unfoldable pub straightenCall : Columns → ℕ → List ℕ → List ℕ → List ℕ → FilledBoth
-straightenCall c count file output list = straightenTold (straightenedAnswer c count file output list)
+unfoldable pub straightenCall : ℕ → List ℕ → Columns → ℕ → List ℕ → List ℕ → List ℕ → FilledBoth
+straightenCall edition starts c count file output list = straightenTold (straightenedAnswer edition starts c count file output list)
 
 unfoldable pub transactionsCall : Columns → ℕ → ℕ
 transactionsCall c count = countCode (transactionsAnswer c count)

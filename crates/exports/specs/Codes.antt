@@ -4,7 +4,7 @@
 use mathlib.Core.Path.{_≡_}
 use Prim.Native.Nat.{ℕ, _+_, _*_, _/_, _%_, _≤_, _<_, min}
 use Rattle.reader.specs.declared.Reading.{Reading}
-use Rattle.reader.specs.Reading.{number as readNumber, value as readValue}
+use Rattle.reader.specs.declared.HistoryRead.{HistoryRead}
 use Rattle.writer.specs.declared.Writing.{Writing}
 use Rattle.writer.specs.Writing.{number as writtenNumber, value as writtenValue}
 use Rattle.finder.specs.declared.Found.{Found}
@@ -28,7 +28,8 @@ most = 4294967295
 unfoldable pub packed : ℕ → ℕ → ℕ
 packed code place = code * 4294967296 + min place most
 
--- a place that holds two numbers: event and transaction of a broken rule, number moved and length of a straightened marking
+-- a place that holds two numbers: edition and event count of a history that is read, event and transaction of a broken rule, number moved and
+-- length of a straightened marking
 unfoldable pub halves : ℕ → ℕ → ℕ
 halves high low = high * 65536 + low
 
@@ -36,10 +37,19 @@ halves high low = high * 65536 + low
 unfoldable pub pair : ℕ → ℕ → ℕ
 pair high low = high * 256 + low
 
--- of the answers with one number and one value: the event count or the byte, the length or the event
-unfoldable pub readCode : Reading → ℕ
-readCode r = packed (readNumber r) (readValue r)
+-- the place of a history that is read: edition × 65,536 + event count
+abbrev pub readPlace : ℕ → ℕ → ℕ
+readPlace edition n = halves edition n
 
+abbrev pub readingCode : ℕ → Reading → ℕ
+readingCode edition (Reading.Read n) = packed 0 (readPlace edition n)
+readingCode edition (Reading.Refused q byte) = packed q byte
+
+-- that, or the byte
+unfoldable pub readCode : HistoryRead → ℕ
+readCode a = readingCode (a .edition) (a .reading)
+
+-- the length, or the event
 unfoldable pub writtenCode : Writing → ℕ
 writtenCode r = packed (writtenNumber r) (writtenValue r)
 
@@ -100,6 +110,15 @@ tallyCode (Tallying.Refused q e) = packed q e
 
 -- ---- what is known of an answer before it is told
 
+-- two numbers that one place holds
+pub record Halves (high low : ℕ) : Type 0 where
+  pub upper : high < 65536
+  pub lower : low < 65536
+
+-- the edition and the event count stand in one place
+abbrev pub ReadKnown : HistoryRead → Type 0
+ReadKnown a = (n : ℕ) → a .reading ≡ Reading.Read n → Halves (a .edition) n
+
 -- a cause is 1 to 4
 pub record Cause (w : ℕ) : Type 0 where
   pub least : 1 ≤ w
@@ -121,11 +140,6 @@ ScanKnown j = (s : Scanned) → j ≡ Judgement.Scanned s → CauseKnown s
 
 abbrev pub CheckKnown : Judged → Type 0
 CheckKnown j = (v : Verdict) → j ≡ Judged.Ruled v → NamesKnown v
-
--- two numbers that one place holds
-pub record Halves (high low : ℕ) : Type 0 where
-  pub upper : high < 65536
-  pub lower : low < 65536
 
 -- the length and the number moved stand in one place, and so do the names of a broken rule
 pub record StraightenKnown (a : Straightening) : Type 0 where
@@ -161,6 +175,13 @@ upperOf n = placeOf n / 65536
 
 abbrev pub lowerOf : ℕ → ℕ
 lowerOf n = placeOf n % 65536
+
+-- of the number of a history that is read
+abbrev pub editionOf : ℕ → ℕ
+editionOf n = upperOf n
+
+abbrev pub countOf : ℕ → ℕ
+countOf n = lowerOf n
 
 -- of a broken rule's number
 abbrev pub eventOf : ℕ → ℕ

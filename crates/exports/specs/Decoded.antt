@@ -1,9 +1,12 @@
--- From a number back to the answer, as a caller takes it apart (include/sendoshi.h).
+-- From a number back to the answer, as a caller takes it apart (include/sendoshi.h). What was read is told by the number and the start values
+-- that the call was lent.
 -- Assumes nothing.
 use Prim.Native.Nat.{ℕ, _-_}
 use mathlib.Core.Bool.{cond}
+use mathlib.Core.List.{List}
 use lib.Dec.{eqb, ltb}
-use Rattle.reader.specs.declared.Reading.{Reading}
+use Rattle.reader.specs.declared.HistoryRead.{HistoryRead}
+use Rattle.reader.specs.Reading.{told, declined}
 use Rattle.writer.specs.declared.Writing.{Writing}
 use Rattle.finder.specs.declared.Found.{Found}
 use Rattle.opacity.specs.declared.verdict.Rule.{Rule}
@@ -15,10 +18,10 @@ use Rattle.counts.specs.declared.Counting.{Counting}
 use Rattle.counts.specs.declared.Tallying.{Tallying}
 use Rattle.counts.specs.declared.tally.Tally.{Tally}
 use Rattle.straighten.specs.declared.Straightening.{Straightening}
-use Rattle.exports.specs.Codes.{codeOf, placeOf, eventOf, transactionOf, lengthOf, movedOf, committedOf, abortedOf, pendingOf, liveOf}
+use Rattle.exports.specs.Codes.{codeOf, placeOf, editionOf, countOf, eventOf, transactionOf, lengthOf, movedOf, committedOf, abortedOf, pendingOf, liveOf}
 
-unfoldable pub readingOf : ℕ → Reading
-readingOf n = cond (eqb (codeOf n) 0) (Reading.Read (placeOf n)) (Reading.Refused (codeOf n) (placeOf n))
+unfoldable pub readOf : ℕ → List ℕ → HistoryRead
+readOf n starts = cond (eqb (codeOf n) 0) (told (countOf n) (editionOf n) starts) (declined (codeOf n) (placeOf n))
 
 unfoldable pub writingOf : ℕ → Writing
 writingOf n = cond (eqb (codeOf n) 0) (Writing.Written (placeOf n)) (Writing.Refused (codeOf n) (placeOf n))
@@ -43,8 +46,8 @@ ruleOf code =
     (cond (eqb code 204) Rule.D
     Rule.E)))
 
--- An answer about a marking by its code, from what it is in each case: 4 to 17 are asked of the events and the buffers, 1, 2 and 21 to 29 of
--- the marking.
+-- An answer about a marking by its code, from what it is in each case: 3 to 17 are asked of edition and start values, events and buffers, 1, 2
+-- and 21 to 29 of the marking.
 unfoldable pub byCode : {A : Type 0} (done broken event byte : A) → ℕ → A
 byCode done broken event byte code =
     cond (eqb code 0) done

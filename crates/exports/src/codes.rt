@@ -1,13 +1,13 @@
 // Every answer as one number, code × 2^32 + place. A place of 2^32 or more is told as 2^32 − 1, so
 // that it never spills into the code. Each function gives the number that specs/Codes gives for its
-// answer. Required: a cause is 1 to 4, a broken rule names an event below 2,048 and a transaction
-// below 64, a straightened marking has a length and a number moved below 65,536, and each number of a
-// tally is below 256; proofs/Bounds shows that of every answer of scan, checker, straightening and
-// tally.
+// answer. Required: a history that is read has an edition and an event count below 65,536, a cause is 1
+// to 4, a broken rule names an event below 2,048 and a transaction below 64, a straightened marking has
+// a length and a number moved below 65,536, and each number of a tally is below 256; proofs/Bounds
+// shows that of every answer of reader, scan, checker, straightening and tally.
 ghost use mathlib.Core.Path.{_≡_};
 ghost use Prim.Native.Nat.{_+_, min};
 ghost use Rattle.opacity.specs.Marking.{ruleNumber};
-ghost use Rattle.exports.specs.Codes.{most, packed, halves, pair, tallyPlace, readCode, writtenCode, foundCode, scannedCode, scanCode, brokenCode, verdictCode, checkCode, countCode, straightenCode, tallyCode, CauseKnown, Named, NamesKnown, ScanKnown, CheckKnown, Halves, StraightenKnown, Pair, Bytes, TallyKnown};
+ghost use Rattle.exports.specs.Codes.{most, packed, halves, pair, tallyPlace, readCode, writtenCode, foundCode, scannedCode, scanCode, brokenCode, verdictCode, checkCode, countCode, straightenCode, tallyCode, CauseKnown, Named, NamesKnown, ReadKnown, ScanKnown, CheckKnown, Halves, StraightenKnown, Pair, Bytes, TallyKnown};
 use counts::Counting;
 use counts::Tallying;
 use counts::tally::Tally;
@@ -16,6 +16,7 @@ use marking::check::Judged;
 use opacity::verdict::Rule;
 use opacity::verdict::Scanned;
 use opacity::verdict::Verdict;
+use reader::HistoryRead;
 use reader::Reading;
 use scan::Judgement;
 use straighten::Straightening;
@@ -74,12 +75,15 @@ fn rule_code(rule: Rule) -> u32
     }
 }
 
-// The reader's answer.
-pub fn read_code(answer: Reading) -> u64
+// The reader's answer: the place of a history holds its edition and its event count.
+pub fn read_code(answer: HistoryRead) -> u64
+    requires { ⌜ ReadKnown answer ⌝ }
     ensures { λ r. ⌜ r ≡ readCode answer ⌝ }
 {
-    match answer {
-        Reading::Read(count) => pack(0, count),
+    let reading = answer.reading;
+    let edition = answer.edition as usize;
+    match reading {
+        Reading::Read(count) => pack(0, join(edition, count)),
         Reading::Refused { question, byte } => pack(question as u32, byte),
     }
 }

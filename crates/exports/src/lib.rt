@@ -2,10 +2,10 @@
 // code × 2^32 + place (include/sendoshi.h). Proved of each function, for every call: its result, in
 // every case of the answer, and every lent buffer afterwards, by one equation over specs/Calls.
 // Assumed of the caller, since no function can test it: each slice is a pointer that is good for its
-// length, and nothing else refers to what is written.
+// length, nothing else refers to what is written, and start values are a pointer to 32 numbers.
 ghost use mathlib.Core.Path.{_≡_};
 ghost use Rattle.events.specs.Columns.{columns};
-ghost use Rattle.exports.specs.Calls.{filled, put, putBoth, readCall, writeCall, findCall, scanCall, checkCall, straightenCall, transactionsCall, storeReadsCall, tallyCall};
+ghost use Rattle.exports.specs.Calls.{filled, startsAfter, put, putBoth, readCall, writeCall, findCall, scanCall, checkCall, straightenCall, transactionsCall, storeReadsCall, tallyCall};
 
 mod codes;
 
@@ -17,25 +17,44 @@ use crate::codes::scan_code;
 use crate::codes::straighten_code;
 use crate::codes::tally_code;
 use crate::codes::written_code;
+use reader::HistoryRead;
+use reader::Reading;
 
-// Reads a history's file into the columns: the event count, or the question and the byte.
+// Hands over the start values, all 32, of a history that was read; a refusal leaves the lent ones as
+// they are.
+fn hand_over(answer: HistoryRead, starts: &mut [u32; 32])
+    ensures { λ _. ⌜ now (starts .exit) ≡ startsAfter answer (now (starts .entry)) ⌝ }
+{
+    let reading = answer.reading;
+    if let Reading::Read(_) = reading {
+        let from = answer.starts;
+        *starts = from;
+    }
+}
+
+// Reads a history's file into the start values and the columns: the edition and the event count, or the
+// question and the byte.
 #[no_mangle]
 pub extern "C" fn sendoshi_read(
     file: &[u8],
+    starts: &mut [u32; 32],
     kinds: &mut [u16],
     transactions: &mut [u16],
     registers: &mut [u16],
     values: &mut [u32],
 ) -> u64
-    ensures { λ r. ⌜ filled r (columns (now (kinds .exit)) (now (transactions .exit)) (now (registers .exit)) (now (values .exit))) ≡ readCall (now (file .entry)) (columns (now (kinds .entry)) (now (transactions .entry)) (now (registers .entry)) (now (values .entry))) ⌝ }
+    ensures { λ r. ⌜ filled r (now (starts .exit)) (columns (now (kinds .exit)) (now (transactions .exit)) (now (registers .exit)) (now (values .exit))) ≡ readCall (now (file .entry)) (now (starts .entry)) (columns (now (kinds .entry)) (now (transactions .entry)) (now (registers .entry)) (now (values .entry))) ⌝ }
 {
     let answer = reader::read_history(file, kinds, transactions, registers, values);
+    hand_over(answer, starts);
     read_code(answer)
 }
 
 // Writes the first `count` events as a file: its length, or the question and the event.
 #[no_mangle]
 pub extern "C" fn sendoshi_write(
+    edition: u16,
+    starts: &[u32; 32],
     kinds: &[u16],
     transactions: &[u16],
     registers: &[u16],
@@ -43,9 +62,18 @@ pub extern "C" fn sendoshi_write(
     count: usize,
     output: &mut [u8],
 ) -> u64
-    ensures { λ r. ⌜ put r (now (output .exit)) ≡ writeCall (columns (now (kinds .entry)) (now (transactions .entry)) (now (registers .entry)) (now (values .entry))) count (now (output .entry)) ⌝ }
+    ensures { λ r. ⌜ put r (now (output .exit)) ≡ writeCall edition (now (starts .entry)) (columns (now (kinds .entry)) (now (transactions .entry)) (now (registers .entry)) (now (values .entry))) count (now (output .entry)) ⌝ }
 {
-    let answer = writer::write_history(kinds, transactions, registers, values, count, output);
+    let answer = writer::write_history(
+        edition,
+        starts,
+        kinds,
+        transactions,
+        registers,
+        values,
+        count,
+        output,
+    );
     written_code(answer)
 }
 
@@ -53,6 +81,8 @@ pub extern "C" fn sendoshi_write(
 // the question and the event.
 #[no_mangle]
 pub extern "C" fn sendoshi_find(
+    edition: u16,
+    starts: &[u32; 32],
     kinds: &[u16],
     transactions: &[u16],
     registers: &[u16],
@@ -61,9 +91,11 @@ pub extern "C" fn sendoshi_find(
     prefix: usize,
     output: &mut [u8],
 ) -> u64
-    ensures { λ r. ⌜ put r (now (output .exit)) ≡ findCall (columns (now (kinds .entry)) (now (transactions .entry)) (now (registers .entry)) (now (values .entry))) count prefix (now (output .entry)) ⌝ }
+    ensures { λ r. ⌜ put r (now (output .exit)) ≡ findCall edition (now (starts .entry)) (columns (now (kinds .entry)) (now (transactions .entry)) (now (registers .entry)) (now (values .entry))) count prefix (now (output .entry)) ⌝ }
 {
     let answer = finder::find_marking(
+        edition,
+        starts,
         kinds,
         transactions,
         registers,
@@ -79,15 +111,25 @@ pub extern "C" fn sendoshi_find(
 // and the event.
 #[no_mangle]
 pub extern "C" fn sendoshi_scan(
+    edition: u16,
+    starts: &[u32; 32],
     kinds: &[u16],
     transactions: &[u16],
     registers: &[u16],
     values: &[u32],
     count: usize,
 ) -> u64
-    ensures { λ r. ⌜ r ≡ scanCall (columns (now (kinds .entry)) (now (transactions .entry)) (now (registers .entry)) (now (values .entry))) count ⌝ }
+    ensures { λ r. ⌜ r ≡ scanCall edition (now (starts .entry)) (columns (now (kinds .entry)) (now (transactions .entry)) (now (registers .entry)) (now (values .entry))) count ⌝ }
 {
-    let answer = scan::scan_history(kinds, transactions, registers, values, count);
+    let answer = scan::scan_history(
+        edition,
+        starts,
+        kinds,
+        transactions,
+        registers,
+        values,
+        count,
+    );
     scan_code(answer)
 }
 
@@ -95,6 +137,8 @@ pub extern "C" fn sendoshi_scan(
 // transaction, or the question with its event or byte.
 #[no_mangle]
 pub extern "C" fn sendoshi_check(
+    edition: u16,
+    starts: &[u32; 32],
     kinds: &[u16],
     transactions: &[u16],
     registers: &[u16],
@@ -102,9 +146,18 @@ pub extern "C" fn sendoshi_check(
     count: usize,
     file: &[u8],
 ) -> u64
-    ensures { λ r. ⌜ r ≡ checkCall (columns (now (kinds .entry)) (now (transactions .entry)) (now (registers .entry)) (now (values .entry))) count (now (file .entry)) ⌝ }
+    ensures { λ r. ⌜ r ≡ checkCall edition (now (starts .entry)) (columns (now (kinds .entry)) (now (transactions .entry)) (now (registers .entry)) (now (values .entry))) count (now (file .entry)) ⌝ }
 {
-    let answer = marking::check::check_marking(kinds, transactions, registers, values, count, file);
+    let answer = marking::check::check_marking(
+        edition,
+        starts,
+        kinds,
+        transactions,
+        registers,
+        values,
+        count,
+        file,
+    );
     check_code(answer)
 }
 
@@ -113,6 +166,8 @@ pub extern "C" fn sendoshi_check(
 // are with its event and transaction, or the question with its event or byte.
 #[no_mangle]
 pub extern "C" fn sendoshi_straighten(
+    edition: u16,
+    starts: &[u32; 32],
     kinds: &[u16],
     transactions: &[u16],
     registers: &[u16],
@@ -122,9 +177,11 @@ pub extern "C" fn sendoshi_straighten(
     output: &mut [u8],
     moved: &mut [u32],
 ) -> u64
-    ensures { λ r. ⌜ putBoth r (now (output .exit)) (now (moved .exit)) ≡ straightenCall (columns (now (kinds .entry)) (now (transactions .entry)) (now (registers .entry)) (now (values .entry))) count (now (file .entry)) (now (output .entry)) (now (moved .entry)) ⌝ }
+    ensures { λ r. ⌜ putBoth r (now (output .exit)) (now (moved .exit)) ≡ straightenCall edition (now (starts .entry)) (columns (now (kinds .entry)) (now (transactions .entry)) (now (registers .entry)) (now (values .entry))) count (now (file .entry)) (now (output .entry)) (now (moved .entry)) ⌝ }
 {
     let answer = straighten::straighten(
+        edition,
+        starts,
         kinds,
         transactions,
         registers,

@@ -12,7 +12,7 @@ check-marking-requires : tie.Need-check-marking-requires
 check-marking-requires c κs = search needs
 
 check-code-requires : tie.Need-check-code-requires
-check-code-requires c κs = check-known _ _ _ _ (c .check-marking .ensures)
+check-code-requires c κs = check-known _ _ _ _ _ _ (c .check-marking .ensures)
 
 returns : tie.Need-returns
 unfolding checkCall

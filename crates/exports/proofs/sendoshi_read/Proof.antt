@@ -2,6 +2,7 @@
 -- Assumes nothing.
 use mathlib.Core.Path.{ap}
 use Rattle.exports.specs.Calls.{readTold, readCall}
+use Rattle.exports.proofs.Bounds.{read-known}
 use borrow.Author.Needs.{needs}
 use Rattle.exports.proofs.sendoshi_read.Statement.{statement}
 use Rattle.exports.proofs.sendoshi_read.Tie as tie
@@ -9,8 +10,12 @@ use Rattle.exports.proofs.sendoshi_read.Tie as tie
 read-history-requires : tie.Need-read-history-requires
 read-history-requires c κs = search needs
 
+hand-over-requires : tie.Need-hand-over-requires
+hand-over-requires c κs = search needs
+
 read-code-requires : tie.Need-read-code-requires
-read-code-requires c κs = search needs
+read-code-requires c κs =
+    read-known _ _ _ _ (c .before .before .before .before .before .before .before .before .before .before .read-history .ensures)
 
 same-length : tie.Need-same-length
 same-length c = search needs
@@ -26,13 +31,14 @@ same-length-4 c = search needs
 
 returns : tie.Need-returns
 unfolding readCall
-returns c = rw (c .read-code .ensures) (ap readTold (c .before .before .before .before .before .before .before .before .before .read-history .ensures))
+returns c = rw (c .read-code .ensures, c .before .hand-over .ensures) (ap (readTold _) (c .before .before .before .before .before .before .before .before .before .before .before .read-history .ensures))
 
 pub sendoshi-read-spec : {M : Type 1} → statement M
 sendoshi-read-spec =
     tie.close
     (tie.spec
     read-history-requires
+    hand-over-requires
     read-code-requires
     same-length
     same-length-2

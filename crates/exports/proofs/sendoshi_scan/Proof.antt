@@ -12,7 +12,7 @@ scan-history-requires : tie.Need-scan-history-requires
 scan-history-requires c κs = search needs
 
 scan-code-requires : tie.Need-scan-code-requires
-scan-code-requires c κs = scan-known _ _ _ (c .scan-history .ensures)
+scan-code-requires c κs = scan-known _ _ _ _ _ (c .scan-history .ensures)
 
 returns : tie.Need-returns
 unfolding scanCall

@@ -12,7 +12,7 @@ straighten-requires c κs = search needs
 
 straighten-code-requires : tie.Need-straighten-code-requires
 straighten-code-requires c κs =
-    straighten-known _ _ _ _ _ _ _ _ (c .before .before .before .before .straighten .ensures)
+    straighten-known _ _ _ _ _ _ _ _ _ _ (c .before .before .before .before .straighten .ensures)
 
 same-length : tie.Need-same-length
 same-length c = search needs
