@@ -2,6 +2,7 @@
 -- Assumes nothing.
 use mathlib.Core.Path.{sym, ap, _∙_}
 use Rattle.exports.specs.Codes.{packed, readingCode, readCode}
+use native.Mathlib.Omega.{arith}
 use borrow.Author.Needs.{needs}
 use Rattle.exports.proofs.codes.read_code.Statement.{statement}
 use Rattle.exports.proofs.codes.read_code.Tie as tie
@@ -13,7 +14,9 @@ enum-known-reading : tie.Need-enum-known-reading
 enum-known-reading c = search needs
 
 join-requires : tie.Need-join-requires
-join-requires c κs = c .before .before .before .before .pre _ (c .before .reading .given .1)
+join-requires c κs =
+    let b = c .before .before .before .before .pre _ (c .before .reading .given .1) in
+    record { upper = omega (arith, b .upper); lower = omega (arith, b .lower) }
 
 pack-requires : tie.Need-pack-requires
 pack-requires c κs = search needs
