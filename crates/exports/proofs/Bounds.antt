@@ -49,7 +49,7 @@ use Rattle.straighten.specs.Straight.{straightened}
 use Rattle.straighten.specs.Answer.{Given, gives, straightenedAnswer}
 use Rattle.straighten.proofs.StraightLaws.{straight-length, moved-few}
 use Rattle.straighten.proofs.AnswerLaws.{told}
-use Rattle.exports.specs.Codes.{Cause, Named, Halves, Bytes, ReadKnown, ScanKnown, CheckKnown, StraightenKnown, TallyKnown}
+use Rattle.codes.specs.Codes.{Cause, Named, Halves, Bytes, ReadKnown, ScanKnown, CheckKnown, StraightenKnown, TallyKnown}
 use Rattle.exports.proofs.Numbers.{call-readable}
 use Rattle.exports.proofs.Files.{read-limits}
 use Rattle.exports.proofs.Refusals.{tally-readable}

@@ -18,9 +18,9 @@ use Rattle.marking.specs.Answer.{verdictAnswer}
 use Rattle.straighten.specs.declared.Straightening.{Straightening}
 use Rattle.straighten.specs.Answer.{straightenedAnswer}
 use Rattle.straighten.proofs.Theorems.{untouched, written-behind, written-accepted}
-use Rattle.exports.specs.Codes.{packed, readPlace, readingCode, readCode, writtenCode, foundCode, verdictCode, checkCode, codeOf, lengthOf, movedOf}
+use Rattle.codes.specs.Codes.{packed, readPlace, readingCode, readCode, writtenCode, foundCode, verdictCode, checkCode, codeOf, lengthOf, movedOf}
 use Rattle.exports.specs.Calls.{startsAfter, readCall, writeCall, findCall, checkCall, straightenCall}
-use Rattle.exports.proofs.CodeLaws.{code-back}
+use Rattle.codes.proofs.CodeLaws.{code-back}
 use Rattle.exports.proofs.Theorems.{straightened-code, straightened-result}
 
 pub read-keeps : (file starts : List ℕ) (c : Columns) → (codeOf (readCall file starts c .number) ≡ 0 → ⊥)

@@ -34,11 +34,11 @@ use Rattle.straighten.specs.declared.Straightening.{Straightening}
 use Rattle.straighten.specs.Answer.{straightenedAnswer}
 use Rattle.straighten.proofs.AnswerLaws.{told}
 use Rattle.straighten.proofs.Theorems.{never-broken-D}
-use Rattle.exports.specs.Codes.{readPlace, readingCode, brokenPlace, straightPlace, tallyPlace, readCode, writtenCode, foundCode, scannedCode, scanCode, verdictCode, checkCode, countCode, straightenCode, tallyCode, codeOf}
+use Rattle.codes.specs.Codes.{readPlace, readingCode, brokenPlace, straightPlace, tallyPlace, readCode, writtenCode, foundCode, scannedCode, scanCode, verdictCode, checkCode, countCode, straightenCode, tallyCode, codeOf}
 use Rattle.exports.specs.Calls.{readCall, writeCall, findCall, scanCall, checkCall, straightenCall, transactionsCall, storeReadsCall, tallyCall}
 use Rattle.exports.specs.Classes.{classOf, readClass, writtenClass, foundClass, scanClass, checkClass, straightenClass, countClass, tallyClass}
 use Rattle.exports.proofs.Bounds.{faulted-cause}
-use Rattle.exports.proofs.CodeLaws.{code-back}
+use Rattle.codes.proofs.CodeLaws.{code-back}
 use Rattle.exports.proofs.Numbers.{Within}
 use Rattle.exports.proofs.Decode.{class-done, class-refused, class-none, class-faulted, class-broken}
 use Rattle.exports.proofs.Refusals.{below-100, file-below-100, read-refusal, write-refusal, find-refusal, scan-refusal, check-history, check-marking, straighten-refusal, straighten-marking, count-refusal, tally-refusal}

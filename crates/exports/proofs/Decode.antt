@@ -21,10 +21,10 @@ use Rattle.counts.specs.declared.Counting.{Counting}
 use Rattle.counts.specs.declared.Tallying.{Tallying}
 use Rattle.counts.specs.declared.tally.Tally.{Tally}
 use Rattle.straighten.specs.declared.Straightening.{Straightening}
-use Rattle.exports.specs.Codes.{most, packed, readPlace, brokenCode, straightPlace, tallyPlace, Cause, Named, Halves, Bytes, codeOf, placeOf, eventOf, transactionOf}
+use Rattle.codes.specs.Codes.{most, packed, readPlace, brokenCode, straightPlace, tallyPlace, Cause, Named, Halves, Bytes, codeOf, placeOf, eventOf, transactionOf}
 use Rattle.exports.specs.Decoded.{readOf, writingOf, foundOf, judgementOf, ruleOf, byCode, judgedOf, straighteningOf, countingOf, tallyOf, tallyingOf}
 use Rattle.exports.specs.Classes.{Class, classOf}
-use Rattle.exports.proofs.CodeLaws.{code-back, place-back, upper-back, lower-back, committed-back, aborted-back, pending-back, live-back, rule-told, event-told, transaction-told}
+use Rattle.codes.proofs.CodeLaws.{code-back, place-back, upper-back, lower-back, committed-back, aborted-back, pending-back, live-back, rule-told, event-told, transaction-told}
 use Rattle.exports.proofs.Numbers.{Within}
 use Rattle.exports.proofs.Files.{MarkingNumber}
 

@@ -1,5 +1,4 @@
 -- What the proofs of several functions use, and the theorems about the calls.
-pub mod CodeLaws
 pub mod Numbers
 pub mod Files
 pub mod Decode

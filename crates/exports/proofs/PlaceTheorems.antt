@@ -24,7 +24,7 @@ use Rattle.counts.specs.Answer.{transactionsAnswer, storeReadsAnswer, tallyAnsw
 use Rattle.opacity.specs.Counts.{counts}
 use Rattle.straighten.specs.declared.Straightening.{Straightening}
 use Rattle.straighten.specs.Answer.{straightenedAnswer}
-use Rattle.exports.specs.Codes.{most}
+use Rattle.codes.specs.Codes.{most}
 use Rattle.exports.proofs.Numbers.{CountRefused}
 use Rattle.exports.proofs.Refusals.{beyond, beyond-17-3, beyond-17, write-refusal, find-refusal, scan-refusal, check-history, straighten-refusal, count-refusal, tally-refusal}
 

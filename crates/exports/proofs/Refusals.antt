@@ -48,7 +48,7 @@ use Rattle.counts.proofs.AnswerLaws.{counted-readable, tallied-readable}
 use Rattle.straighten.specs.declared.Straightening.{Straightening}
 use Rattle.straighten.specs.Answer.{straightenedAnswer}
 use Rattle.straighten.proofs.AnswerLaws.{told as straight-told}
-use Rattle.exports.specs.Codes.{most}
+use Rattle.codes.specs.Codes.{most}
 use Rattle.exports.proofs.Numbers.{Within, CountRefused, Refusal, widen, events-number, columns-number, call-number, call-readable, first-number, late-number, then-cases}
 use Rattle.exports.proofs.Files.{HistoryNumber, history-number, read-limits, MarkingNumber, marking-number}
 

@@ -45,11 +45,11 @@ use Rattle.counts.proofs.Theorems.{told-adds-up}
 use Rattle.opacity.specs.Counts.{counts}
 use Rattle.straighten.specs.declared.Straightening.{Straightening}
 use Rattle.straighten.specs.Answer.{straightenedAnswer}
-use Rattle.exports.specs.Codes.{most, packed, readPlace, brokenCode, straightPlace, tallyPlace, readingCode, readCode, writtenCode, foundCode, scannedCode, scanCode, verdictCode, checkCode, countCode, straightenCode, tallyCode, Named, codeOf, placeOf, editionOf, countOf, eventOf, transactionOf, lengthOf, movedOf, committedOf, abortedOf, pendingOf, liveOf}
+use Rattle.codes.specs.Codes.{most, packed, readPlace, brokenCode, straightPlace, tallyPlace, readingCode, readCode, writtenCode, foundCode, scannedCode, scanCode, verdictCode, checkCode, countCode, straightenCode, tallyCode, Named, codeOf, placeOf, editionOf, countOf, eventOf, transactionOf, lengthOf, movedOf, committedOf, abortedOf, pendingOf, liveOf}
 use Rattle.exports.specs.Calls.{startsAfter, readCall, writeCall, findCall, scanCall, checkCall, straightenCall, transactionsCall, storeReadsCall, tallyCall}
 use Rattle.exports.specs.Decoded.{readOf, writingOf, foundOf, judgementOf, judgedOf, straighteningOf, countingOf, tallyOf, tallyingOf}
 use Rattle.exports.proofs.Bounds.{read-edition-known, read-halves, faulted-cause, broken-named, straightened-halves, straighten-named, tallied-bytes}
-use Rattle.exports.proofs.CodeLaws.{code-back, place-back, upper-back, lower-back, rule-told, event-told, transaction-told}
+use Rattle.codes.proofs.CodeLaws.{code-back, place-back, upper-back, lower-back, rule-told, event-told, transaction-told}
 use Rattle.exports.proofs.Numbers.{widen}
 use Rattle.exports.proofs.Decode.{read-back, unread-back, written-back, unwritten-back, marking-back, none-back, unfound-back, opaque-back, faulted-back, unjudged-back, accepted-back, broken-back, history-back, marking-refused-back, straightened-back, straighten-broken-back, unstraightened-back, straighten-marking-back, counted-back, uncounted-back, tally-told, tallied-back, untallied-back}
 use Rattle.exports.proofs.Refusals.{below-100, file-below-100, place-fits, read-refusal, write-refusal, find-refusal, marking-fits, scan-refusal, faulted-fits, check-history, check-marking, straighten-refusal, straighten-marking, count-refusal, count-readable, tally-refusal}

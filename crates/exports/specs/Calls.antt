@@ -12,7 +12,7 @@ use Rattle.scan.specs.Answer.{scanAnswer}
 use Rattle.marking.specs.Answer.{verdictAnswer}
 use Rattle.counts.specs.Answer.{transactionsAnswer, storeReadsAnswer, tallyAnswer}
 use Rattle.straighten.specs.Answer.{Given as Straight, straightenedAnswer}
-use Rattle.exports.specs.Codes.{readCode, writtenCode, foundCode, scanCode, checkCode, countCode, straightenCode, tallyCode}
+use Rattle.codes.specs.Codes.{readCode, writtenCode, foundCode, scanCode, checkCode, countCode, straightenCode, tallyCode}
 
 -- A call that is lent start values and columns to fill, one that is lent an output, and one that is lent an output and a list.
 pub record FilledHistory : Type 0 where

@@ -18,7 +18,7 @@ use Rattle.counts.specs.declared.Counting.{Counting}
 use Rattle.counts.specs.declared.Tallying.{Tallying}
 use Rattle.counts.specs.declared.tally.Tally.{Tally}
 use Rattle.straighten.specs.declared.Straightening.{Straightening}
-use Rattle.exports.specs.Codes.{codeOf, placeOf, editionOf, countOf, eventOf, transactionOf, lengthOf, movedOf, committedOf, abortedOf, pendingOf, liveOf}
+use Rattle.codes.specs.Codes.{codeOf, placeOf, editionOf, countOf, eventOf, transactionOf, lengthOf, movedOf, committedOf, abortedOf, pendingOf, liveOf}
 
 unfoldable pub readOf : ℕ → List ℕ → HistoryRead
 readOf n starts = cond (eqb (codeOf n) 0) (told (countOf n) (editionOf n) starts) (declined (codeOf n) (placeOf n))

@@ -1,4 +1,3 @@
-pub mod Codes
 pub mod Calls
 pub mod Decoded
 pub mod Classes

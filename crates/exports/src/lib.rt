@@ -6,17 +6,14 @@
 ghost use mathlib.Core.Path.{_≡_};
 ghost use Rattle.events.specs.Columns.{columns};
 ghost use Rattle.exports.specs.Calls.{filled, startsAfter, put, putBoth, readCall, writeCall, findCall, scanCall, checkCall, straightenCall, transactionsCall, storeReadsCall, tallyCall};
-
-mod codes;
-
-use crate::codes::check_code;
-use crate::codes::count_code;
-use crate::codes::found_code;
-use crate::codes::read_code;
-use crate::codes::scan_code;
-use crate::codes::straighten_code;
-use crate::codes::tally_code;
-use crate::codes::written_code;
+use codes::check_code;
+use codes::count_code;
+use codes::found_code;
+use codes::read_code;
+use codes::scan_code;
+use codes::straighten_code;
+use codes::tally_code;
+use codes::written_code;
 use reader::HistoryRead;
 use reader::Reading;
 

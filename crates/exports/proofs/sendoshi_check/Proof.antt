@@ -1,7 +1,7 @@
 -- `exports::sendoshi_check` meets its contract.
 -- Assumes nothing.
 use mathlib.Core.Path.{ap, _∙_}
-use Rattle.exports.specs.Codes.{checkCode}
+use Rattle.codes.specs.Codes.{checkCode}
 use Rattle.exports.specs.Calls.{checkCall}
 use Rattle.exports.proofs.Bounds.{check-known}
 use borrow.Author.Needs.{needs}

@@ -1,7 +1,7 @@
 -- `exports::sendoshi_scan` meets its contract.
 -- Assumes nothing.
 use mathlib.Core.Path.{ap, _∙_}
-use Rattle.exports.specs.Codes.{scanCode}
+use Rattle.codes.specs.Codes.{scanCode}
 use Rattle.exports.specs.Calls.{scanCall}
 use Rattle.exports.proofs.Bounds.{scan-known}
 use borrow.Author.Needs.{needs}

@@ -1,7 +1,7 @@
 -- `exports::sendoshi_store_reads` meets its contract.
 -- Assumes nothing.
 use mathlib.Core.Path.{ap, _∙_}
-use Rattle.exports.specs.Codes.{countCode}
+use Rattle.codes.specs.Codes.{countCode}
 use Rattle.exports.specs.Calls.{storeReadsCall}
 use borrow.Author.Needs.{needs}
 use Rattle.exports.proofs.sendoshi_store_reads.Statement.{statement}

@@ -1,7 +1,7 @@
 -- `exports::sendoshi_tally` meets its contract.
 -- Assumes nothing.
 use mathlib.Core.Path.{ap, _∙_}
-use Rattle.exports.specs.Codes.{tallyCode}
+use Rattle.codes.specs.Codes.{tallyCode}
 use Rattle.exports.specs.Calls.{tallyCall}
 use Rattle.exports.proofs.Bounds.{tally-known}
 use borrow.Author.Needs.{needs}

@@ -1,0 +1,22 @@
+-- `codes::broken_code` meets its contract.
+-- Assumes nothing.
+use mathlib.Core.Path.{ap₂, _∙_}
+use Rattle.codes.specs.Codes.{packed}
+use borrow.Author.Needs.{needs}
+use Rattle.codes.proofs.broken_code.Statement.{statement}
+use Rattle.codes.proofs.broken_code.Tie as tie
+
+rule-code-requires : tie.Need-rule-code-requires
+rule-code-requires c κs = search needs
+
+join-requires : tie.Need-join-requires
+join-requires c κs = search needs
+
+pack-requires : tie.Need-pack-requires
+pack-requires c κs = search needs
+
+returns : tie.Need-returns
+returns c = c .pack .ensures ∙ ap₂ packed (c .before .before .rule-code .ensures) (c .before .join .ensures)
+
+pub broken-code-spec : {M : Type 1} → statement M
+broken-code-spec = tie.close (tie.spec rule-code-requires join-requires pack-requires returns)

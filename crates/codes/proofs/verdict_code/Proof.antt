@@ -1,0 +1,38 @@
+-- `codes::verdict_code` meets its contract.
+-- Assumes nothing.
+use mathlib.Core.Path.{sym, ap, _∙_}
+use Rattle.codes.specs.Codes.{verdictCode}
+use borrow.Author.Needs.{needs}
+use Rattle.codes.proofs.verdict_code.Statement.{statement}
+use Rattle.codes.proofs.verdict_code.Tie as tie
+
+enum-told : tie.Need-enum-told
+enum-told c = search needs
+
+pack-requires : tie.Need-pack-requires
+pack-requires c κs = search needs
+
+enum-known-verdict : tie.Need-enum-known-verdict
+enum-known-verdict c = search needs
+
+broken-code-requires : tie.Need-broken-code-requires
+broken-code-requires c κs = c .before .before .before .pre _ _ _ (c .before .verdict .given .1)
+
+returns : tie.Need-returns
+unfolding verdictCode
+returns c = c .pack .ensures ∙ sym (ap verdictCode (c .before .enum-told .given .1))
+
+returns-2 : tie.Need-returns-2
+unfolding verdictCode
+returns-2 c = c .broken-code .ensures ∙ sym (ap verdictCode (c .before .before .verdict .given .1))
+
+pub verdict-code-spec : {M : Type 1} → statement M
+verdict-code-spec =
+    tie.close
+    (tie.spec
+    enum-told
+    pack-requires
+    enum-known-verdict
+    broken-code-requires
+    returns
+    returns-2)
