@@ -88,8 +88,8 @@ enum {
  *
  * Questions about files have a byte as their place: where the record begins, 0 for question 1 and for an empty file, the file's
  * length for 14, for 29 and for 28 at the end. All others have an event: its number, or the count for 15, 17, 18, 31
- * and 32, and for 3 where it is not about a file. A place never reaches into the code: a count of 2^32 or more, which 17 or 18 refuses,
- * is told as 2^32 - 1. No other place is as large.
+ * and 32, and for 3 where it is not about a file. A place never reaches into the code: a count of 2^32 or more, which 17, 3 or 18
+ * refuses, is told as 2^32 - 1. No other place is as large.
  */
 enum {
     SENDOSHI_DONE = 0,
