@@ -30,7 +30,7 @@ element-copy-out-if1 : tie.Need-element-copy-out-if1 Inv-loop μ-loop
 element-copy-out-if1 c = omega arith
 
 returns : tie.Need-returns Inv-loop μ-loop
-returns c = sym (not-all-zero (c .before .before .before .before .args .starts .now) (c .before .before .before .loop .r) (c .before .before .loop-test .taken) (c .if1 .taken))
+returns c = sym (not-all-zero (c .before .before .before .before .args .starts .now) (c .before .before .before .loop .r) (omega arith) (c .if1 .taken))
 
 add-r : tie.Need-add-r Inv-loop μ-loop
 add-r c = omega arith
