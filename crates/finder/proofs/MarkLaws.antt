@@ -15,11 +15,12 @@ use Rattle.opacity.specs.Marking.{placeOf}
 use Rattle.events.proofs.ListLaws.{nor-l, nor-r, nor-i}
 use Rattle.opacity.proofs.MarkingBytes.{outcome-back, flat-append, flat-length}
 use Rattle.opacity.proofs.Orders.{before-here}
-use Rattle.tables.specs.Order.{coded, decode}
+use Rattle.search.specs.Places.{coded, decode}
 use Rattle.events.specs.Bytes as bytes
 use Rattle.events.specs.Bytes.{u16Bytes}
 use Rattle.opacity.specs.Marking.{placeBytes, flat}
-use Rattle.tables.proofs.TreeLink.{decode-snoc, placed-snoc}
+use Rattle.search.proofs.LookupLaws.{decode-snoc}
+use Rattle.tables.proofs.TreeLink.{placed-snoc}
 use Rattle.marking_writer.proofs.RunLaws.{placed-then}
 
 pub decode-append : (p q : List ℕ) → decode (p ++ q) ≡ decode p ++ decode q

@@ -1,11 +1,13 @@
 -- The marking of the order found.
 -- Assumes nothing.
-use mathlib.Core.Path.{_≡_, refl, sym, ap, _∙_}
-use Prim.Native.Nat.{ℕ, zero, suc, _≤_}
+use mathlib.Core.Path.{_≡_, sym, ap, _∙_}
+use Prim.Native.Nat.{ℕ, _≤_}
 use native.Mathlib.Omega.{arith}
-use mathlib.Core.Bool.{true, false}
-use mathlib.Core.List.{List, [], _∷_}
-use mathlib.Core.Option.{Option, none, some}
+use mathlib.Core.Bool.{false}
+use lib.Dec.{eqb}
+use borrow.Author.Tests.{ne-eqb}
+use mathlib.Core.List.{List}
+use mathlib.Core.Option.{none, some}
 use lib.ListN.{length, take, length-map}
 use Rattle.events.specs.declared.event.Event.{Event}
 use Rattle.events.specs.Events.{eventAt, begins}
@@ -18,16 +20,10 @@ use Rattle.opacity.proofs.Bounds.{transaction-known}
 use Rattle.opacity.proofs.Least.{lowest-justifies}
 use Rattle.opacity.proofs.MarkingBytes.{marking-length}
 use Rattle.opacity.proofs.Orders.{filled}
-use Rattle.search.specs.declared.Answer.{Answer}
-use Rattle.tables.specs.Order.{decode, Judged, orderOf}
+use Rattle.search.specs.Places.{codesOf, decode}
+use Rattle.tables.specs.Order.{Judged, orderOf}
 use Rattle.opacity.specs.Marking.{markingBytes}
 use Rattle.finder.specs.Answer.{markingSize, lowestMarking}
-use Rattle.finder.proofs.MarkLaws.{decode-length}
-
-take-its-length : {A : Type 0} (k : ℕ) (xs : List A) → take k xs ≡ take (length (take k xs)) xs
-take-its-length zero xs = refl
-take-its-length (suc k) [] = refl
-take-its-length (suc k) (x ∷ xs) = ap (λ (l : List _). x ∷ l) (take-its-length k xs)
 
 pub room-is : (h : List Event) (J : List Place) → length J ≡ begins h → length (markingBytes (marked h J)) ≡ markingSize h
 unfolding marked
@@ -38,30 +34,24 @@ module _ (start : ℕ → ℕ) (c : Columns) (n : ℕ) (j : Judged c n) where
   pub order-size : {J : List Place} → lowestOf start (history c n) ≡ some J → length J ≡ begins (history c n)
   order-size {J} e = filled (begins (history c n)) J (lowest-justifies start (history c n) (transaction-known (history c n) (j .readable)) e .order)
 
-  pub places-are : (placed : List ℕ) (k count : ℕ) → some (decode (take k placed)) ≡ lowestOf start (history c n) → count ≡ begins (history c n)
-      → decode (take k placed) ≡ decode (take count placed)
-  places-are placed k count e f =
-      let a : length (take k placed) ≡ count = sym (decode-length (take k placed)) ∙ order-size (sym e) ∙ sym f in
-      ap decode (take-its-length k placed ∙ ap (λ (m : ℕ). take m placed) a)
+  -- the codes of an answer, as an order of places
+  pub places-found : (places : List ℕ) (a count : ℕ) → (a ≡ 0 → ⊥) → orderOf (history c n) a ≡ lowestOf start (history c n) → count ≡ begins (history c n)
+      → take count places ≡ codesOf count a → some (decode (take count places)) ≡ lowestOf start (history c n)
+  places-found places a count f e k q =
+      let g : eqb a 0 ≡ false = ne-eqb a 0 f in
+      ap (λ (p : List ℕ). some (decode p)) (q ∙ ap (λ (m : ℕ). codesOf m a) k) ∙ (rw g at e)
 
-  pub marking-found : (placed : List ℕ) (k count : ℕ) → some (decode (take k placed)) ≡ lowestOf start (history c n) → count ≡ begins (history c n)
-      → lowestMarking start (history c n) ≡ some (markingBytes (marked (history c n) (decode (take count placed))))
+  pub marking-found : {J : List Place} → some J ≡ lowestOf start (history c n) → lowestMarking start (history c n) ≡ some (markingBytes (marked (history c n) J))
   unfolding lowestMarking
-  marking-found placed k count e f = rw (sym e) (ap (λ (J : List Place). some (markingBytes (marked (history c n) J))) (places-are placed k count e f))
+  marking-found e = rw (sym e)
 
-  pub marking-fits : (placed : List ℕ) (k count room : ℕ) → some (decode (take k placed)) ≡ lowestOf start (history c n) → count ≡ begins (history c n)
-      → markingSize (history c n) ≤ room → length (markingBytes (marked (history c n) (decode (take count placed)))) ≤ room
-  marking-fits placed k count room e f l =
-      let a : length (decode (take count placed)) ≡ begins (history c n) = ap length (sym (places-are placed k count e f)) ∙ order-size (sym e) in
-      rw (room-is (history c n) (decode (take count placed)) a) l
+  pub marking-fits : {J : List Place} (room : ℕ) → some J ≡ lowestOf start (history c n) → markingSize (history c n) ≤ room
+      → length (markingBytes (marked (history c n) J)) ≤ room
+  marking-fits {J} room e l = rw (room-is (history c n) J (order-size (sym e))) l
 
   pub marking-none : none ≡ lowestOf start (history c n) → lowestMarking start (history c n) ≡ none
   unfolding lowestMarking
   marking-none e = rw (sym e)
 
--- what an answer says
-pub answer-none : {L : Option (List Place)} (a : Answer) → a .found ≡ false → orderOf a ≡ L → none ≡ L
-answer-none a f e = rw f at e
-
-pub answer-some : {L : Option (List Place)} (a : Answer) → a .found ≡ true → orderOf a ≡ L → some (decode (take (a .search .filled) (a .search .placed))) ≡ L
-answer-some a f e = rw f at e
+  pub answer-none : (a : ℕ) → a ≡ 0 → orderOf (history c n) a ≡ lowestOf start (history c n) → none ≡ lowestOf start (history c n)
+  answer-none a z e = rw z at e

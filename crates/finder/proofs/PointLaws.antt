@@ -4,16 +4,16 @@ use mathlib.Core.Path.{_≡_, refl, sym, ap, ap₂, _∙_}
 use Prim.Native.Nat.{ℕ, _+_, _*_, _≤_, _<_}
 use native.Mathlib.Nat.{le-of-lt}
 use native.Mathlib.Omega.{arith}
-use mathlib.Core.Bool.{Bool}
+use mathlib.Core.Bool.{Bool, cond}
 use mathlib.Core.List.{List, _++_}
 use mathlib.Core.Option.{Option, none, some}
-use lib.ListN.{length, take, getD, length-append}
+use lib.ListN.{length, take, getD, set, replicate, length-append}
 use lib.Dec.{eqb}
 use Rattle.events.specs.Questions.{readable}
 use borrow.Author.Tests.{ne-eqb}
 use Rattle.events.specs.Lists.{_and_, isNone}
 use Rattle.events.specs.declared.event.Event.{Event}
-use Rattle.events.specs.Events.{eventAt, isRead}
+use Rattle.events.specs.Events.{eventAt, isRead, isWrite}
 use Rattle.opacity.specs.Transactions.{lastWrite, isStoreRead, storeReads}
 use Rattle.events.specs.Columns.{Columns, entry, history}
 use Rattle.opacity.specs.Counts.{ofKind}
@@ -21,8 +21,9 @@ use Rattle.opacity.specs.Justification.{Place}
 use Rattle.opacity.specs.Marking.{placeOf, marked}
 use Rattle.events.proofs.ColumnLaws.{history-length, history-at, history-take}
 use Rattle.opacity.proofs.Prefixes.{store-read-at}
-use Rattle.tables.specs.Tables.{Tables, next, empty, goThrough, tablesOf}
-use Rattle.tables.specs.Order.{decode, Judged}
+use Rattle.tables.specs.Tables.{slotOf, empty, goThrough, tablesOf}
+use Rattle.search.specs.Places.{decode}
+use Rattle.tables.specs.Order.{Judged}
 use Rattle.events.specs.Bytes as bytes
 use Rattle.events.specs.Bytes.{over}
 use Rattle.opacity.specs.Marking.{markingHead, placeBytes, flat, markingBytes}
@@ -30,8 +31,9 @@ use Rattle.marking_writer.specs.Points.{readBytes}
 use Rattle.marking_writer.proofs.RunLaws.{Put, put-none, put-room, put-more}
 use Rattle.marking_writer.proofs.PointLaws.{points-are, points-none, points-more, marking-put}
 use Rattle.finder.specs.Points.{pointsOf}
-use Rattle.tables.proofs.TableLaws.{tables-more}
-use Rattle.tables.proofs.Meaning.{Fine, plus, written-holds}
+use Rattle.tables.proofs.NextLaws.{writes-more}
+use Rattle.search.specs.Places.{plus}
+use Rattle.tables.proofs.Meaning.{Fine, written-holds}
 use Rattle.tables.proofs.GoodHistory.{good}
 use Rattle.finder.proofs.MarkLaws.{places-length}
 
@@ -48,11 +50,11 @@ none-is none = refl
 none-is (some v) = ne-eqb (v + 1) 0 (λ e. omega arith)
 
 -- a store read, as the tables of the events before it tell
-pub store-at : (c : Columns) (n : ℕ) → Judged c n → (i : ℕ) → i < n → (s : Tables) (store : Bool) → s ≡ tablesOf (history c i)
-    → store ≡ (isRead (ofKind (entry c i .kind)) and eqb (getD (s .written) (entry c i .transaction * 32 + entry c i .register) 0) 0)
+pub store-at : (c : Columns) (n : ℕ) → Judged c n → (i : ℕ) → i < n → (written : List ℕ) (store : Bool) → written ≡ tablesOf (history c i) .written
+    → store ≡ (isRead (ofKind (entry c i .kind)) and eqb (getD written (entry c i .transaction * 32 + entry c i .register) 0) 0)
     → store ≡ isStoreRead (history c n) i
 unfolding isRead
-store-at c n j i l s store tables reads =
+store-at c n j i l written store held reads =
     let h = history c n in
     let inside : i < length h = rw (history-length c n) l in
     let its : Fine (take i h) (eventAt h i) = good h (j .readable) (j .few) i inside in
@@ -60,16 +62,16 @@ store-at c n j i l s store tables reads =
     let f : Fine (take i h) (entry c i) = rw a at its in
     let w : getD (tablesOf (take i h) .written) (entry c i .transaction * 32 + entry c i .register) 0 ≡ plus (lastWrite (take i h) (entry c i .transaction) (entry c i .register)) =
     written-holds h (good h (j .readable) (j .few)) i (le-of-lt inside) (entry c i .transaction) (entry c i .register) (f .transaction) (f .register) in
-    let v : getD (s .written) (entry c i .transaction * 32 + entry c i .register) 0 ≡ plus (lastWrite (history c i) (entry c i .transaction) (entry c i .register)) =
-    ap (λ (x : Tables). getD (x .written) (entry c i .transaction * 32 + entry c i .register) 0) tables ∙ (rw (history-take c n i (le-of-lt l)) at w) in
+    let v : getD written (entry c i .transaction * 32 + entry c i .register) 0 ≡ plus (lastWrite (history c i) (entry c i .transaction) (entry c i .register)) =
+    ap (λ (x : List ℕ). getD x (entry c i .transaction * 32 + entry c i .register) 0) held ∙ (rw (history-take c n i (le-of-lt l)) at w) in
     reads
     ∙ ap (λ (b : Bool). isRead (ofKind (entry c i .kind)) and b) (ap (λ (m : ℕ). eqb m 0) v ∙ none-is (lastWrite (history c i) (entry c i .transaction) (entry c i .register)))
     ∙ sym (store-read-at c n i l)
 
 -- the events below i have their points in the buffer
-pub record Pointing (c : Columns) (n : ℕ) (J : List Place) (d : List ℕ) (from i : ℕ) (out : List ℕ) (s : Tables) (to : ℕ) : Type 0 where
+pub record Pointing (c : Columns) (n : ℕ) (J : List Place) (d : List ℕ) (from i : ℕ) (out written : List ℕ) (to : ℕ) : Type 0 where
   pub passed : i ≤ n
-  pub tables : s ≡ tablesOf (history c i)
+  pub held : written ≡ tablesOf (history c i) .written
   pub put : Put (pointsOf (history c n) J) d from i out to
 
 module _ (c : Columns) (n : ℕ) (J : List Place) (d : List ℕ) (from : ℕ) where
@@ -82,29 +84,30 @@ module _ (c : Columns) (n : ℕ) (J : List Place) (d : List ℕ) (from : ℕ) wh
   abbrev point : ℕ → List ℕ
   point i = readBytes (store i) i (gap i)
 
-  pub pointing-none : (s : Tables) → s ≡ empty → Pointing c n J d from 0 d s from
-  unfolding history tablesOf goThrough
-  pointing-none s e = record { passed = omega arith; tables = e; put = put-none (pointsOf (history c n) J) point (points-none store gap) (points-more store gap) d from }
+  pub pointing-none : Pointing c n J d from 0 d (replicate 320 0) from
+  unfolding history tablesOf goThrough empty
+  pointing-none = record { passed = omega arith; held = refl; put = put-none (pointsOf (history c n) J) point (points-none store gap) (points-more store gap) d from }
 
-  module _ (j : Judged c n) (room : from + length (pointsOf (history c n) J n) ≤ length d) (i : ℕ) (l : i < n) (out : List ℕ) (s : Tables) (to : ℕ)
-      (p : Pointing c n J d from i out s to) (reads : Bool) (at : ℕ)
-      (reads-are : reads ≡ (isRead (ofKind (entry c i .kind)) and eqb (getD (s .written) (entry c i .transaction * 32 + entry c i .register) 0) 0))
+  module _ (j : Judged c n) (room : from + length (pointsOf (history c n) J n) ≤ length d) (i : ℕ) (l : i < n) (out written : List ℕ) (to : ℕ)
+      (p : Pointing c n J d from i out written to) (reads : Bool) (at : ℕ)
+      (reads-are : reads ≡ (isRead (ofKind (entry c i .kind)) and eqb (getD written (entry c i .transaction * 32 + entry c i .register) 0) 0))
       (place : at ≡ placeOf (entry c i .transaction) J) where
     point-is : readBytes reads i at ≡ point i
     point-is =
         ap₂ (λ (b : Bool) (g : ℕ). readBytes b i g)
-        (store-at c n j i l s reads (p .tables) reads-are)
+        (store-at c n j i l written reads (p .held) reads-are)
         (place ∙ ap (λ (e : Event). placeOf (e .transaction) J) (sym (history-at c n i l)))
 
     pub pointing-room : to + length (readBytes reads i at) ≤ length out
     pointing-room = rw point-is (put-room (pointsOf (history c n) J) point (points-none store gap) (points-more store gap) d from n room i l out to (p .put))
 
-    pub pointing-more : (out′ : List ℕ) (s′ : Tables) (to′ : ℕ) → length out′ ≡ length out → out′ ≡ bytes.placed out to (readBytes reads i at)
-        → to′ ≡ to + length (readBytes reads i at) → s′ ≡ next s (entry c i) → Pointing c n J d from (i + 1) out′ s′ to′
-    pointing-more out′ s′ to′ k e f g =
+    pub pointing-more : (out′ written′ : List ℕ) (to′ : ℕ) → length out′ ≡ length out → out′ ≡ bytes.placed out to (readBytes reads i at)
+        → to′ ≡ to + length (readBytes reads i at) → written′ ≡ cond (isWrite (entry c i)) (set written (slotOf (entry c i)) (entry c i .value + 1)) written
+        → Pointing c n J d from (i + 1) out′ written′ to′
+    pointing-more out′ written′ to′ k e f g =
         record {
           passed = omega arith;
-          tables = tables-more c i s s′ (p .tables) g;
+          held = writes-more c i written written′ (p .held) g;
           put = put-more (pointsOf (history c n) J) point (points-none store gap) (points-more store gap) d from n room i l out to (p .put) out′ to′ k (rw point-is at e) (rw point-is at f);
         }
 

@@ -37,13 +37,12 @@ fn find_lowest(
     requires { ⌜ markingSize (history (columns (now kinds) (now transactions) (now registers) (now values)) n) ≤ length (now output) ⌝ }
     ensures { λ r. ⌜ gives r (now (output .exit)) ≡ decided Checked.Readable (lowestMarking (startOf (now (starts .entry))) (history (columns (now (kinds .entry)) (now (transactions .entry)) (now (registers .entry)) (now (values .entry))) n)) (now (output .entry)) ⌝ }
 {
-    let a = tables::find_order(starts, kinds, transactions, registers, values, n);
-    if !a.found {
+    let order = tables::find_order(starts, kinds, transactions, registers, values, n);
+    if order == 0 {
         return Found::None;
     }
-    let s = a.search;
-    let places = s.placed;
     let count = opacity::counts::transactions_begun(kinds, transactions, registers, values, n);
+    let places = search::state::codes_of(order, count);
     let length = writer::write_marking(
         kinds,
         transactions,

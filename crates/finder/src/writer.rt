@@ -9,7 +9,8 @@ ghost use Rattle.events.specs.Events.{isRead};
 ghost use Rattle.events.specs.Columns.{columns, history};
 ghost use Rattle.opacity.specs.Counts.{ofKind};
 ghost use Rattle.opacity.specs.Marking.{flat, placeBytes, placeOf, marked, markingBytes};
-ghost use Rattle.tables.specs.Order.{decode, Judged};
+ghost use Rattle.search.specs.Places.{decode};
+ghost use Rattle.tables.specs.Order.{Judged};
 ghost use Rattle.finder.specs.Points.{pointsOf};
 use events::record::Record;
 use marking_writer::put_head;
@@ -83,9 +84,7 @@ fn put_points(
     ensures { λ _. ⌜ now (out .exit) ≡ placed (now (out .entry)) from (pointsOf (history (columns (now (kinds .entry)) (now (transactions .entry)) (now (registers .entry)) (now (values .entry))) n) (decode (take count places)) n) ⌝ }
     ensures { λ r. ⌜ r ≡ from + length (pointsOf (history (columns (now (kinds .entry)) (now (transactions .entry)) (now (registers .entry)) (now (values .entry))) n) (decode (take count places)) n) ⌝ }
 {
-    let mut required = [0u64; 320];
     let mut written = [0u64; 320];
-    let mut s = tables::no_events();
     let mut at = from;
     let mut i: usize = 0;
     while i < n {
@@ -95,7 +94,7 @@ fn put_points(
         let store = reads_store(&written, kind, t, r);
         let gap = place_of(places, count, t);
         at = put_read(out, at, store, i as u32, gap as u16);
-        s = s.step(&mut required, &mut written, kind, t, r, values[i]);
+        tables::note_write(&mut written, kind, t, r, values[i]);
         i += 1;
     }
     at

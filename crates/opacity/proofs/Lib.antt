@@ -12,9 +12,9 @@ pub mod VerdictLaws
 pub mod Rules
 pub mod Opacity
 pub mod Finder
-pub mod Contents
 pub mod MarkingBytes
 pub mod Serial
+pub mod Contents
 pub mod LowestSerial
 pub mod EventKinds
 pub mod Statuses

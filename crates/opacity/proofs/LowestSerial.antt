@@ -11,7 +11,8 @@ use Rattle.events.specs.declared.event.Event.{Event}
 use Rattle.opacity.specs.Transactions.{Begun}
 use Rattle.opacity.specs.Justification.{Place}
 use Rattle.opacity.specs.Lowest.{notAbove, lower, lowestOf}
-use Rattle.opacity.specs.Serial.{Store, Serial, LowestSerial}
+use Rattle.opacity.specs.Store.{Store}
+use Rattle.opacity.specs.Serial.{Serial, LowestSerial}
 use Rattle.events.proofs.ListLaws.{not-true, clash}
 use Rattle.opacity.proofs.Compare.{orders-ordered, not-above-lower}
 use Rattle.opacity.proofs.Least.{lowest-justifies, lowest-least, none-iff}

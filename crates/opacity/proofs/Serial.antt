@@ -16,15 +16,20 @@ use Rattle.events.specs.declared.event.Event.{Event}
 use Rattle.events.specs.Events.{eventAt, isRead, isWrite, by, begins}
 use Rattle.opacity.specs.Transactions.{isValue, Begun, lastWrite, ownWrite, isOwnRead, isStoreRead, ownRight}
 use Rattle.opacity.specs.Justification.{Place, placed, before, distinct, isOrder, written, contents, legalOver, legal, Justified}
-use Rattle.opacity.specs.Serial.{Store, put, does, eventsOf, run, readsRight, after, serialStore, runsRight, Serial, AllSerial}
+use Rattle.opacity.specs.Store.{Store, put}
+use Rattle.opacity.specs.Serial.{does, eventsOf, run, readsRight, after, serialStore, runsRight, Serial, AllSerial}
 use Rattle.events.proofs.ListLaws.{and-l, and-r, and-i, imp-e, imp-i, every-e}
 use Rattle.opacity.proofs.Orders.{before-here, distinct-at, Split, split}
 use Rattle.opacity.specs.Scan.{scan, Opaque}
-use Rattle.opacity.proofs.Contents.{orElse-getD}
 use Rattle.events.proofs.ColumnLaws.{begins-take}
 use Rattle.opacity.proofs.Opacity.{begun-prefix, opaque-prefixes, prefixes-opaque}
 
 -- ---- the view and the store
+
+-- the second answer's default behind the first's
+pub orElse-getD : (a b : Option ℕ) (d : ℕ) → Option·getD (orElse a b) d ≡ Option·getD a (Option·getD b d)
+orElse-getD none b d = refl
+orElse-getD (some x) b d = refl
 
 -- what an event puts into the view, as an answer of the search for a write
 put-at : (e : Event) (s : Store) (r : ℕ) → Option·getD (cond (isWrite e and eqb (e .register) r) (some (e .value)) none) (s r) ≡ does e s r

@@ -12,15 +12,8 @@ use Rattle.events.specs.declared.event.Event.{Event}
 use Rattle.events.specs.Events.{eventAt, isRead, isWrite, begins}
 use Rattle.opacity.specs.Justification.{Place, isOrder, outcomeKept, realTimeKept}
 use Rattle.opacity.specs.Lowest.{lower}
+use Rattle.opacity.specs.Store.{Store, put}
 use Rattle.opacity.specs.Scan.{cause}
-
--- what each register holds
-abbrev pub Store : Type 0
-Store = ℕ → ℕ
-
--- the store in which r holds v, and the others what they held
-unfoldable pub put : ℕ → ℕ → Store → Store
-put r v s q = cond (eqb r q) v (s q)
 
 -- what an event does to the view of its transaction: a write puts its value there, the others change nothing
 unfoldable pub does : Event → Store → Store

@@ -6,11 +6,12 @@ use Prim.Native.Nat.{ℕ, suc, _+_, _≤_, _<_}
 use native.Mathlib.Decide.{decLe}
 use native.Mathlib.Numerals.{add-one}
 use native.Mathlib.Omega.{arith}
-use mathlib.Core.Bool.{Bool, true, false, not, cond}
+use mathlib.Core.Bool.{Bool, true, false, cond}
 use mathlib.Core.List.{List}
 use mathlib.Core.Option.{Option, none, some}
 use lib.ListN.{length, take}
 use lib.Dec.{eqb}
+use borrow.Author.Tests.{eq-eqb, ne-eqb}
 use Rattle.events.specs.Lists.{isNone, first, keep}
 use Rattle.events.specs.Events.{begins, isBegin, isRead, isCommit, isAbort}
 use Rattle.events.specs.Columns.{Columns, entry, history}
@@ -20,7 +21,7 @@ use Rattle.opacity.specs.Scan.{cause, scan}
 use Rattle.opacity.specs.declared.verdict.Scanned.the-variants.{Opaque, Faulted}
 use Rattle.events.proofs.ListLaws.{below-cases, clash, first-none, first-some, none-first, First}
 use Rattle.events.proofs.ColumnLaws.{history-length, history-at, history-take, begins-more, begins-stay}
-use Rattle.search.specs.declared.Answer.{Answer}
+use Rattle.search.specs.Places.{codesOf}
 use Rattle.search.specs.Tree.{firstCompletion, readAnswer}
 use Rattle.opacity.specs.Counts.{ofKind}
 use Rattle.tables.specs.Tables.{Tables, empty, goThrough, next, tablesOf}
@@ -75,35 +76,35 @@ module _ (o : List ℕ) (c : Columns) (n : ℕ) where
     pub few-begun : begun′ ≤ 10
     few-begun = let q = judged-prefix c n (i + 1) (omega arith) j .few in omega (arith, its-count)
 
-    module _ (a : Answer) (completes : readAnswer a ≡ cond (s′ .contradictory) none (firstCompletion (constraintsOf o s′) begun′)) where
-      judged : decoded (readAnswer a) ≡ lowestOf (startOf o) (take (suc i) (history c n))
+    module _ (a : ℕ) (completes : readAnswer begun′ a ≡ cond (s′ .contradictory) none (firstCompletion (constraintsOf o s′) begun′)) where
+      judged : decoded (readAnswer begun′ a) ≡ lowestOf (startOf o) (take (suc i) (history c n))
       judged =
-          found-by o c (i + 1) (readAnswer a) s′ begun′ (judged-prefix c n (i + 1) (omega arith) j) its-tables its-count completes
+          found-by o c (i + 1) (readAnswer begun′ a) s′ begun′ (judged-prefix c n (i + 1) (omega arith) j) its-tables its-count completes
           ∙ ap (λ (m : ℕ). lowestOf (startOf o) (history c m)) (add-one i)
           ∙ ap (lowestOf (startOf o)) (sym (history-take c n (suc i) l))
 
-      found-is : (b : Bool) → a .found ≡ b → isNone (lowestOf (startOf o) (take (suc i) (history c n))) ≡ not b
-      found-is b e = ap isNone (sym judged) ∙ go b e
+      none-is : isNone (lowestOf (startOf o) (take (suc i) (history c n))) ≡ eqb a 0
+      none-is = ap isNone (sym judged) ∙ go (eqb a 0) (codesOf begun′ a)
         where
-          go : (b : Bool) → a .found ≡ b → isNone (decoded (readAnswer a)) ≡ not b
-          go true e = rw e
-          go false e = rw e
+          go : (b : Bool) (p : List ℕ) → isNone (decoded (cond b none (some p))) ≡ b
+          go true p = refl
+          go false p = refl
 
-      pub scanning-more : a .found ≡ true → Scanning o c n (i + 1) s′ begun′
+      pub scanning-more : (a ≡ 0 → ⊥) → Scanning o c n (i + 1) s′ begun′
       scanning-more e =
           record {
             passed = omega arith;
             tables = its-tables;
             count = its-count;
-            fine = λ k m. ⊎-elim (λ q. rw q (found-is true e)) (λ q. p .fine k q) (below-cases (rw add-one at m));
+            fine = λ k m. ⊎-elim (λ q. rw q (none-is ∙ ne-eqb a 0 e)) (λ q. p .fine k q) (below-cases (rw add-one at m));
           }
 
-      pub scanning-fault : (w : ℕ) → w ≡ cause (ofKind (entry c i .kind)) → a .found ≡ false → Faulted i w ≡ scan (startOf o) (history c n)
+      pub scanning-fault : a ≡ 0 → Faulted i (cause (ofKind (entry c i .kind))) ≡ scan (startOf o) (history c n)
       unfolding scan cause isRead isCommit isAbort
-      scanning-fault w q e =
+      scanning-fault e =
           let f : first (λ k. isNone (lowestOf (startOf o) (take (suc k) (history c n)))) (length (history c n)) ≡ some i =
-          first-at _ (length (history c n)) i (rw (history-length c n) l) (found-is false e) (p .fine) in
-          rw (f, history-at c n i l) (ap (Faulted i) q)
+          first-at _ (length (history c n)) i (rw (history-length c n) l) (none-is ∙ eq-eqb a 0 e) (p .fine) in
+          rw (f, history-at c n i l)
 
   pub scanning-end : (i : ℕ) (s : Tables) (begun : ℕ) → i ≡ n → Scanning o c n i s begun → Opaque ≡ scan (startOf o) (history c n)
   unfolding scan

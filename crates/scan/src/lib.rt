@@ -6,6 +6,7 @@ ghost use Rattle.events.specs.Columns.{columns, history};
 ghost use Rattle.events.specs.Events.{isBegin};
 ghost use Rattle.events.specs.Starts.{startOf};
 ghost use Rattle.opacity.specs.Scan.{scan, cause};
+ghost use Rattle.opacity.specs.declared.verdict.Scanned.the-variants.{Faulted};
 ghost use Rattle.opacity.specs.Counts.{ofKind, HoldsReadable};
 ghost use Rattle.tables.specs.Order.{Judged};
 ghost use Rattle.scan.specs.Answer.{sizeRefusal, decided, scanAnswer};
@@ -49,6 +50,16 @@ fn cause_of(kind: u16) -> u32
     4
 }
 
+// The answer where the prefix that ends with an event of this kind is the first without a justification.
+fn faulted(event: usize, kind: u16) -> Scanned
+    ensures { λ r. ⌜ r ≡ Faulted event (cause (ofKind kind)) ⌝ }
+{
+    Scanned::Faulted {
+        event,
+        cause: cause_of(kind),
+    }
+}
+
 // The prefixes of the first n events, of at most ten transactions, by rising length: the tables grow by one event each time.
 fn scan_prefixes(
     starts: &[u32; 32],
@@ -61,6 +72,9 @@ fn scan_prefixes(
     requires { ⌜ Judged (columns (now kinds) (now transactions) (now registers) (now values)) n ⌝ }
     ensures { λ r. ⌜ r ≡ scan (startOf (now (starts .entry))) (history (columns (now (kinds .entry)) (now (transactions .entry)) (now (registers .entry)) (now (values .entry))) n) ⌝ }
 {
+    let mut predecessors = [0u64; 10];
+    let mut allowed = [0u8; 10];
+    let mut reads = [0u32; 10];
     let mut required = [0u64; 320];
     let mut written = [0u64; 320];
     let mut s = tables::no_events();
@@ -69,6 +83,9 @@ fn scan_prefixes(
     while i < n {
         let kind = kinds[i];
         s = s.step(
+            &mut predecessors,
+            &mut allowed,
+            &mut reads,
             &mut required,
             &mut written,
             kind,
@@ -77,12 +94,18 @@ fn scan_prefixes(
             values[i],
         );
         begun = counted(begun, kind);
-        let a = tables::complete(starts, s, &required, &written, begun);
-        if !a.found {
-            return Scanned::Faulted {
-                event: i,
-                cause: cause_of(kind),
-            };
+        let order = tables::complete(
+            starts,
+            s,
+            &predecessors,
+            &allowed,
+            &reads,
+            &required,
+            &written,
+            begun,
+        );
+        if order == 0 {
+            return faulted(i, kind);
         }
         i += 1;
     }

@@ -1,20 +1,67 @@
--- Laws of the search's state.
+-- Laws of the search's state: its places as a list, and one place more.
 -- Assumes nothing.
-use mathlib.Core.Path.{_≡_, refl, ap}
-use mathlib.Core.List.{List}
+use mathlib.Core.Path.{_≡_, refl, ap, _∙_}
+use mathlib.Core.List.{List, [], _∷_, _++_}
 use mathlib.Core.Logic.{⊎-elim}
-use mathlib.Core.Bool.{Bool, true, false, cond}
-use native.Mathlib.Nat.{eq-or-lt-of-le, le-of-suc-le-suc}
-use Prim.Native.Nat.{ℕ, zero, suc, _+_, _-_, _*_, _^_, _<_}
+use Prim.Native.Nat.{ℕ, zero, suc, _+_, _-_, _*_, _/_, _%_, _^_, _≤_, _<_}
 use native.Mathlib.Numerals.{add-one}
 use native.Mathlib.Omega.{arith}
-use lib.ListN.{length, set, getD}
-use lib.Seq.{getD-take, length-take-le, take-suc-set, getD-set-same, getD-set-other}
+use lib.ListN.{length, getD, set, take, length-append, List·getD-append}
+use lib.Seq.{getD-at, take-suc, take-suc-set}
 use lib.Count.{ones}
-use borrow.Author.Count.{below-more}
-use Rattle.search.specs.declared.Search.{Search}
-use Rattle.search.specs.Tree.{Sound, Placeable, Extends, placedOf, contentAfter, contentTo, legalAt, legalTo}
+use lib.Pow.{pow-add, pow-mono, shr-shr}
+use Rattle.events.proofs.ListLaws.{below-cases}
+use Rattle.search.specs.declared.state.Search.{Search}
+use Rattle.search.specs.Places.{codesOf}
+use Rattle.search.specs.State.{Coded, Sound, Placeable, Extends}
 use Rattle.search.proofs.BitLaws.{member-lt, ones-off}
+
+-- ---- the places as a list
+
+pub length-codes : (k n : ℕ) → length (codesOf k n) ≡ k
+unfolding codesOf
+length-codes zero n = refl
+length-codes (suc k) n = length-append (codesOf k (n / 32)) (n % 32 ∷ []) ∙ (let e = length-codes k (n / 32) in omega arith)
+
+-- the last of them
+last-code : (k n : ℕ) → getD (codesOf (suc k) n) k 0 ≡ n % 32
+unfolding codesOf
+last-code k n = getD-at (codesOf k (n / 32)) (n % 32) [] 0 k (length-codes k (n / 32))
+
+-- those before it
+earlier-code : (k n i : ℕ) → i < k → getD (codesOf (suc k) n) i 0 ≡ getD (codesOf k (n / 32)) i 0
+unfolding codesOf
+earlier-code k n i l = List·getD-append (codesOf k (n / 32)) (n % 32 ∷ []) 0 i (rw (length-codes k (n / 32)) l)
+
+-- the one that is so many before the last
+code-back : (k n b i : ℕ) → b + i ≡ k → getD (codesOf (suc k) n) i 0 ≡ n / 2 ^ (b * 5) % 32
+code-back k n zero i e = let q : i ≡ k = omega arith in rw q (last-code k n ∙ (let d : n / 2 ^ 0 ≡ n = omega arith in rw d))
+code-back zero n (suc b) i e = absurd (omega arith)
+code-back (suc k) n (suc b) i e =
+    earlier-code (suc k) n i (omega arith) ∙ code-back k (n / 32) b i (omega arith)
+    ∙ ap (λ (x : ℕ). x % 32) (shr-shr n 5 (b * 5) ∙ ap (λ (x : ℕ). n / 2 ^ x) five)
+  where
+    five : 5 + b * 5 ≡ suc b * 5
+    five = omega arith
+
+pub code-at-place : (m n i b : ℕ) → b + i + 1 ≡ m → getD (codesOf m n) i 0 ≡ n / 2 ^ (b * 5) % 32
+code-at-place zero n i b e = absurd (omega arith)
+code-at-place (suc k) n i b e = code-back k n b i (omega arith)
+
+-- one place more
+pub one-more : (k n c : ℕ) → c < 32 → codesOf (k + 1) (n * 32 + c) ≡ codesOf k n ++ (c ∷ [])
+unfolding codesOf
+one-more k n c l =
+    let h : (n * 32 + c) / 32 ≡ n = omega arith in
+    let r : (n * 32 + c) % 32 ≡ c = omega arith in
+    rw (add-one, h, r)
+
+-- one entry more that agrees
+pub take-more : (l m : List ℕ) (i c : ℕ) → i < length l → i < length m → c ≡ getD m i 0 → take i l ≡ take i m → take (i + 1) (set l i c) ≡ take (i + 1) m
+take-more l m i c a b e f =
+    rw (add-one, take-suc-set l i c a, take-suc m i 0 b, ← e, f)
+
+-- ---- the state
 
 -- a member of a state's set is below ten
 pub room-lt : {s : Search} {t : ℕ} → Placeable s t → t < 10
@@ -24,57 +71,41 @@ room-lt {s} {t} h = member-lt t (s .unplaced) 10 (h .isIn) (h .sound .few)
 pub room-at : {s : Search} {t : ℕ} → Placeable s t → s .filled < 10
 room-at {s} {t} h = omega (arith, ones-off t (s .unplaced) (h .isIn), h .sound .fit)
 
-pub extends : (s : Search) (t o rest : ℕ) → length (s .placed) ≡ 10 → Placeable s t → o < 2 → rest ≡ s .unplaced - 2 ^ t
-    → Extends s t o (record { unplaced = rest; filled = s .filled + 1; placed = set (s .placed) (s .filled) (t * 2 + o) })
-extends s t o rest long h two e =
-    let at : s .filled < length (s .placed) = omega (arith, room-at h) in
+-- and bits
+pub room-bits : (s : Search) → Sound s → s .filled < 10 → s .placed < 2 ^ 46
+room-bits s h l = let m : 2 ^ (s .filled * 5 + 1) ≤ 2 ^ 46 = pow-mono {i = s .filled * 5 + 1} {j = 46} (omega arith) in omega (arith, h .room)
+
+coded-more : (k n c : ℕ) → k < 10 → c < 20 → Coded k n → Coded (k + 1) (n * 32 + c)
+coded-more k n c l lc h =
+    record {
+      few = omega arith;
+      codes = λ i m. rw (one-more k n c (omega arith)) (⊎-elim (at i) (before i) (below-cases (omega (arith, m))));
+    }
+  where
+    at : (i : ℕ) → i ≡ k → getD (codesOf k n ++ (c ∷ [])) i 0 < 20
+    at i e = rw (e, getD-at (codesOf k n) c [] 0 k (length-codes k n)) lc
+
+    before : (i : ℕ) → i < k → getD (codesOf k n ++ (c ∷ [])) i 0 < 20
+    before i m = rw (List·getD-append (codesOf k n) (c ∷ []) 0 i (rw (length-codes k n) m)) (h .codes i m)
+
+pub extends : (s : Search) (t o rest : ℕ) → Placeable s t → o < 2 → rest ≡ s .unplaced - 2 ^ t
+    → Extends s t o (record { unplaced = rest; filled = s .filled + 1; placed = s .placed * 32 + (t * 2 + o) })
+extends s t o rest h two e =
     let few : s .unplaced - 2 ^ t < 1024 = omega (arith, h .sound .few) in
-    let code : t * 2 + o < 20 = omega (arith, room-lt h) in
+    let low : t < 10 = room-lt h in
     let left : ones rest ≡ ones (s .unplaced - 2 ^ t) = ap ones e in
-    let total = ones-off t (s .unplaced) (h .isIn) in
-    let bound = h .sound .fit in
+    let off = ones-off t (s .unplaced) (h .isIn) in
+    let p : 2 ^ (s .filled * 5 + 1 + 5) ≡ 2 ^ (s .filled * 5 + 1) * 2 ^ 5 = pow-add 2 (s .filled * 5 + 1) 5 in
+    let q : (s .filled + 1) * 5 + 1 ≡ s .filled * 5 + 1 + 5 = omega arith in
     record {
       sound = record {
         few = rw e few;
-        fit = omega arith;
-        codes = below-more (λ (i : ℕ). getD (set (s .placed) (s .filled) (t * 2 + o)) i 0 < 20) (s .filled)
-            (λ i l. rw (getD-set-other (s .placed) (s .filled) i (t * 2 + o) 0 (λ q. omega arith)) (h .sound .codes i l))
-            (rw (getD-set-same (s .placed) (s .filled) (t * 2 + o) 0 at) code);
+        fit = omega (arith, h .sound .fit);
+        led = omega (arith, h .sound .led);
+        room = rw (q, p) (omega (arith, h .sound .room));
+        coded = coded-more (s .filled) (s .placed) (t * 2 + o) (room-at h) (omega arith) (h .sound .coded);
       };
       rest = e;
-      places = rw (add-one, take-suc-set (s .placed) (s .filled) (t * 2 + o) at);
+      total = omega arith;
+      places = one-more (s .filled) (s .placed) (t * 2 + o) (omega arith);
     }
-
--- as many places as are filled
-pub placed-length : (s : Search) → length (s .placed) ≡ 10 → Sound s → length (placedOf s) ≡ s .filled
-placed-length s long h = length-take-le (s .filled) (s .placed) (omega (arith, h .fit))
-
--- ---- the store
-
--- one place more
-pub content-more : (starts written : List ℕ) (s : Search) (r i code v res : ℕ) → i < s .filled → code ≡ getD (s .placed) i 0
-    → v ≡ contentTo starts written (placedOf s) r i → res ≡ contentAfter written r code v → res ≡ contentTo starts written (placedOf s) r (i + 1)
-unfolding contentTo
-content-more starts written s r i code v res l ec ev e =
-    rw (add-one, getD-take (s .filled) (s .placed) i 0 l, ← ec, ← ev) e
-
--- one register more is legal
-pub legal-more : (starts required written p : List ℕ) (m t r : ℕ) → legalTo starts required written p m t r ≡ true → legalAt starts required written p m t r ≡ true → legalTo starts required written p m t (r + 1) ≡ true
-unfolding legalTo
-legal-more starts required written p m t r a b = rw (add-one, b) a
-
--- one that is not makes all not
-pub legal-fails : (starts required written p : List ℕ) (m t n r : ℕ) → r < n → legalAt starts required written p m t r ≡ false → legalTo starts required written p m t n ≡ false
-unfolding legalTo
-legal-fails starts required written p m t zero r l b = absurd (omega arith)
-legal-fails starts required written p m t (suc n) r l b = ⊎-elim at (λ h. below (legal-fails starts required written p m t n r h b)) (eq-or-lt-of-le (le-of-suc-le-suc l))
-  where
-    ends : (x : Bool) → cond x false false ≡ false
-    ends true = refl
-    ends false = refl
-
-    at : r ≡ n → cond (legalAt starts required written p m t n) (legalTo starts required written p m t n) false ≡ false
-    at e = rw (← e, b)
-
-    below : legalTo starts required written p m t n ≡ false → cond (legalAt starts required written p m t n) (legalTo starts required written p m t n) false ≡ false
-    below h = rw h (ends (legalAt starts required written p m t n))

@@ -1,4 +1,4 @@
-// Sets of transactions, one bit each in a u64.
+// Sets of transactions, one bit each in a u64, and of registers, one bit each in a u32.
 ghost use mathlib.Core.Path.{_≡_};
 ghost use Prim.Native.Nat.{_-_, _^_, _<_};
 ghost use lib.Bits.{bitOr};
@@ -33,6 +33,14 @@ pub fn without(set: u64, t: usize) -> u64
     ensures { λ r. ⌜ r ≡ set - 2 ^ t ⌝ }
 {
     set - bit(t)
+}
+
+// The set of registers with r in it.
+pub fn with_register(set: u32, r: usize) -> u32
+    requires { ⌜ r < 32 ⌝ }
+    ensures { λ s. ⌜ s ≡ bitOr set (2 ^ r) ⌝ }
+{
+    set | 1u32 << r
 }
 
 // The set with t in it.

@@ -2,33 +2,35 @@
 -- Assumes nothing.
 use mathlib.Core.Path.{_≡_, refl, sym, ap, _∙_}
 use mathlib.Core.Logic.{⊎-elim}
-use Prim.Native.Nat.{ℕ, zero, suc, _+_, _*_, _-_, _/_, _%_, _≤_, _<_}
-use native.Mathlib.Nat.{lt-suc-self, le-refl, le-of-lt, not-suc-le-zero}
+use Prim.Native.Nat.{ℕ, zero, suc, _+_, _*_, _-_, _≤_, _<_}
+use native.Mathlib.Nat.{le-refl}
 use native.Mathlib.Omega.{arith}
 use mathlib.Core.Bool.{Bool, true, false, not, cond, true≢false, false≢true}
 use mathlib.Core.List.{List}
-use mathlib.Core.Option.{Option, none, some, Option·getD}
 use lib.ListN.{length, take, getD}
-use lib.Seq.{take-suc, take-all}
+use lib.Seq.{take-all}
 use lib.Dec.{eqb, ltb}
 use borrow.Author.Tests.{eqb-true, eqb-false, eq-eqb, ne-eqb, lt-ltb}
-use Rattle.events.specs.Lists.{_and_, _implies_, orElse, push, keep, latest, every}
+use Rattle.events.specs.Lists.{_and_, _implies_, push, keep, all, every}
 use Rattle.events.specs.declared.event.Event.{Event}
 use Rattle.events.specs.Events.{eventAt, begins}
 use Rattle.events.specs.Starts.{startOf}
-use Rattle.opacity.specs.Transactions.{precedes, Status, status, allows, lastWrite, isStoreRead}
-use Rattle.opacity.specs.Justification.{Place, placed, written, contents, preceded, legalOver}
+use Rattle.opacity.specs.Transactions.{precedes, Status, status, allows, isStoreRead}
+use Rattle.opacity.specs.Justification.{Place, placed, contents, preceded, legalOver}
 use Rattle.opacity.specs.Lowest.{place, fits}
-use Rattle.events.proofs.ListLaws.{imp-e, imp-i, not-true, clash, below-cases, every-e, every-i, latest-snoc, both-ways}
-use Rattle.search.specs.Bits.{bitAt}
-use Rattle.search.specs.Tree.{upFrom, contentAfter, contentTo, legalAt, legalTo, noneIn, allowsOutcome, fitsAt}
+use Rattle.events.proofs.ListLaws.{and-false-r, imp-e, imp-i, not-true, clash, every-e, every-i, both-ways}
+use Rattle.search.specs.Bits.{bitAt, members}
+use Rattle.search.specs.Places.{decode, writesIn}
+use Rattle.search.specs.Tree.{upFrom, legalAt, legalReads, noneIn, ruleNext, allowsOutcome, fitsAt}
+use Rattle.search.proofs.SetLaws.{member-passes, members-pass}
 use Rattle.tables.specs.Tables.{tablesOf}
-use Rattle.tables.specs.Order.{coded, decode, constraintsOf}
-use Rattle.tables.proofs.Meaning.{digit, Good, plus, rule, predecessors-holds, allowed-holds, written-holds}
+use Rattle.tables.specs.Order.{constraintsOf}
+use Rattle.tables.proofs.Meaning.{digit, Good, rule, predecessors-holds, allowed-holds}
 use Rattle.tables.proofs.ReadMeaning.{Reads, Wanted, reads-hold}
-use Rattle.tables.proofs.TreeLink.{free, State, decode-snoc}
+use Rattle.tables.proofs.ReadSets.{Marks, marks-hold}
+use Rattle.tables.proofs.LookupLink.{looked-up-contents}
+use Rattle.tables.proofs.TreeLink.{free, State}
 
--- two tests that follow from each other
 -- ---- outcomes
 
 allows-link : (s : Status) (c : Bool) → allowsOutcome (rule s) (digit c) ≡ allows s c
@@ -68,88 +70,42 @@ none-i set q i (suc m) f = go (q i) refl (none-i set q (suc i) m (λ x a b. f x 
 
 -- ---- the store
 
-legal-e : (o required wrote p : List ℕ) (m t n : ℕ) → legalTo o required wrote p m t n ≡ true → (r : ℕ) → r < n → legalAt o required wrote p m t r ≡ true
-unfolding legalTo
-legal-e o required wrote p m t zero q r l = absurd (not-suc-le-zero l)
-legal-e o required wrote p m t (suc n) q r l =
-    go (legalAt o required wrote p m t n) refl q (λ u k. legal-e o required wrote p m t n u r k)
-  where
-    go : (b : Bool) → legalAt o required wrote p m t n ≡ b → cond b (legalTo o required wrote p m t n) false ≡ true
-        → (legalTo o required wrote p m t n ≡ true → r < n → legalAt o required wrote p m t r ≡ true) → legalAt o required wrote p m t r ≡ true
-    go true e u ih = ⊎-elim (λ x. ap (legalAt o required wrote p m t) x ∙ e) (λ k. ih u k) (below-cases l)
-    go false e u ih = absurd (false≢true u)
-
-legal-i : (o required wrote p : List ℕ) (m t n : ℕ) → ((r : ℕ) → r < n → legalAt o required wrote p m t r ≡ true) → legalTo o required wrote p m t n ≡ true
-unfolding legalTo
-legal-i o required wrote p m t zero f = refl
-legal-i o required wrote p m t (suc n) f =
-    let a : legalAt o required wrote p m t n ≡ true = f n (lt-suc-self n) in
-    rw a (legal-i o required wrote p m t n (λ r l. f r (omega arith)))
-
-after-link : (z : ℕ) (wrote : List ℕ) (h : List Event) (r code v : ℕ) (before : Option ℕ) → getD wrote (code / 2 * 32 + r) 0 ≡ plus (lastWrite h (code / 2) r) → v ≡ Option·getD before z
-    → contentAfter wrote r code v ≡ Option·getD (orElse (written h r (coded code)) before) z
-unfolding contentAfter written
-after-link z wrote h r code v before q e = go (eqb (code % 2) 0) refl (lastWrite h (code / 2) r) refl
-  where
-    go : (b : Bool) → eqb (code % 2) 0 ≡ b → (o : Option ℕ) → lastWrite h (code / 2) r ≡ o
-        → cond b v (cond (eqb (getD wrote (code / 2 * 32 + r) 0) 0) v (getD wrote (code / 2 * 32 + r) 0 - 1))
-        ≡ Option·getD (orElse (cond (eqb (code % 2) 1) (lastWrite h (code / 2) r) none) before) z
-    go true f o g =
-        let z₀ = eqb-true (code % 2) 0 f in
-        let y : eqb (code % 2) 1 ≡ false = ne-eqb (code % 2) 1 (λ x. omega arith) in
-        rw y e
-    go false f none g =
-        let z₀ : (code % 2 ≡ 0 → ⊥) = eqb-false (code % 2) 0 f in
-        let y : eqb (code % 2) 1 ≡ true = eq-eqb (code % 2) 1 (omega arith) in
-        let w : getD wrote (code / 2 * 32 + r) 0 ≡ 0 = q ∙ ap plus g in
-        rw (y, w, g) e
-    go false f (some x) g =
-        let z₀ : (code % 2 ≡ 0 → ⊥) = eqb-false (code % 2) 0 f in
-        let y : eqb (code % 2) 1 ≡ true = eq-eqb (code % 2) 1 (omega arith) in
-        let w : getD wrote (code / 2 * 32 + r) 0 ≡ x + 1 = q ∙ ap plus g in
-        let k : eqb (x + 1) 0 ≡ false = ne-eqb (x + 1) 0 (λ m. omega arith) in
-        rw (y, w, g, k) (omega arith)
-
 -- a store read of r by t, as the table has it
-module _ (o required wrote p : List ℕ) (m t r v : ℕ) where
-  legal-read : getD required (t * 32 + r) 0 ≡ v + 1 → legalAt o required wrote p m t r ≡ eqb (contentTo o wrote p r m) v
+module _ (o required : List ℕ) (writes : List Event) (p : List ℕ) (t r v : ℕ) where
+  legal-read : getD required (t * 32 + r) 0 ≡ v + 1 → legalAt o required writes p t r ≡ eqb (contents (startOf o) writes (decode p) r) v
   unfolding legalAt
   legal-read q =
       let k : eqb (v + 1) 0 ≡ false = ne-eqb (v + 1) 0 (λ m. omega arith) in
       let d : v + 1 - 1 ≡ v = omega arith in
       rw (q, k, d)
 
-  legal-none : getD required (t * 32 + r) 0 ≡ 0 → legalAt o required wrote p m t r ≡ true
+  legal-none : getD required (t * 32 + r) 0 ≡ 0 → legalAt o required writes p t r ≡ true
   unfolding legalAt
   legal-none q = rw q
 
-module _ (o : List ℕ) (h : List Event) (wrote : List ℕ) (n : ℕ) (few : n ≤ 10)
-    (holds : (t r : ℕ) → t < 10 → r < 32 → getD wrote (t * 32 + r) 0 ≡ plus (lastWrite h t r)) where
-  -- what a register holds after the first m places
-  content-link : (p : List ℕ) → ((i : ℕ) → i < length p → getD p i 0 / 2 < n) → (r : ℕ) → r < 32 → (m : ℕ) → m ≤ length p
-      → contentTo o wrote p r m ≡ contents (startOf o) h (decode (take m p)) r
-  unfolding contentTo contents latest decode startOf
-  content-link p known r lr zero l = refl
-  content-link p known r lr (suc m) l =
-      rw (take-suc p m 0 l, decode-snoc (take m p) (getD p m 0), latest-snoc (written h r) (decode (take m p)) (coded (getD p m 0)))
-      (step (content-link p known r lr m (le-of-lt l)))
-    where
-      code : ℕ
-      code = getD p m 0
-
-      before : Option ℕ
-      before = latest (written h r) (decode (take m p))
-
-      step : contentTo o wrote p r m ≡ Option·getD before (getD o r 0) → contentAfter wrote r code (contentTo o wrote p r m) ≡ Option·getD (orElse (written h r (coded code)) before) (getD o r 0)
-      step ih = after-link (getD o r 0) wrote h r code (contentTo o wrote p r m) before (holds (code / 2) r (omega (arith, known m l)) lr) ih
-
 -- ---- the tests
 
-picks : (a b c : Bool) → cond a (cond b c false) false ≡ (a and (b and c))
+none-allowed : (o : ℕ) → o < 2 → allowsOutcome 3 o ≡ false
+unfolding allowsOutcome
+none-allowed zero l = refl
+none-allowed (suc zero) l = refl
+none-allowed (suc (suc o)) l = absurd (omega arith)
+
+below-two : (c : Bool) → digit c < 2
+below-two true = omega arith
+below-two false = omega arith
+
+and-true : (b : Bool) → (b and true) ≡ b
 unfolding _and_
-picks true true c = refl
-picks true false c = refl
-picks false b c = refl
+and-true true = refl
+and-true false = refl
+
+-- a rule of 3 allows nothing
+picks : (b c : Bool) (rule o : ℕ) → o < 2 → allowsOutcome (cond b (cond c rule 3) 3) o ≡ (allowsOutcome rule o and (b and c))
+unfolding _and_
+picks true true rule o l = sym (and-true (allowsOutcome rule o))
+picks true false rule o l = none-allowed o l ∙ sym (and-false-r (allowsOutcome rule o) false refl)
+picks false c rule o l = none-allowed o l ∙ sym (and-false-r (allowsOutcome rule o) false refl)
 
 module _ (o : List ℕ) (h : List Event) (good : Good h) (few : begins h ≤ 10) (p u : List ℕ) (st : State (begins h) p u) (t : ℕ) (lt : t < begins h) where
   P : List Place
@@ -191,26 +147,29 @@ module _ (o : List ℕ) (h : List Event) (good : Good h) (few : begins h ≤ 10)
       rw holds (allows-link (status h t) c)
 
   module _ (fine : tablesOf h .contradictory ≡ false) where
-    store : legalTo o (tablesOf h .required) (tablesOf h .written) p (length p) t 32 ≡ every (λ i. eqb (eventAt h i .transaction) t implies legalOver (startOf o) h (decode p) i) (length h)
-    unfolding legalOver
+    store : legalReads (constraintsOf o (tablesOf h)) p t ≡ every (λ i. eqb (eventAt h i .transaction) t implies legalOver (startOf o) h (decode p) i) (length h)
+    unfolding legalOver legalReads
     store = both-ways _ _ forth back
       where
         K : List ℕ
         K = tablesOf h .required
 
-        L : List ℕ
-        L = tablesOf h .written
+        W : List Event
+        W = writesIn (tablesOf h .written)
+
+        set : ℕ
+        set = getD (tablesOf h .reads) t 0
 
         reads : Reads h (length h) K (tablesOf h .contradictory)
         reads = rw whole at (reads-hold h good (length h) (le-refl (length h)))
 
-        wrote : (t r : ℕ) → t < 10 → r < 32 → getD L (t * 32 + r) 0 ≡ plus (lastWrite h t r)
-        wrote x r a b = rw whole at (written-holds h good (length h) (le-refl (length h)) x r a b)
+        marks : Marks h (length h) (tablesOf h .reads)
+        marks = rw whole at (marks-hold h good (length h) (le-refl (length h)))
 
-        content : (r : ℕ) → r < 32 → contentTo o L p r (length p) ≡ contents (startOf o) h (decode p) r
-        content r l = rw (take-all (length p) p (le-refl (length p))) at (content-link o h L (begins h) few wrote p (st .known) r l (length p) (le-refl (length p)))
+        content : (r : ℕ) → r < 32 → contents (startOf o) W (decode p) r ≡ contents (startOf o) h (decode p) r
+        content r l = looked-up-contents o h good p (λ i k. omega (arith, st .known i k)) r l
 
-        forth : legalTo o K L p (length p) t 32 ≡ true → every (λ i. eqb (eventAt h i .transaction) t implies (isStoreRead h i implies eqb (eventAt h i .value) (contents (startOf o) h (decode p) (eventAt h i .register)))) (length h) ≡ true
+        forth : all (legalAt o K W p t) (members set) ≡ true → every (λ i. eqb (eventAt h i .transaction) t implies (isStoreRead h i implies eqb (eventAt h i .value) (contents (startOf o) h (decode p) (eventAt h i .register)))) (length h) ≡ true
         forth k = every-i _ _ (λ i l. imp-i _ _ (λ e. imp-i _ _ (λ s. go i l (eqb-true _ _ e) s)))
           where
             go : (i : ℕ) → i < length h → eventAt h i .transaction ≡ t → isStoreRead h i ≡ true → eqb (eventAt h i .value) (contents (startOf o) h (decode p) (eventAt h i .register)) ≡ true
@@ -218,24 +177,26 @@ module _ (o : List ℕ) (h : List Event) (good : Good h) (few : begins h ≤ 10)
                 let r = eventAt h i .register in
                 let lr : r < 32 = good i l .register in
                 let w : getD K (t * 32 + r) 0 ≡ eventAt h i .value + 1 = ap (λ (x : ℕ). getD K (x * 32 + r) 0) (sym e) ∙ reads .each fine i l s in
-                let a : legalAt o K L p (length p) t r ≡ true = legal-e o K L p (length p) t 32 k r lr in
-                let b : contentTo o L p r (length p) ≡ eventAt h i .value = eqb-true _ _ (sym (legal-read o K L p (length p) t r (eventAt h i .value) w) ∙ a) in
+                let m : bitAt r set ≡ 1 = ap (λ (x : ℕ). bitAt r (getD (tablesOf h .reads) x 0)) (sym e) ∙ marks .each i l s in
+                let a : legalAt o K W p t r ≡ true = member-passes (legalAt o K W p t) set k r (omega arith) m in
+                let b : contents (startOf o) W (decode p) r ≡ eventAt h i .value = eqb-true _ _ (sym (legal-read o K W p t r (eventAt h i .value) w) ∙ a) in
                 eq-eqb _ _ (sym b ∙ content r lr)
 
-        back : every (λ i. eqb (eventAt h i .transaction) t implies (isStoreRead h i implies eqb (eventAt h i .value) (contents (startOf o) h (decode p) (eventAt h i .register)))) (length h) ≡ true → legalTo o K L p (length p) t 32 ≡ true
-        back k = legal-i o K L p (length p) t 32 (λ r l. ⊎-elim (legal-none o K L p (length p) t r 0) (go r l) (reads .some-read t r (omega arith) l))
+        back : every (λ i. eqb (eventAt h i .transaction) t implies (isStoreRead h i implies eqb (eventAt h i .value) (contents (startOf o) h (decode p) (eventAt h i .register)))) (length h) ≡ true → all (legalAt o K W p t) (members set) ≡ true
+        back k = members-pass (legalAt o K W p t) set (λ r m. let l : r < 32 = marks .low t r (omega arith) m in ⊎-elim (legal-none o K W p t r 0) (go r l) (reads .some-read t r (omega arith) l))
           where
-            go : (r : ℕ) → r < 32 → Wanted h (length h) t r (getD K (t * 32 + r) 0) → legalAt o K L p (length p) t r ≡ true
+            go : (r : ℕ) → r < 32 → Wanted h (length h) t r (getD K (t * 32 + r) 0) → legalAt o K W p t r ≡ true
             go r l w =
                 let i = w .event in
                 let a : eqb (eventAt h i .value) (contents (startOf o) h (decode p) (eventAt h i .register)) ≡ true =
                 imp-e _ _ (imp-e _ _ (every-e _ _ k i (w .inside)) (eq-eqb _ _ (w .transaction))) (w .store) in
                 let b : eventAt h i .value ≡ contents (startOf o) h (decode p) r = eqb-true _ _ a ∙ ap (contents (startOf o) h (decode p)) (w .register) in
-                legal-read o K L p (length p) t r (eventAt h i .value) (w .value) ∙ eq-eqb _ _ (content r l ∙ sym b)
+                legal-read o K W p t r (eventAt h i .value) (w .value) ∙ eq-eqb _ _ (content r l ∙ sym b)
 
     pub agree : placed t (decode p) ≡ false → (c : Bool) → fitsAt (constraintsOf o (tablesOf h)) p u t (digit c) ≡ fits (startOf o) h (decode p) (place t c)
-    unfolding fitsAt fits _and_
+    unfolding fitsAt ruleNext fits _and_
     agree q c =
         let a : ltb t (begins h) ≡ true = lt-ltb t (begins h) lt in
-        rw (allowed c, real-time, store, a, q)
-        (picks (allows (status h t) c) (preceded h (decode p) t) (every (λ i. eqb (eventAt h i .transaction) t implies legalOver (startOf o) h (decode p) i) (length h)))
+        rw (real-time, store, a, q)
+        (picks (preceded h (decode p) t) (every (λ i. eqb (eventAt h i .transaction) t implies legalOver (startOf o) h (decode p) i) (length h)) (getD (tablesOf h .allowed) t 0) (digit c) (below-two c)
+        ∙ ap (λ (b : Bool). b and (preceded h (decode p) t and every (λ i. eqb (eventAt h i .transaction) t implies legalOver (startOf o) h (decode p) i) (length h))) (allowed c))

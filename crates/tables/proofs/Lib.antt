@@ -3,6 +3,8 @@ pub mod TableLaws
 pub mod NextLaws
 pub mod Meaning
 pub mod ReadMeaning
+pub mod ReadSets
+pub mod LookupLink
 pub mod TreeLink
 pub mod FitsLink
 pub mod Link

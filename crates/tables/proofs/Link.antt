@@ -17,11 +17,12 @@ use Rattle.opacity.specs.Justification.{Place, placed, before, contents, legalO
 use Rattle.opacity.specs.Lowest.{fits, lowestOf}
 use Rattle.events.proofs.ListLaws.{and-false-l, and-false-r, imp-e, clash, every-i}
 use Rattle.opacity.proofs.Least.{none-iff}
+use Rattle.search.specs.Places.{decode}
 use Rattle.search.specs.Tree.{Completion, upFrom, firstCompletion}
 use Rattle.events.specs.Columns.{Columns, history}
 use Rattle.events.specs.Starts.{startOf}
 use Rattle.tables.specs.Tables.{Tables, tablesOf}
-use Rattle.tables.specs.Order.{decode, decoded, constraintsOf, foundOrder, Judged}
+use Rattle.tables.specs.Order.{decoded, constraintsOf, foundOrder, Judged}
 use Rattle.tables.proofs.Meaning.{Good}
 use Rattle.tables.proofs.ReadMeaning.{Reads, Bad, wrong, apart, reads-hold}
 use Rattle.opacity.proofs.Bounds.{transaction-known}

@@ -6,7 +6,7 @@ use native.Mathlib.Nat.{le-of-lt, pow-suc}
 use native.Mathlib.Omega.{arith}
 use mathlib.Core.Bool.{Bool, true, false, cond}
 use mathlib.Core.List.{List, [], _∷_, _++_}
-use mathlib.Core.Option.{Option, none, some}
+use mathlib.Core.Option.{none, some}
 use lib.ListN.{length, take, getD, set, length-set, length-replicate, getD-replicate}
 use lib.Seq.{take-suc, getD-set-same, getD-set-other}
 use lib.Dec.{eqb}
@@ -20,6 +20,7 @@ use Rattle.events.proofs.ListLaws.{and-l, and-r, and-i, or-l, or-r, or-false, a
 use Rattle.events.proofs.StateLaws.{has-snoc}
 use Rattle.opacity.proofs.Snoc.{precedes-more}
 use Rattle.search.specs.Bits.{bitAt}
+use Rattle.search.specs.Places.{plus}
 use Rattle.tables.specs.Tables.{Tables, slotOf, next, empty, goThrough, tablesOf}
 use Rattle.tables.proofs.TableLaws.{tables-snoc}
 use Rattle.tables.proofs.NextLaws.{Sort, begin, read, write, ask, commit, abort, other, sort, ended-next, predecessors-next, written-next, allowed-next, required-next}
@@ -39,7 +40,7 @@ digit false = 0
 
 -- ---- one bit more in a set
 
-bit-none : (x : ℕ) → bitAt x 0 ≡ 0
+pub bit-none : (x : ℕ) → bitAt x 0 ≡ 0
 unfolding bitAt
 bit-none zero = refl
 bit-none (suc x) = bit-none x
@@ -86,11 +87,6 @@ precedes-ended (y ∷ h) x t q = go (by isEnd x y) q (precedes-ended h x t)
 pub last-snoc : (h : List Event) (e : Event) (t r : ℕ) → lastWrite (h ++ (e ∷ [])) t r ≡ orElse (cond (by isWrite t e and eqb (e .register) r) (some (e .value)) none) (lastWrite h t r)
 unfolding lastWrite
 last-snoc h e t r = latest-snoc (λ e. cond (by isWrite t e and eqb (e .register) r) (some (e .value)) none) h e
-
--- a value as a table holds it
-abbrev pub plus : Option ℕ → ℕ
-plus none = 0
-plus (some v) = v + 1
 
 -- a rule as a table holds it
 abbrev pub rule : Status → ℕ

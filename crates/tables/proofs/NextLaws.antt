@@ -1,16 +1,19 @@
 -- What kind of event it is, with the answers of all the tests.
 -- Assumes nothing.
-use mathlib.Core.Path.{_≡_, refl, ap}
-use Prim.Native.Nat.{ℕ, _+_, _^_}
+use mathlib.Core.Path.{_≡_, refl, sym, ap, _∙_}
+use Prim.Native.Nat.{ℕ, _+_, _/_, _%_, _^_}
 use mathlib.Core.Bool.{Bool, true, false, cond}
 use lib.ListN.{getD, set}
 use lib.Dec.{eqb}
 use lib.Bits.{bitOr}
 use borrow.Author.Tests.{eqb-true}
+use mathlib.Core.List.{List}
 use Rattle.events.specs.Lists.{_or_}
+use Rattle.events.specs.Columns.{Columns, entry, history}
 use Rattle.events.specs.declared.event.Event.{Event}
 use Rattle.events.specs.Events.{isBegin, isRead, isWrite, asksCommit, isCommit, isAbort, isEnd}
-use Rattle.tables.specs.Tables.{Tables, slotOf, clashes, begun, settled, writtenAt, readAt, next}
+use Rattle.tables.specs.Tables.{Tables, slotOf, clashes, withRegister, begun, settled, writtenAt, readAt, next, tablesOf}
+use Rattle.tables.proofs.TableLaws.{tables-more}
 
 pub record Tests (e : Event) (b r w a c x : Bool) : Type 0 where
   pub begins : isBegin e ≡ b
@@ -125,7 +128,19 @@ module _ (s : Tables) (e : Event) where
   unfolding next begun settled writtenAt readAt
   required-next = by-sort (λ b r w a c x. nextBy b r w a c x .required ≡ cond r (cond (eqb (getD (s .written) (slotOf e) 0) 0) (set (s .required) (slotOf e) (e .value + 1)) (s .required)) (s .required)) e refl refl refl refl refl refl refl
 
+  pub reads-next : next s e .reads ≡ cond (isRead e) (cond (eqb (getD (s .written) (slotOf e) 0) 0) (withRegister (s .reads) (slotOf e / 32) (slotOf e % 32)) (s .reads)) (s .reads)
+  unfolding next begun settled writtenAt readAt
+  reads-next = by-sort (λ b r w a c x. nextBy b r w a c x .reads ≡ cond r (cond (eqb (getD (s .written) (slotOf e) 0) 0) (withRegister (s .reads) (slotOf e / 32) (slotOf e % 32)) (s .reads)) (s .reads)) e refl refl refl refl refl refl refl
+
   pub contradictory-next : next s e .contradictory
       ≡ cond (isRead e) (s .contradictory or clashes (cond (eqb (getD (s .written) (slotOf e) 0) 0) (getD (s .required) (slotOf e) 0) (getD (s .written) (slotOf e) 0)) (e .value + 1)) (s .contradictory)
   unfolding next begun settled writtenAt readAt
   contradictory-next = by-sort (λ b r w a c x. nextBy b r w a c x .contradictory ≡ cond r (s .contradictory or clashes (cond (eqb (getD (s .written) (slotOf e) 0) 0) (getD (s .required) (slotOf e) 0) (getD (s .written) (slotOf e) 0)) (e .value + 1)) (s .contradictory)) e refl refl refl refl refl refl refl
+
+-- the table of last writes with one event more
+pub writes-more : (c : Columns) (i : ℕ) (w w′ : List ℕ) → w ≡ tablesOf (history c i) .written
+    → w′ ≡ cond (isWrite (entry c i)) (set w (slotOf (entry c i)) (entry c i .value + 1)) w → w′ ≡ tablesOf (history c (i + 1)) .written
+writes-more c i w w′ e f =
+    f ∙ ap (λ (x : List ℕ). cond (isWrite (entry c i)) (set x (slotOf (entry c i)) (entry c i .value + 1)) x) e
+    ∙ sym (written-next (tablesOf (history c i)) (entry c i))
+    ∙ ap (λ (x : Tables). x .written) (tables-more c i (tablesOf (history c i)) (next (tablesOf (history c i)) (entry c i)) refl refl)

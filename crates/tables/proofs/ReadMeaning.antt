@@ -17,9 +17,10 @@ use Rattle.events.specs.declared.event.Event.{Event}
 use Rattle.events.specs.Events.{eventAt, isRead}
 use Rattle.opacity.specs.Transactions.{ownWrite, isOwnRead, isStoreRead, ownRight}
 use Rattle.events.proofs.ListLaws.{or-cases, nor-l, nor-r, clash, below-cases}
+use Rattle.search.specs.Places.{plus}
 use Rattle.tables.specs.Tables.{Tables, slotOf, clashes, empty, goThrough, tablesOf}
 use Rattle.tables.proofs.NextLaws.{required-next, contradictory-next}
-use Rattle.tables.proofs.Meaning.{Fine, Good, plus, tab, tab-suc, lengths, written-holds, required-zero}
+use Rattle.tables.proofs.Meaning.{Fine, Good, tab, tab-suc, lengths, written-holds, required-zero}
 
 no-clash : (old v : ℕ) → clashes old v ≡ false → (old ≡ 0 → ⊥) → old ≡ v
 unfolding clashes _and_

@@ -18,15 +18,12 @@ use Rattle.opacity.specs.Lowest.{place, lowestPlace, goOn}
 use Rattle.events.proofs.ListLaws.{or-false, not-true, not-false, below-cases, any-append, lowest-upwards}
 use Rattle.search.specs.Tree as tree
 use Rattle.search.specs.Tree.{Constraints, Completion, remove, upFrom, fitsAt, firstOf, tryOne, tryBoth, fromCandidates}
-use Rattle.tables.specs.Order.{coded, decode, decoded}
+use Rattle.search.specs.Places.{coded, decode}
+use Rattle.search.proofs.LookupLaws.{decode-snoc}
+use Rattle.tables.specs.Order.{decoded}
 use Rattle.tables.proofs.Meaning.{digit}
 
 -- ---- codes
-
-pub decode-snoc : (p : List ℕ) (c : ℕ) → decode (p ++ (c ∷ [])) ≡ decode p ++ (coded c ∷ [])
-unfolding decode
-decode-snoc [] c = refl
-decode-snoc (x ∷ p) c = ap (λ (l : List Place). coded x ∷ l) (decode-snoc p c)
 
 pub place-code : (t : ℕ) (c : Bool) → coded (t * 2 + digit c) ≡ place t c
 place-code t true =

@@ -1,43 +1,45 @@
 -- The tables of a history, one event at a time.
 -- Assumes nothing.
 use mathlib.Core.Path.{_≡_}
-use Prim.Native.Nat.{ℕ, zero, suc, _+_, _*_, _^_, _≤_, _<_}
-use mathlib.Core.Bool.{Bool, true, false, not, cond}
+use Prim.Native.Nat.{ℕ, _+_, _*_, _/_, _%_, _^_, _≤_, _<_}
+use mathlib.Core.Bool.{Bool, false, not, cond}
 use mathlib.Core.List.{List, [], _∷_}
 use lib.ListN.{length, getD, set, replicate}
 use lib.Dec.{eqb}
 use lib.Bits.{bitOr}
 use Rattle.events.specs.Lists.{_and_, _or_}
 use Rattle.events.specs.declared.event.Event.{Event}
-use Rattle.events.specs.Events.{isBegin, isRead, isWrite, asksCommit, isCommit, isAbort, isEnd}
+use Rattle.events.specs.Events.{isBegin, isRead, isWrite, asksCommit, isCommit, isAbort}
 use Rattle.events.specs.Columns.{Columns}
 use Rattle.tables.specs.declared.Standing.{Standing}
 
--- at t: the transactions that ended before t began, and its outcome; at 32 * t + r: what its store reads of r return, and its last
--- write to r, each as the value plus 1, with 0 for none
+-- at t: the transactions that ended before t began, its outcome, and the registers that it reads from the store; at 32 * t + r: what its
+-- store reads of r return, and its last write to r, each as the value plus 1, with 0 for none
 pub record Tables : Type 0 where
   pub ended : ℕ
   pub predecessors : List ℕ
   pub allowed : List ℕ
+  pub reads : List ℕ
   pub required : List ℕ
   pub written : List ℕ
   pub contradictory : Bool
 
 -- the tables, from the parts that the code has
-abbrev pub tablesBy : Standing → List ℕ → List ℕ → Tables
-tablesBy s q w =
+abbrev pub tablesBy : Standing → List ℕ → List ℕ → List ℕ → List ℕ → List ℕ → Tables
+tablesBy s b a x q w =
     record {
       ended = s .ended;
-      predecessors = s .predecessors;
-      allowed = s .allowed;
+      predecessors = b;
+      allowed = a;
+      reads = x;
       required = q;
       written = w;
       contradictory = s .contradictory;
     }
 
--- one standing becomes another by a change of the tables that leaves those of the registers alone
-abbrev pub Becomes : Standing → Standing → (Tables → Tables) → Type 0
-Becomes s r change = (q w : List ℕ) → tablesBy r q w ≡ change (tablesBy s q w)
+-- two ways to the tables agree, whatever the predecessors and the outcomes allowed
+abbrev pub Becomes : (List ℕ → List ℕ → Tables) → (List ℕ → List ℕ → Tables) → Type 0
+Becomes f g = (b a : List ℕ) → f b a ≡ g b a
 
 abbrev pub event : ℕ → ℕ → ℕ → ℕ → Event
 event k t r v = record { kind = k; transaction = t; register = r; value = v }
@@ -52,15 +54,19 @@ clashes old v = not (eqb old 0) and not (eqb old v)
 
 unfoldable pub begun : Tables → ℕ → Tables
 begun s t =
-    record { ended = s .ended; predecessors = set (s .predecessors) t (s .ended); allowed = s .allowed; required = s .required; written = s .written; contradictory = s .contradictory }
+    record { ended = s .ended; predecessors = set (s .predecessors) t (s .ended); allowed = s .allowed; reads = s .reads; required = s .required; written = s .written; contradictory = s .contradictory }
 
 unfoldable pub settled : Tables → ℕ → ℕ → ℕ → Tables
 settled s t rule over =
-    record { ended = over; predecessors = s .predecessors; allowed = set (s .allowed) t rule; required = s .required; written = s .written; contradictory = s .contradictory }
+    record { ended = over; predecessors = s .predecessors; allowed = set (s .allowed) t rule; reads = s .reads; required = s .required; written = s .written; contradictory = s .contradictory }
 
 unfoldable pub writtenAt : Tables → ℕ → ℕ → Tables
 writtenAt s k v =
-    record { ended = s .ended; predecessors = s .predecessors; allowed = s .allowed; required = s .required; written = set (s .written) k v; contradictory = s .contradictory }
+    record { ended = s .ended; predecessors = s .predecessors; allowed = s .allowed; reads = s .reads; required = s .required; written = set (s .written) k v; contradictory = s .contradictory }
+
+-- the sets, with r in that at t
+unfoldable pub withRegister : List ℕ → ℕ → ℕ → List ℕ
+withRegister sets t r = set sets t (bitOr (getD sets t 0) (2 ^ r))
 
 -- a read of an own write is wrong if it returns another value, and two store reads of one register disagree
 unfoldable pub readAt : Tables → ℕ → ℕ → Tables
@@ -69,6 +75,7 @@ readAt s k v =
       ended = s .ended;
       predecessors = s .predecessors;
       allowed = s .allowed;
+      reads = cond (eqb (getD (s .written) k 0) 0) (withRegister (s .reads) (k / 32) (k % 32)) (s .reads);
       required = cond (eqb (getD (s .written) k 0) 0) (set (s .required) k v) (s .required);
       written = s .written;
       contradictory = s .contradictory or clashes (cond (eqb (getD (s .written) k 0) 0) (getD (s .required) k 0) (getD (s .written) k 0)) v;
@@ -91,6 +98,7 @@ empty =
       ended = 0;
       predecessors = replicate 10 0;
       allowed = replicate 10 0;
+      reads = replicate 10 0;
       required = replicate 320 0;
       written = replicate 320 0;
       contradictory = false;

@@ -12,7 +12,8 @@ use Rattle.opacity.specs.Justification.{placed, before, outcome, written, conte
 use Rattle.opacity.specs.Lowest.{fits, lowestPlace, goOn, lowestOf}
 use Rattle.opacity.specs.Marking.{flat, markingBytes, gapOf, placeOf, marked, others, between, noWriterBetween, valueAtGap, lastEvent, beginOf, broke, verdict}
 use Rattle.opacity.specs.Scan.{cause, scan}
-use Rattle.opacity.specs.Serial.{put, does, eventsOf, run, readsRight, after, runsRight}
+use Rattle.opacity.specs.Store.{put}
+use Rattle.opacity.specs.Serial.{does, eventsOf, run, readsRight, after, runsRight}
 use Rattle.opacity.specs.Counts.{counts}
 use Rattle.counts.specs.Tally.{standing, tally}
 use Rattle.straighten.specs.Straight.{stands, straightPoint, straightened, movedEvents}

@@ -1,7 +1,7 @@
 -- `scan::scan_prefixes` meets its contract.
 -- Assumes nothing.
 use borrow.Author.Needs.{needs}
-use borrow.Author.Tests.{not-true, not-false}
+use mathlib.Core.Path.{_∙_}
 use Prim.Native.Nat.{_-_}
 use native.Mathlib.Omega.{arith}
 use denote.Ref.{now}
@@ -15,11 +15,11 @@ use Rattle.scan.proofs.scan_prefixes.Statement.{statement}
 use Rattle.scan.proofs.scan_prefixes.Tie as tie
 
 abbrev Inv-loop : tie.InvT-loop
-Inv-loop starts kinds transactions registers values n required₀ written₀ s₀ begun₀ i₀ required written s begun i =
-    Scanning starts (columns kinds transactions registers values) n i (tablesBy s required written) begun
+Inv-loop starts kinds transactions registers values n predecessors₀ allowed₀ reads₀ required₀ written₀ s₀ begun₀ i₀ predecessors allowed reads required written s begun i =
+    Scanning starts (columns kinds transactions registers values) n i (tablesBy s predecessors allowed reads required written) begun
 
 abbrev μ-loop : tie.MeasureT-loop
-μ-loop starts kinds transactions registers values n required₀ written₀ s₀ begun₀ i₀ required written s begun i =
+μ-loop starts kinds transactions registers values n predecessors₀ allowed₀ reads₀ required₀ written₀ s₀ begun₀ i₀ predecessors allowed reads required written s begun i =
     n - i
 
 no-events-requires : tie.Need-no-events-requires Inv-loop μ-loop
@@ -58,52 +58,52 @@ shared-slice-read-step-3 c = search needs
 
 step-requires : tie.Need-step-requires Inv-loop μ-loop
 step-requires c κs =
-    let start = c .before .before .before .before .before .before .before .before .before .before .before .before .before in
-    let at = c .before .before .before .before .before .before .before .loop in
-    let l = c .before .before .before .before .before .before .loop-test .taken in
+    let start = c .before .before .before .before .before .before .before .before .before .before .before .before .before .before .before .before in
+    let at = c .before .before .before .before .before .before .before .before .before .before .loop in
+    let l = c .before .before .before .before .before .before .before .before .before .loop-test .taken in
     let cs = columns (now (start .args .kinds)) (now (start .args .transactions)) (now (start .args .registers)) (now (start .args .values)) in
     let q = in-tables cs (start .args .n) (start .pre) in
     (q .transaction (at .i) l, q .register (at .i) l)
 
 counted-requires : tie.Need-counted-requires Inv-loop μ-loop
 counted-requires c κs =
-    let start = c .before .before .before .before .before .before .before .before .before .before .before .before .before .before in
-    let at = c .before .before .before .before .before .before .before .before .loop in
+    let start = c .before .before .before .before .before .before .before .before .before .before .before .before .before .before .before .before .before in
+    let at = c .before .before .before .before .before .before .before .before .before .before .before .loop in
     let o = now (start .args .starts) in
     let cs = columns (now (start .args .kinds)) (now (start .args .transactions)) (now (start .args .registers)) (now (start .args .values)) in
-    let s = tablesBy (at .s) (at .required) (at .written) in
+    let s = tablesBy (at .s) (at .predecessors) (at .allowed) (at .reads) (at .required) (at .written) in
     let q = few-before o cs (start .args .n) (at .i) s (at .begun) (start .pre) (at .inv) in
     omega arith
 
 complete-requires : tie.Need-complete-requires Inv-loop μ-loop
 complete-requires c κs =
-    let start = c .before .before .before .before .before .before .before .before .before .before .before .before .before .before .before .before .before in
-    let at = c .before .before .before .before .before .before .before .before .before .before .before .loop in
-    let l = c .before .before .before .before .before .before .before .before .before .before .loop-test .taken in
+    let start = c .before .before .before .before .before .before .before .before .before .before .before .before .before .before .before .before .before .before .before .before .before .before .before in
+    let at = c .before .before .before .before .before .before .before .before .before .before .before .before .before .before .before .before .before .loop in
+    let l = c .before .before .before .before .before .before .before .before .before .before .before .before .before .before .before .before .loop-test .taken in
     let o = now (start .args .starts) in
     let cs = columns (now (start .args .kinds)) (now (start .args .transactions)) (now (start .args .registers)) (now (start .args .values)) in
-    let s = tablesBy (at .s) (at .required) (at .written) in
-    let few = few-begun o cs (start .args .n) (start .pre) (at .i) l s (at .begun) (at .inv) _ (c .before .before .counted .result) (c .before .before .before .step .ensures) (c .before .before .counted .ensures) in
+    let s = tablesBy (at .s) (at .predecessors) (at .allowed) (at .reads) (at .required) (at .written) in
+    let few = few-begun o cs (start .args .n) (start .pre) (at .i) l s (at .begun) (at .inv) _ (c .before .before .before .before .before .counted .result) (c .before .before .before .before .before .before .step .ensures) (c .before .before .before .before .before .counted .ensures) in
     omega arith
 
-cause-of-requires : tie.Need-cause-of-requires Inv-loop μ-loop
-cause-of-requires c κs = search needs
+faulted-requires : tie.Need-faulted-requires Inv-loop μ-loop
+faulted-requires c κs = search needs
 
 returns : tie.Need-returns Inv-loop μ-loop
 returns c =
-    let start = c .before .before .before .before .before .before .before .before .before .before .before .before .before .before .before .before .before .before .before .before .before in
-    let at = c .before .before .before .before .before .before .before .before .before .before .before .before .before .before .before .loop in
-    let l = c .before .before .before .before .before .before .before .before .before .before .before .before .before .before .loop-test .taken in
+    let start = c .before .before .before .before .before .before .before .before .before .before .before .before .before .before .before .before .before .before .before .before .before .before .before .before .before .before in
+    let at = c .before .before .before .before .before .before .before .before .before .before .before .before .before .before .before .before .before .before .before .before .loop in
+    let l = c .before .before .before .before .before .before .before .before .before .before .before .before .before .before .before .before .before .before .before .loop-test .taken in
     let o = now (start .args .starts) in
     let cs = columns (now (start .args .kinds)) (now (start .args .transactions)) (now (start .args .registers)) (now (start .args .values)) in
-    let s = tablesBy (at .s) (at .required) (at .written) in
-    scanning-fault o cs (start .args .n) (start .pre) (at .i) l s (at .begun) (at .inv) _ (c .before .before .before .before .before .before .counted .result) (c .before .before .before .before .before .before .before .step .ensures) (c .before .before .before .before .before .before .counted .ensures) (c .before .before .before .complete .result) (c .before .before .before .complete .ensures) _ (c .cause-of .ensures) (not-true _ (c .before .if1 .taken))
+    let s = tablesBy (at .s) (at .predecessors) (at .allowed) (at .reads) (at .required) (at .written) in
+    c .faulted .ensures ∙ scanning-fault o cs (start .args .n) (start .pre) (at .i) l s (at .begun) (at .inv) _ (c .before .before .before .before .before .before .before .before .counted .result) (c .before .before .before .before .before .before .before .before .before .step .ensures) (c .before .before .before .before .before .before .before .before .counted .ensures) (c .before .before .complete .result) (c .before .before .complete .ensures) (c .before .if1 .taken)
 
 add-i : tie.Need-add-i Inv-loop μ-loop
 add-i c =
-    let start = c .before .before .before .before .before .before .before .before .before .before .before .before .before .before .before .before .before .before .before .before in
-    let at = c .before .before .before .before .before .before .before .before .before .before .before .before .before .before .loop in
-    let l = c .before .before .before .before .before .before .before .before .before .before .before .before .before .loop-test .taken in
+    let start = c .before .before .before .before .before .before .before .before .before .before .before .before .before .before .before .before .before .before .before .before .before .before .before .before .before in
+    let at = c .before .before .before .before .before .before .before .before .before .before .before .before .before .before .before .before .before .before .before .loop in
+    let l = c .before .before .before .before .before .before .before .before .before .before .before .before .before .before .before .before .before .before .loop-test .taken in
     let cs = columns (now (start .args .kinds)) (now (start .args .transactions)) (now (start .args .registers)) (now (start .args .values)) in
     omega (arith, readable-most (history cs (start .args .n)) (start .pre .readable), history-length cs (start .args .n))
 
@@ -112,13 +112,13 @@ loop-less c = search needs
 
 loop-again : tie.Need-loop-again Inv-loop μ-loop
 loop-again c =
-    let start = c .before .before .before .before .before .before .before .before .before .before .before .before .before .before .before .before .before .before .before .before in
-    let at = c .before .before .before .before .before .before .before .before .before .before .before .before .before .before .loop in
-    let l = c .before .before .before .before .before .before .before .before .before .before .before .before .before .loop-test .taken in
+    let start = c .before .before .before .before .before .before .before .before .before .before .before .before .before .before .before .before .before .before .before .before .before .before .before .before .before in
+    let at = c .before .before .before .before .before .before .before .before .before .before .before .before .before .before .before .before .before .before .before .loop in
+    let l = c .before .before .before .before .before .before .before .before .before .before .before .before .before .before .before .before .before .before .loop-test .taken in
     let o = now (start .args .starts) in
     let cs = columns (now (start .args .kinds)) (now (start .args .transactions)) (now (start .args .registers)) (now (start .args .values)) in
-    let s = tablesBy (at .s) (at .required) (at .written) in
-    scanning-more o cs (start .args .n) (start .pre) (at .i) l s (at .begun) (at .inv) _ (c .before .before .before .before .before .counted .result) (c .before .before .before .before .before .before .step .ensures) (c .before .before .before .before .before .counted .ensures) (c .before .before .complete .result) (c .before .before .complete .ensures) (not-false _ (c .if1 .left))
+    let s = tablesBy (at .s) (at .predecessors) (at .allowed) (at .reads) (at .required) (at .written) in
+    scanning-more o cs (start .args .n) (start .pre) (at .i) l s (at .begun) (at .inv) _ (c .before .before .before .before .before .before .before .counted .result) (c .before .before .before .before .before .before .before .before .step .ensures) (c .before .before .before .before .before .before .before .counted .ensures) (c .before .complete .result) (c .before .complete .ensures) (c .if1 .left)
 
 returns-2 : tie.Need-returns-2 Inv-loop μ-loop
 returns-2 c =
@@ -126,7 +126,7 @@ returns-2 c =
     let at = c .before .loop in
     let o = now (start .args .starts) in
     let cs = columns (now (start .args .kinds)) (now (start .args .transactions)) (now (start .args .registers)) (now (start .args .values)) in
-    let s = tablesBy (at .s) (at .required) (at .written) in
+    let s = tablesBy (at .s) (at .predecessors) (at .allowed) (at .reads) (at .required) (at .written) in
     let q = at .inv .passed in
     scanning-end o cs (start .args .n) (at .i) s (at .begun) (omega arith) (at .inv)
 
@@ -149,7 +149,7 @@ scan-prefixes-spec =
     step-requires
     counted-requires
     complete-requires
-    cause-of-requires
+    faulted-requires
     returns
     add-i
     loop-less

@@ -5,13 +5,13 @@ use Rattle.tables.proofs.complete.Statement.{statement}
 use Rattle.tables.proofs.complete.Tie as tie
 
 returns : tie.Need-returns
-returns c = search needs
+returns c = simp (c .if1 .taken)
 
 find-requires : tie.Need-find-requires
 find-requires c κs = search needs
 
 returns-2 : tie.Need-returns-2
-returns-2 c = simp (c .before .before .before .before .before .if1 .left) (c .find .ensures)
+returns-2 c = simp (c .before .if1 .left) (c .find .ensures)
 
 pub complete-spec : {M : Type 1} → statement M
 complete-spec = tie.close (tie.spec returns find-requires returns-2)

@@ -1,10 +1,12 @@
 -- `tables::find_order` meets its contract: the loop's standing and its two tables are those of the events passed.
 -- Assumes nothing.
-use mathlib.Core.Path.{_≡_, ap, _∙_}
+use mathlib.Core.Path.{_≡_, sym, ap, _∙_}
 use Prim.Native.Nat.{ℕ, _≤_, _-_}
 use native.Mathlib.Omega.{arith}
 use denote.Ref.{now}
 use Rattle.events.specs.Columns.{columns, history}
+use Rattle.search.specs.Tree.{readAnswer}
+use Rattle.tables.specs.Order.{decoded}
 use Rattle.tables.specs.Tables.{tablesBy, tablesOf, goThrough}
 use Rattle.tables.proofs.TableLaws.{tables-more}
 use Rattle.tables.proofs.GoodHistory.{in-tables}
@@ -14,11 +16,11 @@ use Rattle.tables.proofs.find_order.Statement.{statement}
 use Rattle.tables.proofs.find_order.Tie as tie
 
 abbrev Inv-loop : tie.InvT-loop
-Inv-loop starts kinds transactions registers values n required₀ written₀ s₀ i₀ required written s i =
-    (i ≤ n) × (tablesBy s required written ≡ tablesOf (history (columns kinds transactions registers values) i))
+Inv-loop starts kinds transactions registers values n predecessors₀ allowed₀ reads₀ required₀ written₀ s₀ i₀ predecessors allowed reads required written s i =
+    (i ≤ n) × (tablesBy s predecessors allowed reads required written ≡ tablesOf (history (columns kinds transactions registers values) i))
 
 abbrev μ-loop : tie.MeasureT-loop
-μ-loop starts kinds transactions registers values n required₀ written₀ s₀ i₀ required written s i =
+μ-loop starts kinds transactions registers values n predecessors₀ allowed₀ reads₀ required₀ written₀ s₀ i₀ predecessors allowed reads required written s i =
     n - i
 
 no-events-requires : tie.Need-no-events-requires Inv-loop μ-loop
@@ -54,9 +56,9 @@ shared-slice-read-step-4 c = search needs
 
 step-requires : tie.Need-step-requires Inv-loop μ-loop
 step-requires c κs =
-    let start = c .before .before .before .before .before .before .before .before .before .before .before .before .before in
+    let start = c .before .before .before .before .before .before .before .before .before .before .before .before .before .before .before .before in
     let cs = columns (now (start .args .kinds)) (now (start .args .transactions)) (now (start .args .registers)) (now (start .args .values)) in
-    let i = c .before .before .before .before .before .before .before .loop .i in
+    let i = c .before .before .before .before .before .before .before .before .before .before .loop .i in
     let q = in-tables cs (start .args .n) (start .pre) in
     (q .transaction i (omega arith), q .register i (omega arith))
 
@@ -68,10 +70,10 @@ loop-less c = search needs
 
 loop-again : tie.Need-loop-again Inv-loop μ-loop
 loop-again c =
-    let start = c .before .before .before .before .before .before .before .before .before .before .before .before .before .before in
+    let start = c .before .before .before .before .before .before .before .before .before .before .before .before .before .before .before .before .before in
     let cs = columns (now (start .args .kinds)) (now (start .args .transactions)) (now (start .args .registers)) (now (start .args .values)) in
-    let at = c .before .before .before .before .before .before .before .before .loop in
-    (omega arith, tables-more cs (at .i) (tablesBy (at .s) (at .required) (at .written)) _ (at .inv .1) (c .step .ensures))
+    let at = c .before .before .before .before .before .before .before .before .before .before .before .loop in
+    (omega arith, tables-more cs (at .i) (tablesBy (at .s) (at .predecessors) (at .allowed) (at .reads) (at .required) (at .written)) _ (at .inv .1) (c .step .ensures))
 
 transactions-begun-requires : tie.Need-transactions-begun-requires Inv-loop μ-loop
 transactions-begun-requires c κs = search needs
@@ -81,11 +83,13 @@ complete-requires c κs = search needs
 
 returns : tie.Need-returns Inv-loop μ-loop
 returns c =
-    let start = c .before .before .before .before .before .before .before .before .before .before .before in
+    let start = c .before .before .before .before .before .before .before .before .before .before .before .before .before .before in
     let cs = columns (now (start .args .kinds)) (now (start .args .transactions)) (now (start .args .registers)) (now (start .args .values)) in
-    let at = c .before .before .before .before .before .loop in
+    let at = c .before .before .before .before .before .before .before .before .loop in
     let e : at .i ≡ start .args .n = omega arith in
-    found-by (now (start .args .starts)) cs (start .args .n) _ _ _ (start .pre) (at .inv .1 ∙ ap (λ (k : ℕ). tablesOf (history cs k)) e) (c .before .before .before .transactions-begun .ensures) (c .complete .ensures)
+    let count = c .before .before .before .before .before .before .transactions-begun .ensures in
+    ap (λ (k : ℕ). decoded (readAnswer k (c .complete .result))) (sym count)
+    ∙ found-by (now (start .args .starts)) cs (start .args .n) _ _ _ (start .pre) (at .inv .1 ∙ ap (λ (k : ℕ). tablesOf (history cs k)) e) count (c .complete .ensures)
 
 pub find-order-spec : {M : Type 1} → statement M
 find-order-spec =

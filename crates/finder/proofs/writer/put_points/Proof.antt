@@ -6,8 +6,7 @@ use Prim.Native.Nat.{_-_}
 use native.Mathlib.Omega.{arith}
 use lib.ListN.{take}
 use denote.Ref.{now}
-use Rattle.tables.specs.Order.{decode}
-use Rattle.tables.specs.Tables.{tablesBy}
+use Rattle.search.specs.Places.{decode}
 use Rattle.events.specs.Columns.{columns, history}
 use Rattle.tables.proofs.GoodHistory.{in-tables}
 use Rattle.finder.proofs.PointLaws.{Pointing, pointing-none, pointing-room, pointing-more}
@@ -17,22 +16,19 @@ use Rattle.finder.proofs.writer.put_points.Statement.{statement}
 use Rattle.finder.proofs.writer.put_points.Tie as tie
 
 abbrev Inv-loop : tie.InvT-loop
-Inv-loop kinds transactions registers values n places count from out₀ required₀ written₀ s₀ at₀ i₀ out required written s at i =
-    Pointing (columns kinds transactions registers values) n (decode (take count places)) out₀ from i out (tablesBy s required written) at
+Inv-loop kinds transactions registers values n places count from out₀ written₀ at₀ i₀ out written at i =
+    Pointing (columns kinds transactions registers values) n (decode (take count places)) out₀ from i out written at
 
 abbrev μ-loop : tie.MeasureT-loop
-μ-loop kinds transactions registers values n places count from out₀ required₀ written₀ s₀ at₀ i₀ out required written s at i =
+μ-loop kinds transactions registers values n places count from out₀ written₀ at₀ i₀ out written at i =
     n - i
-
-no-events-requires : tie.Need-no-events-requires Inv-loop μ-loop
-no-events-requires c κs = search needs
 
 loop-holds : tie.Need-loop-holds Inv-loop μ-loop
 loop-holds c =
-    let start = c .before .before .before .before .before .before in
+    let start = c .before .before .before .before .before in
     let cs = columns (now (start .args .kinds)) (now (start .args .transactions)) (now (start .args .registers)) (now (start .args .values)) in
     let J = decode (take (start .args .count) (start .args .places)) in
-    pointing-none cs (start .args .n) J (now (start .args .out)) (start .args .from) _ (c .no-events .ensures)
+    pointing-none cs (start .args .n) J (now (start .args .out)) (start .args .from)
 
 mul-kind : tie.Need-mul-kind Inv-loop μ-loop
 mul-kind c = search needs
@@ -54,7 +50,7 @@ shared-slice-read-r c = search needs
 
 reads-store-requires : tie.Need-reads-store-requires Inv-loop μ-loop
 reads-store-requires c κs =
-    let start = c .before .before .before .before .before .before .before .before .before .before .before .before in
+    let start = c .before .before .before .before .before .before .before .before .before .before .before in
     let at = c .before .before .before .before .before .loop in
     let cs = columns (now (start .args .kinds)) (now (start .args .transactions)) (now (start .args .registers)) (now (start .args .values)) in
     let q = in-tables cs (start .args .n) (start .pre .0) in
@@ -65,42 +61,41 @@ place-of-requires c κs = search needs
 
 cast-put-read : tie.Need-cast-put-read Inv-loop μ-loop
 cast-put-read c =
-    let start = c .before .before .before .before .before .before .before .before .before .before .before .before .before .before .before in
+    let start = c .before .before .before .before .before .before .before .before .before .before .before .before .before .before in
     let at = c .before .before .before .before .before .before .before .before .loop in
     let cs = columns (now (start .args .kinds)) (now (start .args .transactions)) (now (start .args .registers)) (now (start .args .values)) in
     omega (arith, readable-most (history cs (start .args .n)) (start .pre .0 .readable), history-length cs (start .args .n))
 
 cast-put-read-2 : tie.Need-cast-put-read-2 Inv-loop μ-loop
-cast-put-read-2 c = omega (arith, c .before .place-of .ensures .1, c .before .before .before .before .before .before .before .before .before .before .before .before .before .before .before .pre .1 .0)
+cast-put-read-2 c = omega (arith, c .before .place-of .ensures .1, c .before .before .before .before .before .before .before .before .before .before .before .before .before .before .pre .1 .0)
 
 put-read-requires : tie.Need-put-read-requires Inv-loop μ-loop
 put-read-requires c κs =
-    let start = c .before .before .before .before .before .before .before .before .before .before .before .before .before .before .before in
+    let start = c .before .before .before .before .before .before .before .before .before .before .before .before .before .before in
     let at = c .before .before .before .before .before .before .before .before .loop in
     let cs = columns (now (start .args .kinds)) (now (start .args .transactions)) (now (start .args .registers)) (now (start .args .values)) in
     let J = decode (take (start .args .count) (start .args .places)) in
-    let s = tablesBy (at .s) (at .required) (at .written) in
-    pointing-room cs (start .args .n) J (now (start .args .out)) (start .args .from) (start .pre .0) (start .pre .1 .1) (at .i) (omega arith) (at .out) s (at .at) (at .inv) (c .before .before .reads-store .result) (c .before .place-of .result) (c .before .before .reads-store .ensures) (c .before .place-of .ensures .0)
+    pointing-room cs (start .args .n) J (now (start .args .out)) (start .args .from) (start .pre .0) (start .pre .1 .1) (at .i) (omega arith) (at .out) (at .written) (at .at) (at .inv) (c .before .before .reads-store .result) (c .before .place-of .result) (c .before .before .reads-store .ensures) (c .before .place-of .ensures .0)
 
-mul-step : tie.Need-mul-step Inv-loop μ-loop
-mul-step c = search needs
+mul-note-write : tie.Need-mul-note-write Inv-loop μ-loop
+mul-note-write c = search needs
 
-shared-slice-read-step : tie.Need-shared-slice-read-step Inv-loop μ-loop
-shared-slice-read-step c = search needs
+shared-slice-read-note-write : tie.Need-shared-slice-read-note-write Inv-loop μ-loop
+shared-slice-read-note-write c = search needs
 
-step-requires : tie.Need-step-requires Inv-loop μ-loop
-step-requires c κs =
-    let start = c .before .before .before .before .before .before .before .before .before .before .before .before .before .before .before .before .before .before .before .before .before in
-    let at = c .before .before .before .before .before .before .before .before .before .before .before .before .before .before .loop in
+note-write-requires : tie.Need-note-write-requires Inv-loop μ-loop
+note-write-requires c κs =
+    let start = c .before .before .before .before .before .before .before .before .before .before .before .before .before .before .before .before .before .before .before in
+    let at = c .before .before .before .before .before .before .before .before .before .before .before .before .before .loop in
     let cs = columns (now (start .args .kinds)) (now (start .args .transactions)) (now (start .args .registers)) (now (start .args .values)) in
     let q = in-tables cs (start .args .n) (start .pre .0) in
     (q .transaction (at .i) (omega arith), q .register (at .i) (omega arith))
 
 add-i : tie.Need-add-i Inv-loop μ-loop
 add-i c =
-    let start = c .before .before .before .before .before .before .before .before .before .before .before .before .before .before .before .before .before .before .before .before .before .before in
-    let at = c .before .before .before .before .before .before .before .before .before .before .before .before .before .before .before .loop in
-    let l = c .before .before .before .before .before .before .before .before .before .before .before .before .before .before .loop-test .taken in
+    let start = c .before .before .before .before .before .before .before .before .before .before .before .before .before .before .before .before .before .before .before .before in
+    let at = c .before .before .before .before .before .before .before .before .before .before .before .before .before .before .loop in
+    let l = c .before .before .before .before .before .before .before .before .before .before .before .before .before .loop-test .taken in
     let cs = columns (now (start .args .kinds)) (now (start .args .transactions)) (now (start .args .registers)) (now (start .args .values)) in
     omega (arith, readable-most (history cs (start .args .n)) (start .pre .0 .readable), history-length cs (start .args .n))
 
@@ -109,20 +104,19 @@ loop-less c = search needs
 
 loop-again : tie.Need-loop-again Inv-loop μ-loop
 loop-again c =
-    let start = c .before .before .before .before .before .before .before .before .before .before .before .before .before .before .before .before .before .before .before .before .before .before in
-    let at = c .before .before .before .before .before .before .before .before .before .before .before .before .before .before .before .loop in
-    let l = c .before .before .before .before .before .before .before .before .before .before .before .before .before .before .loop-test .taken in
+    let start = c .before .before .before .before .before .before .before .before .before .before .before .before .before .before .before .before .before .before .before .before in
+    let at = c .before .before .before .before .before .before .before .before .before .before .before .before .before .before .loop in
+    let l = c .before .before .before .before .before .before .before .before .before .before .before .before .before .loop-test .taken in
     let cs = columns (now (start .args .kinds)) (now (start .args .transactions)) (now (start .args .registers)) (now (start .args .values)) in
     let J = decode (take (start .args .count) (start .args .places)) in
-    let s = tablesBy (at .s) (at .required) (at .written) in
-    pointing-more cs (start .args .n) J (now (start .args .out)) (start .args .from) (start .pre .0) (start .pre .1 .1) (at .i) (omega arith) (at .out) s (at .at) (at .inv) (c .before .before .before .before .before .before .before .before .before .reads-store .result) (c .before .before .before .before .before .before .before .before .place-of .result) (c .before .before .before .before .before .before .before .before .before .reads-store .ensures) (c .before .before .before .before .before .before .before .before .place-of .ensures .0) (c .before .before .before .before .before .before .put-read .last .0) _ (c .before .before .before .before .before .before .put-read .result) (c .before .before .before .before .before .before .put-read .kept .0) (c .before .before .before .before .before .before .put-read .ensures .0) (c .before .before .before .before .before .before .put-read .ensures .1) (c .step .ensures)
+    pointing-more cs (start .args .n) J (now (start .args .out)) (start .args .from) (start .pre .0) (start .pre .1 .1) (at .i) (omega arith) (at .out) (at .written) (at .at) (at .inv) (c .before .before .before .before .before .before .before .before .reads-store .result) (c .before .before .before .before .before .before .before .place-of .result) (c .before .before .before .before .before .before .before .before .reads-store .ensures) (c .before .before .before .before .before .before .before .place-of .ensures .0) (c .before .before .before .before .before .put-read .last .0) _ (c .before .before .before .before .before .put-read .result) (c .before .before .before .before .before .put-read .kept .0) (c .before .before .before .before .before .put-read .ensures .0) (c .before .before .before .before .before .put-read .ensures .1) (c .note-write .ensures)
 
 same-length : tie.Need-same-length Inv-loop μ-loop
 same-length c = c .before .loop .inv .put .long
 
 returns : tie.Need-returns Inv-loop μ-loop
 returns c =
-    let start = c .before .before .before .before .before .before .before .before in
+    let start = c .before .before .before .before .before .before .before in
     let at = c .before .loop in
     let cs = columns (now (start .args .kinds)) (now (start .args .transactions)) (now (start .args .registers)) (now (start .args .values)) in
     let q = at .inv .passed in
@@ -135,7 +129,6 @@ put-points-spec =
     (tie.spec
     Inv-loop
     μ-loop
-    no-events-requires
     loop-holds
     mul-kind
     shared-slice-read-kind
@@ -148,9 +141,9 @@ put-points-spec =
     cast-put-read
     cast-put-read-2
     put-read-requires
-    mul-step
-    shared-slice-read-step
-    step-requires
+    mul-note-write
+    shared-slice-read-note-write
+    note-write-requires
     add-i
     loop-less
     loop-again

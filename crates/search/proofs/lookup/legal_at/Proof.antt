@@ -1,10 +1,10 @@
--- `search::legal_at` meets its contract.
+-- `search::lookup::legal_at` meets its contract.
 -- Assumes nothing.
 use borrow.Author.Needs.{needs}
 use borrow.Author.Tests.{eq-eqb, ne-eqb}
 use Rattle.search.specs.Tree.{legalAt}
-use Rattle.search.proofs.legal_at.Statement.{statement}
-use Rattle.search.proofs.legal_at.Tie as tie
+use Rattle.search.proofs.lookup.legal_at.Statement.{statement}
+use Rattle.search.proofs.lookup.legal_at.Tie as tie
 
 mul-w : tie.Need-mul-w
 mul-w c = search needs

@@ -1,0 +1,47 @@
+-- The state of the search: its places, when it is sound, and what placing a transaction makes of it.
+-- Assumes nothing.
+use mathlib.Core.Path.{_≡_}
+use Prim.Native.Nat.{ℕ, _+_, _*_, _-_, _^_, _≤_, _<_}
+use mathlib.Core.List.{List, [], _∷_, _++_}
+use lib.ListN.{getD}
+use lib.Count.{ones}
+use Rattle.search.specs.declared.state.Search.{Search}
+use Rattle.search.specs.Bits.{bitAt}
+use Rattle.search.specs.Places.{codesOf}
+
+-- the places filled, and how many there will be
+abbrev pub placedOf : Search → List ℕ
+placedOf s = codesOf (s .filled) (s .placed)
+
+abbrev pub whole : Search → ℕ
+whole s = s .filled + ones (s .unplaced)
+
+-- n places, each with the code of one of at most ten transactions
+pub record Coded (n placed : ℕ) : Type 0 where
+  pub few : n ≤ 10
+  pub codes : (i : ℕ) → i < n → getD (codesOf n placed) i 0 < 20
+
+-- a state of at most ten transactions, each code in it that of one of them
+pub record Sound (s : Search) : Type 0 where
+  pub few : s .unplaced < 1024
+  pub fit : whole s ≤ 10
+  pub led : 0 < s .placed
+  pub room : s .placed < 2 ^ (s .filled * 5 + 1)
+  pub coded : Coded (s .filled) (s .placed)
+
+-- t may be placed
+pub record Placeable (s : Search) (t : ℕ) : Type 0 where
+  pub sound : Sound s
+  pub isIn : bitAt t (s .unplaced) ≡ 1
+
+-- the candidates c are unplaced
+pub record Within (s : Search) (c : ℕ) : Type 0 where
+  pub few : c ≤ s .unplaced
+  pub candidates : (k : ℕ) → bitAt k c ≡ 1 → bitAt k (s .unplaced) ≡ 1
+
+-- r is s with t placed next
+pub record Extends (s : Search) (t o : ℕ) (r : Search) : Type 0 where
+  pub sound : Sound r
+  pub rest : r .unplaced ≡ s .unplaced - 2 ^ t
+  pub total : whole r ≡ whole s
+  pub places : placedOf r ≡ placedOf s ++ ((t * 2 + o) ∷ [])

@@ -1,0 +1,79 @@
+-- What the search looks up is what the history says: the contents of a register after the places filled, and with them the store that the
+-- committed transactions placed so far, applied in order over the start values, leave (change request 4).
+-- Assumes nothing.
+use mathlib.Core.Path.{_≡_, refl, sym, ap, ap₂, _∙_}
+use Prim.Native.Nat.{ℕ, suc, _/_, _<_}
+use native.Mathlib.Nat.{le-refl, zero-lt-suc, suc-le-suc-iff}
+use native.Mathlib.Omega.{arith}
+use mathlib.Core.Bool.{cond}
+use mathlib.Core.List.{List, [], _∷_}
+use mathlib.Core.Option.{Option, none, some, Option·getD}
+use lib.ListN.{length, getD}
+use lib.Seq.{take-all}
+use Rattle.events.specs.Lists.{orElse, latest}
+use Rattle.events.specs.declared.event.Event.{Event}
+use Rattle.events.specs.Starts.{startOf}
+use Rattle.opacity.specs.Transactions.{lastWrite}
+use Rattle.opacity.specs.Justification.{written, contents}
+use Rattle.opacity.specs.Store.{applied}
+use Rattle.opacity.specs.Serial.{serialStore}
+use Rattle.opacity.proofs.Serial.{serial-contents}
+use Rattle.opacity.proofs.Contents.{contents-applied}
+use Rattle.search.specs.Places.{codesOf, coded, decode, plus, writesIn}
+use Rattle.search.specs.State.{Coded}
+use Rattle.search.proofs.StateLaws.{length-codes}
+use Rattle.search.proofs.LookupLaws.{held}
+use Rattle.events.specs.Columns.{Columns, history}
+use Rattle.tables.specs.Order.{Judged}
+use Rattle.tables.proofs.GoodHistory.{good}
+use Rattle.tables.specs.Tables.{tablesOf}
+use Rattle.tables.proofs.Meaning.{Good, written-holds}
+
+plus-one : (a b : Option ℕ) → plus a ≡ plus b → a ≡ b
+plus-one none none e = refl
+plus-one none (some y) e = absurd (omega arith)
+plus-one (some x) none e = absurd (omega arith)
+plus-one (some x) (some y) e = let q : x ≡ y = omega arith in ap some q
+
+-- places that wrote the same
+latest-same : (g h : List Event) (r : ℕ) (p : List ℕ) → ((i : ℕ) → i < length p → written g r (coded (getD p i 0)) ≡ written h r (coded (getD p i 0)))
+    → latest (written g r) (decode p) ≡ latest (written h r) (decode p)
+unfolding latest decode
+latest-same g h r [] f = refl
+latest-same g h r (c ∷ p) f = ap₂ orElse (latest-same g h r p (λ i l. f (suc i) (suc-le-suc-iff .1 l))) (f 0 (zero-lt-suc (length p)))
+
+-- each place filled is of one of ten transactions
+abbrev pub Known : List ℕ → Type 0
+Known p = (i : ℕ) → i < length p → getD p i 0 / 2 < 10
+
+module _ (o : List ℕ) (h : List Event) (good : Good h) (p : List ℕ) (known : Known p) (r : ℕ) (low : r < 32) where
+  -- the table has the last write of each transaction to each register
+  last-held : (t : ℕ) → t < 10 → lastWrite (writesIn (tablesOf h .written)) t r ≡ lastWrite h t r
+  last-held t l = plus-one _ _ (held t r low (tablesOf h .written) ∙ (rw (take-all (length h) h (le-refl (length h))) at (written-holds h good (length h) (le-refl (length h)) t r l low)))
+
+  -- For every register and every order of places filled: what is looked up in the tables of a history is what the register holds by the
+  -- definition of justifications,
+  pub looked-up-contents : contents (startOf o) (writesIn (tablesOf h .written)) (decode p) r ≡ contents (startOf o) h (decode p) r
+  unfolding contents written
+  looked-up-contents =
+      ap (λ (a : Option ℕ). Option·getD a (startOf o r))
+      (latest-same (writesIn (tablesOf h .written)) h r p (λ i l. ap (λ (a : Option ℕ). cond (coded (getD p i 0) .committed) a none) (last-held (getD p i 0 / 2) (known i l))))
+
+  -- what the committed transactions placed so far, applied in order over the start values, leave there,
+  pub looked-up-applied : contents (startOf o) (writesIn (tablesOf h .written)) (decode p) r ≡ applied (startOf o) h (decode p) r
+  looked-up-applied = looked-up-contents ∙ contents-applied (startOf o) h (decode p) r
+
+  -- and what the run one at a time has there.
+  pub looked-up-serial : contents (startOf o) (writesIn (tablesOf h .written)) (decode p) r ≡ serialStore (startOf o) h (decode p) r
+  looked-up-serial = looked-up-contents ∙ sym (serial-contents (startOf o) h (decode p) r)
+
+-- The value that the lookup returns while the first n events are judged, whatever the places filled: what the committed transactions among
+-- them, applied in order over the start values, leave in the register.
+pub value-looked-up : (o : List ℕ) (c : Columns) (n : ℕ) → Judged c n → (filled placed r v : ℕ) → Coded filled placed → r < 32
+    → v ≡ contents (startOf o) (writesIn (tablesOf (history c n) .written)) (decode (codesOf filled placed)) r
+    → v ≡ applied (startOf o) (history c n) (decode (codesOf filled placed)) r
+value-looked-up o c n j filled placed r v k low e =
+    e ∙ looked-up-applied o (history c n) (good (history c n) (j .readable) (j .few)) (codesOf filled placed) known r low
+  where
+    known : Known (codesOf filled placed)
+    known i l = omega (arith, k .codes i (rw (length-codes filled placed) at l))
