@@ -1,7 +1,9 @@
 //! The library's speed, each figure beside that of plain safe Rust doing the same job on the same input in the same run. Prints the
-//! tables of docs/BENCHMARKS.md. SENDOSHI_BENCH_QUICK leaves out the inputs that take seconds.
+//! tables of docs/BENCHMARKS.md. SENDOSHI_BENCH_QUICK leaves out the inputs that take seconds; SENDOSHI_EARLIER adds
+//! a table beside an earlier version of the library.
 
 mod clock;
+mod earlier;
 mod files;
 mod growth;
 mod inputs;
@@ -27,4 +29,7 @@ fn main() {
     files::print();
     judged::print(quick);
     growth::print();
+    if let Some(path) = std::env::var_os("SENDOSHI_EARLIER") {
+        earlier::print(&path, quick);
+    }
 }

@@ -1,5 +1,6 @@
 //! One capture with its buffers, and each job done by the library and by plain Rust.
 
+use crate::earlier::Earlier;
 use crate::measure::{measure, Measured};
 use plain::{Scanned, Straightened, Tally, Verdict};
 use reference::event::{Columns as Held, Event};
@@ -98,6 +99,25 @@ impl Capture {
         assert_eq!(library(&mut output), plain(&mut other));
         assert_eq!(output, other);
         measure(|| library(&mut output), || plain(&mut other))
+    }
+
+    /// The scan by the library and by an earlier version of it.
+    pub fn scan_beside(&self, earlier: &Earlier) -> Measured {
+        let library = || calls::scan(STORE, black_box(self.library()), self.count);
+        let other = || earlier.scan(STORE, black_box(self.library()), self.count);
+        assert_eq!(library(), other());
+        measure(library, other)
+    }
+
+    /// The finder on the whole capture, by both.
+    pub fn find_beside(&self, earlier: &Earlier) -> Measured {
+        let mut output = self.output.clone();
+        let mut other_output = self.output.clone();
+        let library = |output: &mut [u8]| calls::find(STORE, black_box(self.library()), self.count, self.count, output);
+        let other = |output: &mut [u8]| earlier.find(STORE, black_box(self.library()), self.count, output);
+        assert_eq!(library(&mut output), other(&mut other_output));
+        assert_eq!(output, other_output);
+        measure(|| library(&mut output), || other(&mut other_output))
     }
 
     /// The checker on a marking that is accepted.

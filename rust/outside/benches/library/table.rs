@@ -4,8 +4,13 @@ use crate::measure::Measured;
 
 /// Prints the head of a table whose first column says what was measured.
 pub fn head(title: &str, first: &str) {
+    head_beside(title, first, "plain Rust");
+}
+
+/// The same where the library stands beside something else than plain Rust.
+pub fn head_beside(title: &str, first: &str, other: &str) {
     println!("## {title}\n");
-    println!("| {first} | library | plain Rust | library / plain | samples |");
+    println!("| {first} | library | {other} | library / {other} | samples |");
     println!("|---|---:|---:|---:|---:|");
 }
 
