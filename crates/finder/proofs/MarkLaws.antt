@@ -19,14 +19,9 @@ use Rattle.search.specs.Places.{coded, decode}
 use Rattle.events.specs.Bytes as bytes
 use Rattle.events.specs.Bytes.{u16Bytes}
 use Rattle.opacity.specs.Marking.{placeBytes, flat}
-use Rattle.search.proofs.LookupLaws.{decode-snoc}
+use Rattle.search.proofs.LookupLaws.{decode-append, decode-snoc}
 use Rattle.tables.proofs.TreeLink.{placed-snoc}
 use Rattle.marking_writer.proofs.RunLaws.{placed-then}
-
-pub decode-append : (p q : List ℕ) → decode (p ++ q) ≡ decode p ++ decode q
-unfolding decode
-decode-append [] q = refl
-decode-append (c ∷ p) q = ap (λ (l : List Place). coded c ∷ l) (decode-append p q)
 
 pub decode-length : (p : List ℕ) → length (decode p) ≡ length p
 unfolding decode

@@ -6,7 +6,6 @@ use mathlib.Core.Bool.{true, false}
 use Prim.Native.Nat.{ℕ, zero, suc, _+_, _-_, _*_, _/_, _%_, _^_, _≤_, _<_}
 use native.Mathlib.Nat.{pow-suc, add-zero, add-suc, suc-add}
 use native.Mathlib.Omega.{arith}
-use lib.ListN.{length}
 use lib.Dec.{eqb}
 use lib.Pow.{pow-pos}
 use lib.Count.{ones, ones-step, trailingZeros, under}
@@ -85,21 +84,7 @@ lowest-in (suc d) n l p = go (n % 2) refl (lowest-in d (n / 2) (half-lt n d l))
     go zero e r = r (omega arith)
     go (suc b) e r = omega arith
 
--- a set with no member is empty
-pub ones-none : (d n : ℕ) → n < 2 ^ d → ones n ≡ 0 → n ≡ 0
-ones-none d zero l h = refl
-ones-none d (suc n) l h = absurd (let e = ones-off (trailingZeros d (suc n)) (suc n) (lowest-in d (suc n) l (omega arith)) in omega arith)
-
 -- ---- the members as a list
-
-pub length-membersIn : (d i n : ℕ) → n < 2 ^ d → length (membersIn d i n) ≡ ones n
-unfolding membersIn ones
-length-membersIn zero i n l = let e : n ≡ 0 = omega arith in ap ones (sym e)
-length-membersIn (suc d) i n l = go (n % 2) refl (length-membersIn d (suc i) (n / 2) (half-lt n d l))
-  where
-    go : (b : ℕ) → n % 2 ≡ b → length (membersIn d (suc i) (n / 2)) ≡ ones (n / 2) → length (consIf b i (membersIn d (suc i) (n / 2))) ≡ ones n
-    go zero e r = let s = ones-step n in omega arith
-    go (suc b) e r = let s = ones-step n in omega arith
 
 -- the lowest member stands first, and behind it what is left without it
 pub members-lowest : (d i n : ℕ) → n < 2 ^ d → 0 < n → membersIn d i n ≡ (i + trailingZeros d n) ∷ membersIn d i (n - 2 ^ trailingZeros d n)

@@ -100,10 +100,14 @@ committed-wrote w r code l f = let a : eqb (code % 2) 1 ≡ true = eq-eqb (code 
 
 -- ---- the places from the last one back
 
+pub decode-append : (p q : List ℕ) → decode (p ++ q) ≡ decode p ++ decode q
+unfolding decode
+decode-append [] q = refl
+decode-append (c ∷ p) q = ap (λ (l : List Place). coded c ∷ l) (decode-append p q)
+
 pub decode-snoc : (p : List ℕ) (c : ℕ) → decode (p ++ (c ∷ [])) ≡ decode p ++ (coded c ∷ [])
 unfolding decode
-decode-snoc [] c = refl
-decode-snoc (x ∷ p) c = ap (λ (l : List Place). coded x ∷ l) (decode-snoc p c)
+decode-snoc p c = decode-append p (c ∷ [])
 
 module _ (start : ℕ → ℕ) (w p : List ℕ) (r : ℕ) where
   -- what r holds after the first n places

@@ -2,6 +2,7 @@
 -- Assumes nothing.
 use mathlib.Core.Path.{_≡_, refl, sym, ap, _∙_}
 use Prim.Native.Nat.{ℕ, _+_, _*_, _^_}
+use mathlib.Core.Bool.{true}
 use mathlib.Core.List.{List, [], _∷_, _++_}
 use native.Mathlib.Numerals.{add-one}
 use Rattle.events.specs.declared.event.Event.{Event}
@@ -53,3 +54,7 @@ module _ (s : Tables) (k t r v : ℕ) where
   pub next-other : (k ≡ 16 → ⊥) → (k ≡ 18 → ⊥) → (k ≡ 19 → ⊥) → (k ≡ 21 → ⊥) → (k ≡ 22 → ⊥) → (k ≡ 23 → ⊥) → s ≡ next s (event k t r v)
   unfolding next isBegin isRead isWrite asksCommit isCommit isAbort
   next-other a b c d e f = rw (ne-eqb k 16 a, ne-eqb k 18 b, ne-eqb k 19 c, ne-eqb k 21 d, ne-eqb k 22 e, ne-eqb k 23 f)
+
+pub is-write : (k t r v : ℕ) → k ≡ 19 → isWrite (event k t r v) ≡ true
+unfolding isWrite
+is-write k t r v e = rw e

@@ -140,7 +140,7 @@ impl Standing {
             return self.read(reads, required, written, slot(t, r), stored(value));
         }
         if kind == Record::WRITE {
-            written[slot(t, r)] = stored(value);
+            note_write(written, kind, t, r, value);
             return self;
         }
         if kind == Record::COMMIT {

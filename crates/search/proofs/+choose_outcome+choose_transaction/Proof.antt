@@ -188,7 +188,7 @@ choose-transaction-lowest-requires : (t : ℕ) → choose-transaction-lts.Need-l
 choose-transaction-lowest-requires t c κs =
     tt
 
--- the candidate is below 64, and unplaced
+-- the candidates left fit a u64
 small : (s : Search) (c : ℕ) → Sound s → Within s c → c < 2 ^ 64
 small s c h w = omega (arith, h .few, w .few)
 

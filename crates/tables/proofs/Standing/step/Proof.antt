@@ -1,9 +1,9 @@
 -- `tables::Standing::step` meets its contract.
 -- Assumes nothing.
-use mathlib.Core.Path.{sym}
+use mathlib.Core.Path.{sym, ap, _∙_}
 use denote.Ref.{now}
 use Rattle.tables.specs.Tables.{tablesBy, begun, writtenAt, settled}
-use Rattle.tables.proofs.TableLaws.{next-begin, next-read, next-write, next-asks, next-commit, next-abort, next-other}
+use Rattle.tables.proofs.TableLaws.{next-begin, next-read, next-write, next-asks, next-commit, next-abort, next-other, is-write}
 use borrow.Author.Needs.{needs}
 use Rattle.tables.proofs.Standing.step.Statement.{statement}
 use Rattle.tables.proofs.Standing.step.Tie as tie
@@ -36,24 +36,18 @@ returns-2 c =
     let s = tablesBy (start .args .self) (now (start .args .predecessors)) (now (start .args .allowed)) (now (start .args .reads)) (now (start .args .required)) (now (start .args .written)) in
     rw (next-read s (start .args .kind) (start .args .t) (start .args .r) (start .args .value) (c .before .before .before .before .before .before .if2 .taken), ← c .before .before .slot .ensures .0, ← c .before .stored .ensures) (c .read .ensures (now (start .args .predecessors)) (now (start .args .allowed)))
 
-stored-requires-2 : tie.Need-stored-requires-2
-stored-requires-2 c κs = search needs
-
-slot-requires-2 : tie.Need-slot-requires-2
-slot-requires-2 c κs = search needs
-
-mul-written : tie.Need-mul-written
-mul-written c = search needs
-
-element-write-written : tie.Need-element-write-written
-element-write-written c = search needs
+note-write-requires : tie.Need-note-write-requires
+note-write-requires c κs = search needs
 
 returns-3 : tie.Need-returns-3
 unfolding writtenAt
 returns-3 c =
     let start = c .before .before .before .before .before in
     let s = tablesBy (start .args .self) (now (start .args .predecessors)) (now (start .args .allowed)) (now (start .args .reads)) (now (start .args .required)) (now (start .args .written)) in
-    rw (next-write s (start .args .kind) (start .args .t) (start .args .r) (start .args .value) (c .before .before .if3 .taken), ← c .slot2 .ensures .0, ← c .before .stored2 .ensures)
+    let writes = c .before .before .if3 .taken in
+    rw (next-write s (start .args .kind) (start .args .t) (start .args .r) (start .args .value) writes)
+    (ap (tablesBy (start .args .self) (now (start .args .predecessors)) (now (start .args .allowed)) (now (start .args .reads)) (now (start .args .required)))
+    (c .note-write .ensures ∙ (rw (is-write (start .args .kind) (start .args .t) (start .args .r) (start .args .value) writes))))
 
 element-write-allowed : tie.Need-element-write-allowed
 element-write-allowed c = search needs
@@ -108,10 +102,7 @@ step-spec =
     stored-requires
     read-requires
     returns-2
-    stored-requires-2
-    slot-requires-2
-    mul-written
-    element-write-written
+    note-write-requires
     returns-3
     element-write-allowed
     returns-4
