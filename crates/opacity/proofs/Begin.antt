@@ -14,12 +14,12 @@ use borrow.Author.Tests.{eqb-true, eq-eqb, ne-eqb, ltb-true, lt-ltb}
 use Rattle.events.specs.Lists.{_and_, _or_, any, all}
 use Rattle.events.specs.declared.event.Event.{Event}
 use Rattle.events.specs.Events.{noEvent, eventAt, isBegin, isRead, isWrite, asksCommit, isCommit, isAbort, isEnd, by, has, begins}
-use Rattle.opacity.specs.Transactions.{precedes, status, committed, aborted, pending, live, allows}
+use Rattle.opacity.specs.Transactions.{precedes, status, aborted, pending, live, allows}
 use Rattle.opacity.specs.Justification.{Place, isOf, placed, stop, before, outcome, isOrder, outcomeKept, preceded, realTimeKept, Justified}
 use Rattle.opacity.specs.Lowest.{place}
 use Rattle.events.proofs.ListLaws.{imp-e, and-l, and-r, and-i, and-false-l, and-false-r, imp-i, nor-i, nor-l, nor-r, or-l, or-r, clash, every-e, every-i, any-append, all-append, all-weaken, below-cases}
 use Rattle.opacity.proofs.Orders.{Fresh, before-here, no-outcome, distinct-snoc}
-use Rattle.opacity.proofs.Snoc.{or-none, has-quiet, status-snoc, contents-snoc, own-snoc, legal-snoc, precedes-snoc}
+use Rattle.opacity.proofs.Snoc.{unwritten, or-none, has-quiet, status-snoc, contents-snoc, own-snoc, own-new, legal-snoc, legal-new, precedes-snoc}
 use Rattle.events.proofs.ColumnLaws.{begins-snoc}
 use Rattle.events.proofs.QuestionLaws.{any-index}
 
@@ -145,11 +145,6 @@ module _ (start : ℕ → ℕ) (h : List Event) (e : Event) (J : List Place) (j 
       go t (inr m) s (inl q) = rw (q, before-new) (whole t m)
       go t (inr m) s (inr k) = old t m s k
 
-  no-write : (P : List Place) → any (λ p. p .committed and by isWrite (p .transaction) e) P ≡ false
-  unfolding any by
-  no-write [] = refl
-  no-write (p ∷ P) = nor-i _ _ (and-false-r _ _ (and-false-r _ _ w)) (no-write P)
-
   pub begin-justified : Justified start (h ++ (e ∷ [])) (J ++ (place (begins h) false ∷ []))
   unfolding h′ J′
   begin-justified =
@@ -157,10 +152,10 @@ module _ (start : ℕ → ℕ) (h : List Event) (e : Event) (J : List Place) (j 
         order = order;
         outcomes = outcomes;
         realTime = realTime;
-        own = own-snoc h e r (j .own);
-        store = legal-snoc h e r start J J′
+        own = own-snoc h e (own-new h e start J′ (λ t. absurd (clash t r))) (j .own);
+        store = legal-snoc h e start J J′ (legal-new h e start J′ (λ t. absurd (clash t r)))
             (λ i l.
             rw (before-old (eventAt h i .transaction) (numbered i l))
-            (contents-snoc h e start (before (eventAt h i .transaction) J) (no-write (before (eventAt h i .transaction) J)) (eventAt h i .register)))
+            (contents-snoc h e start (before (eventAt h i .transaction) J) (unwritten e (before (eventAt h i .transaction) J) w) (eventAt h i .register)))
             (j .store);
       }

@@ -20,8 +20,9 @@ pub mod EventKinds
 pub mod Statuses
 pub mod Pending
 pub mod Snoc
-pub mod Quiet
+pub mod Kept
 pub mod Begin
+pub mod Carry
 pub mod CauseFour
 pub mod Theorems
 pub mod Examples

@@ -1,23 +1,23 @@
--- What one event more changes in what a history says: of the events before it, of its transactions, and, where it is no read returned, of own
--- reads and of legal reads.
+-- What one event more changes in what a history says: of the events before it, of its transactions, of own reads and of legal reads.
 -- Assumes nothing.
 use Prim.Native.Nat.{ℕ, _<_}
 use native.Mathlib.Nat.{le-of-lt}
 use native.Mathlib.Omega.{arith}
 use mathlib.Core.Path.{_≡_, refl, ap, ap₂, _∙_}
 use mathlib.Core.Logic.{_⊎_, ⊎-elim}
-use mathlib.Core.Bool.{Bool, true, false, cond, false≢true}
+use mathlib.Core.Bool.{Bool, true, false, not, cond, false≢true}
 use mathlib.Core.List.{List, [], _∷_, _++_}
 use mathlib.Core.Option.{Option, none, some, Option·getD}
 use lib.Dec.{eqb}
 use lib.ListN.{length, take, length-append, List·getD-append}
-use lib.Seq.{take-append-le, getD-append-seam}
-use Rattle.events.specs.Lists.{_and_, _or_, orElse, any, latest}
+use lib.Seq.{take-append-le, take-at, getD-append-seam}
+use borrow.Author.Tests.{eq-eqb}
+use Rattle.events.specs.Lists.{_and_, _or_, isNone, orElse, any, latest}
 use Rattle.events.specs.declared.event.Event.{Event}
 use Rattle.events.specs.Events.{noEvent, eventAt, isBegin, isRead, isWrite, asksCommit, isCommit, isAbort, isEnd, by, has}
-use Rattle.events.proofs.ListLaws.{and-l, and-false-r, imp-i, nor-l, nor-r, or-l, clash, latest-snoc, below-cases}
+use Rattle.events.proofs.ListLaws.{and-l, and-r, and-false-r, imp-i, nor-i, nor-l, nor-r, or-l, latest-snoc, below-cases}
 use Rattle.events.proofs.StateLaws.{has-snoc}
-use Rattle.opacity.specs.Transactions.{committed, aborted, pending, live, status, allows, precedes, lastWrite, ownWrite, isOwnRead, isStoreRead, ownRight}
+use Rattle.opacity.specs.Transactions.{committed, aborted, pending, live, status, allows, precedes, lastWrite, ownWrite, isOwnRead, isStoreRead, isValue, ownRight}
 use Rattle.opacity.specs.Justification.{Place, before, written, contents, legalOver, legal}
 
 pub or-none : (a b : Bool) → b ≡ false → (a or b) ≡ a
@@ -25,9 +25,15 @@ unfolding _or_
 or-none true b e = refl
 or-none false b e = e
 
+-- no place gets a write from an event that is none
+pub unwritten : (e : Event) (J : List Place) → isWrite e ≡ false → any (λ p. p .committed and by isWrite (p .transaction) e) J ≡ false
+unfolding any by
+unwritten e [] w = refl
+unwritten e (p ∷ J) w = nor-i _ _ (and-false-r _ _ (and-false-r _ _ w)) (unwritten e J w)
+
 module _ (h : List Event) (e : Event) where
   -- u has such an event with e if and only if without it, where e is none
-  has-same : (p : Event → Bool) (u : ℕ) → by p u e ≡ false → has p u (h ++ (e ∷ [])) ≡ has p u h
+  pub has-same : (p : Event → Bool) (u : ℕ) → by p u e ≡ false → has p u (h ++ (e ∷ [])) ≡ has p u h
   has-same p u n = has-snoc p h e u ∙ or-none _ _ n
 
   pub has-quiet : (p : Event → Bool) (u : ℕ) → p e ≡ false → has p u (h ++ (e ∷ [])) ≡ has p u h
@@ -92,28 +98,52 @@ module _ (h : List Event) (e : Event) where
   unfolding ownRight isOwnRead ownWrite
   own-right-old i l = rw (event-old i l, take-old i l)
 
-  module _ (r : isRead e ≡ false) where
-    no-read : (i : ℕ) → i ≡ length h → isRead (eventAt (h ++ (e ∷ [])) i) ≡ true → ⊥
-    no-read i q t =
-        clash t (ap (λ (k : ℕ). isRead (eventAt (h ++ (e ∷ [])) k)) q ∙ ap isRead (getD-append-seam h e [] noEvent) ∙ r)
+  event-new : eventAt (h ++ (e ∷ [])) (length h) ≡ e
+  event-new = getD-append-seam h e [] noEvent
 
-    pub own-snoc : ((i : ℕ) → i < length h → ownRight h i ≡ true) → (i : ℕ) → i < length (h ++ (e ∷ [])) → ownRight (h ++ (e ∷ [])) i ≡ true
+  own-write-new : ownWrite (h ++ (e ∷ [])) (length h) ≡ lastWrite h (e .transaction) (e .register)
+  unfolding ownWrite
+  own-write-new = rw (event-new, take-at h (e ∷ []) (length h) refl)
+
+  -- own reads are right where e's is
+  pub own-snoc : ownRight (h ++ (e ∷ [])) (length h) ≡ true → ((i : ℕ) → i < length h → ownRight h i ≡ true)
+      → (i : ℕ) → i < length (h ++ (e ∷ [])) → ownRight (h ++ (e ∷ [])) i ≡ true
+  own-snoc new own i l = ⊎-elim (λ q. rw q new) (λ m. own-right-old i m ∙ own i m) (old-or-new i l)
+
+  -- reads that were legal over one order are legal over another, where their registers hold the same and e's is legal
+  pub legal-snoc : (start : ℕ → ℕ) (J K : List Place) → legal start (h ++ (e ∷ [])) K (length h) ≡ true
+      → ((i : ℕ) → i < length h
+      → contents start (h ++ (e ∷ [])) (before (eventAt h i .transaction) K) (eventAt h i .register)
+      ≡ contents start h (before (eventAt h i .transaction) J) (eventAt h i .register))
+      → ((i : ℕ) → i < length h → legal start h J i ≡ true)
+      → (i : ℕ) → i < length (h ++ (e ∷ [])) → legal start (h ++ (e ∷ [])) K i ≡ true
+  unfolding legal legalOver
+  legal-snoc start J K new alike store i l =
+      ⊎-elim (λ q. rw q new)
+      (λ m. rw (store-read-old i m, event-old i m, alike i m) (store i m))
+      (old-or-new i l)
+
+  -- e reads what its transaction wrote last to the register, or, if it wrote nothing there, what the register holds before its place
+  module _ (start : ℕ → ℕ) (K : List Place)
+      (reads : isRead e ≡ true
+      → e .value ≡ Option·getD (lastWrite h (e .transaction) (e .register)) (contents start (h ++ (e ∷ [])) (before (e .transaction) K) (e .register))) where
+    pub own-new : ownRight (h ++ (e ∷ [])) (length h) ≡ true
     unfolding ownRight isOwnRead
-    own-snoc own i l =
-        ⊎-elim (λ q. imp-i _ _ (λ s. absurd (no-read i q (and-l _ _ s)))) (λ m. own-right-old i m ∙ own i m) (old-or-new i l)
+    own-new = rw (event-new, own-write-new) (imp-i _ _ (λ s. go (lastWrite h (e .transaction) (e .register)) (and-r _ _ s) (reads (and-l _ _ s))))
+      where
+        go : (o : Option ℕ) → not (isNone o) ≡ true → e .value ≡ Option·getD o (contents start (h ++ (e ∷ [])) (before (e .transaction) K) (e .register))
+            → isValue (e .value) o ≡ true
+        go none n q = absurd (false≢true n)
+        go (some v) n q = eq-eqb (e .value) v q
 
-    -- reads that were legal over one order are legal over another, where their registers hold the same
-    pub legal-snoc : (start : ℕ → ℕ) (J K : List Place)
-        → ((i : ℕ) → i < length h
-        → contents start (h ++ (e ∷ [])) (before (eventAt h i .transaction) K) (eventAt h i .register)
-        ≡ contents start h (before (eventAt h i .transaction) J) (eventAt h i .register))
-        → ((i : ℕ) → i < length h → legal start h J i ≡ true)
-        → (i : ℕ) → i < length (h ++ (e ∷ [])) → legal start (h ++ (e ∷ [])) K i ≡ true
+    pub legal-new : legal start (h ++ (e ∷ [])) K (length h) ≡ true
     unfolding legal legalOver isStoreRead
-    legal-snoc start J K alike store i l =
-        ⊎-elim (λ q. imp-i _ _ (λ s. absurd (no-read i q (and-l _ _ s))))
-        (λ m. rw (store-read-old i m, event-old i m, alike i m) (store i m))
-        (old-or-new i l)
+    legal-new = rw (event-new, own-write-new) (imp-i _ _ (λ s. go (lastWrite h (e .transaction) (e .register)) (and-r _ _ s) (reads (and-l _ _ s))))
+      where
+        go : (o : Option ℕ) → isNone o ≡ true → e .value ≡ Option·getD o (contents start (h ++ (e ∷ [])) (before (e .transaction) K) (e .register))
+            → eqb (e .value) (contents start (h ++ (e ∷ [])) (before (e .transaction) K) (e .register)) ≡ true
+        go none n q = eq-eqb (e .value) _ q
+        go (some v) n q = absurd (false≢true n)
 
 joined : (x k b p q : Bool) → ((x and (k or b)) or (p or (q and b))) ≡ (((x and k) or p) or ((x or q) and b))
 unfolding _and_ _or_

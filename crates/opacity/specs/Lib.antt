@@ -2,6 +2,7 @@ pub mod Transactions
 pub mod Justification
 pub mod Lowest
 pub mod Marking
+pub mod Carry
 pub mod Scan
 pub mod Store
 pub mod Serial

@@ -14,6 +14,8 @@ use events::columns::Checked;
 use events::record::Record;
 use opacity::verdict::Scanned;
 
+mod witness;
+
 // Question 31: at most this many transactions are searched.
 const SEARCHED: usize = 10;
 
@@ -60,7 +62,8 @@ fn faulted(event: usize, kind: u16) -> Scanned
     }
 }
 
-// The prefixes of the first n events, of at most ten transactions, by rising length: the tables grow by one event each time.
+// The prefixes of the first n events, of at most ten transactions, by rising length: the tables grow by one event each time. The order that
+// justifies a prefix is kept for the next where it justifies that too; only where it does not is an order searched for anew.
 fn scan_prefixes(
     starts: &[u32; 32],
     kinds: &[u16],
@@ -79,9 +82,14 @@ fn scan_prefixes(
     let mut written = [0u64; 320];
     let mut s = tables::no_events();
     let mut begun: usize = 0;
+    let mut order: u64 = 1;
     let mut i: usize = 0;
     while i < n {
         let kind = kinds[i];
+        let t = transactions[i];
+        let r = registers[i];
+        let value = values[i];
+        let kept = witness::carry(starts, &written, order, begun, kind, t, r, value);
         s = s.step(
             &mut predecessors,
             &mut allowed,
@@ -89,12 +97,12 @@ fn scan_prefixes(
             &mut required,
             &mut written,
             kind,
-            transactions[i],
-            registers[i],
-            values[i],
+            t,
+            r,
+            value,
         );
         begun = counted(begun, kind);
-        let order = tables::complete(
+        order = witness::judge(
             starts,
             s,
             &predecessors,
@@ -103,6 +111,7 @@ fn scan_prefixes(
             &required,
             &written,
             begun,
+            kept,
         );
         if order == 0 {
             return faulted(i, kind);

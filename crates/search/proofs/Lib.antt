@@ -3,4 +3,5 @@ pub mod BitLaws
 pub mod SetLaws
 pub mod StateLaws
 pub mod LookupLaws
+pub mod PlaceLaws
 pub mod TreeLaws

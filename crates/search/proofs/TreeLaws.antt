@@ -14,7 +14,7 @@ use lib.Count.{ones, ones-ones, trailingZeros}
 use Rattle.search.specs.declared.state.Search.{Search}
 use Rattle.search.specs.Bits.{bitAt, membersIn, members}
 use Rattle.search.specs.State.{placedOf, whole, Sound, Placeable, Within, Extends}
-use Rattle.search.specs.Tree.{Constraints, Completion, orElse, remove, ruleNext, allowsOutcome, fitsAt, firstOf, tryOne, tryBoth, fromCandidates, atTransaction, firstCompletion, readAnswer}
+use Rattle.search.specs.Tree.{Constraints, Completion, orElse, remove, ruleNext, allowsOutcome, fitsAt, firstOf, tryOne, tryBoth, fromCandidates, atTransaction, firstCompletion, readAnswer, Answers}
 use Rattle.search.proofs.BitLaws.{member-lt, member-off, ones-off, members-off, members-all}
 use Rattle.search.proofs.SetLaws.{members-first, lowest-member}
 
@@ -73,15 +73,25 @@ pub outcome-second : {x : Completion} (D : Constraints) (s : Search) (t : ℕ) �
 unfolding attempt atTransaction tryBoth
 outcome-second D s t e f = first-none e f
 
+-- ---- no more than the places
+
+-- the answer of the next state
+pub answers-next : {x y : Completion} (s next : Search) (t o a : ℕ) → Extends s t o next → Answers (whole next) a x → readAnswer (whole s) a ≡ y → Answers (whole s) a y
+answers-next s next t o a x h e = record { completion = e; room = rw (x .total) at (h .room) }
+
+-- none
+pub answers-none : {x : Completion} (n : ℕ) → none ≡ x → Answers n 0 x
+answers-none n e = record { completion = e; room = pow-pos (n * 5 + 1) }
+
 -- ---- choosing a transaction
 
 pub all-placed : (D : Constraints) (s : Search) → Sound s → ones (s .unplaced) ≡ 0
-    → readAnswer (whole s) (s .placed) ≡ fromCandidates D (ones (s .unplaced)) (placedOf s) (members (s .unplaced)) (members (s .unplaced))
+    → Answers (whole s) (s .placed) (fromCandidates D (ones (s .unplaced)) (placedOf s) (members (s .unplaced)) (members (s .unplaced)))
 unfolding fromCandidates
 all-placed D s h e =
     let g : eqb (s .placed) 0 ≡ false = ne-eqb (s .placed) 0 (λ q. omega (arith, h .led)) in
     let n : s .filled + 0 ≡ s .filled = omega arith in
-    rw (e, g, n)
+    record { completion = rw (e, g, n); room = rw (e, n) (h .room) }
 
 module _ (D : Constraints) (s : Search) where
   -- the first completion with one of the candidates c next

@@ -1,13 +1,16 @@
 -- The state of the search: its places, when it is sound, and what placing a transaction makes of it.
 -- Assumes nothing.
 use mathlib.Core.Path.{_≡_}
+use mathlib.Core.Bool.{true}
 use Prim.Native.Nat.{ℕ, _+_, _*_, _-_, _^_, _≤_, _<_}
 use mathlib.Core.List.{List, [], _∷_, _++_}
 use lib.ListN.{getD}
 use lib.Count.{ones}
+use Rattle.opacity.specs.Justification.{before, outcome, isOrder}
 use Rattle.search.specs.declared.state.Search.{Search}
+use Rattle.search.specs.declared.state.Spot.{Spot}
 use Rattle.search.specs.Bits.{bitAt}
-use Rattle.search.specs.Places.{codesOf}
+use Rattle.search.specs.Places.{codesOf, decode}
 
 -- the places filled, and how many there will be
 abbrev pub placedOf : Search → List ℕ
@@ -45,3 +48,14 @@ pub record Extends (s : Search) (t o : ℕ) (r : Search) : Type 0 where
   pub rest : r .unplaced ≡ s .unplaced - 2 ^ t
   pub total : whole r ≡ whole s
   pub places : placedOf r ≡ placedOf s ++ ((t * 2 + o) ∷ [])
+
+-- a number that holds an order of n at most ten transactions
+pub record Ordered (n order : ℕ) : Type 0 where
+  pub few : n ≤ 10
+  pub is-order : isOrder n (decode (codesOf n order)) ≡ true
+
+-- p is the place of t in such an order: what stands before it, and its outcome
+pub record PlaceOf (n order t : ℕ) (p : Spot) : Type 0 where
+  pub coded : Coded (p .filled) (p .placed)
+  pub places : decode (codesOf (p .filled) (p .placed)) ≡ before t (decode (codesOf n order))
+  pub its-outcome : p .committed ≡ outcome t (decode (codesOf n order))

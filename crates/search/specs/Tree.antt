@@ -1,6 +1,7 @@
 -- The tree of orders and outcomes that the search goes through, and its first leaf that meets the constraints.
 -- Assumes nothing.
-use Prim.Native.Nat.{ℕ, zero, suc, _+_, _*_, _-_}
+use mathlib.Core.Path.{_≡_}
+use Prim.Native.Nat.{ℕ, zero, suc, _+_, _*_, _-_, _^_, _<_}
 use mathlib.Core.List.{List, [], _∷_, _++_}
 use mathlib.Core.Bool.{Bool, true, false, cond}
 use mathlib.Core.Option.{Option, none, some}
@@ -101,3 +102,8 @@ firstCompletion D n = fromCandidates D n [] (upFrom 0 n) (upFrom 0 n)
 -- an answer with n places, or 0 for none
 abbrev pub readAnswer : ℕ → ℕ → Completion
 readAnswer n a = cond (eqb a 0) none (some (codesOf n a))
+
+-- an answer reads as the completion x, and has no more than n places behind its leading 1
+pub record Answers (n a : ℕ) (x : Completion) : Type 0 where
+  pub completion : readAnswer n a ≡ x
+  pub room : a < 2 ^ (n * 5 + 1)

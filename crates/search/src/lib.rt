@@ -5,7 +5,7 @@ ghost use Prim.Native.Nat.{_-_, _^_, _≤_, _<_};
 ghost use lib.Count.{ones};
 ghost use Rattle.search.specs.Bits.{members};
 ghost use Rattle.search.specs.State.{placedOf, whole, Sound, Placeable};
-ghost use Rattle.search.specs.Tree.{constraints, allowsOutcome, ruleNext, fromCandidates, atTransaction, firstCompletion, readAnswer};
+ghost use Rattle.search.specs.Tree.{constraints, allowsOutcome, ruleNext, fromCandidates, atTransaction, firstCompletion, Answers};
 
 pub mod lookup;
 pub mod sets;
@@ -69,7 +69,7 @@ fn choose_transaction(
     s: Search,
 ) -> u64
     requires { ⌜ Sound s ⌝ }
-    ensures { λ r. ⌜ readAnswer (whole s) r ≡ fromCandidates (constraints (now (starts .entry)) (now (predecessors .entry)) (now (allowed .entry)) (now (reads .entry)) (now (required .entry)) (now (written .entry))) (ones (s .unplaced)) (placedOf s) (members (s .unplaced)) (members (s .unplaced)) ⌝ }
+    ensures { λ r. ⌜ Answers (whole s) r (fromCandidates (constraints (now (starts .entry)) (now (predecessors .entry)) (now (allowed .entry)) (now (reads .entry)) (now (required .entry)) (now (written .entry))) (ones (s .unplaced)) (placedOf s) (members (s .unplaced)) (members (s .unplaced))) ⌝ }
 {
     if sets::count(s.unplaced) == 0 {
         return s.placed;
@@ -107,7 +107,7 @@ fn choose_outcome(
     t: usize,
 ) -> u64
     requires { ⌜ Placeable s t ⌝ }
-    ensures { λ r. ⌜ readAnswer (whole s) r ≡ atTransaction (constraints (now (starts .entry)) (now (predecessors .entry)) (now (allowed .entry)) (now (reads .entry)) (now (required .entry)) (now (written .entry))) (ones (s .unplaced - 2 ^ t)) (placedOf s) (members (s .unplaced)) t ⌝ }
+    ensures { λ r. ⌜ Answers (whole s) r (atTransaction (constraints (now (starts .entry)) (now (predecessors .entry)) (now (allowed .entry)) (now (reads .entry)) (now (required .entry)) (now (written .entry))) (ones (s .unplaced - 2 ^ t)) (placedOf s) (members (s .unplaced)) t) ⌝ }
 {
     let rule = rule_next(
         starts,
@@ -160,7 +160,7 @@ pub fn find(
     n: usize,
 ) -> u64
     requires { ⌜ n ≤ 10 ⌝ }
-    ensures { λ r. ⌜ readAnswer n r ≡ firstCompletion (constraints (now (starts .entry)) (now (predecessors .entry)) (now (allowed .entry)) (now (reads .entry)) (now (required .entry)) (now (written .entry))) n ⌝ }
+    ensures { λ r. ⌜ Answers n r (firstCompletion (constraints (now (starts .entry)) (now (predecessors .entry)) (now (allowed .entry)) (now (reads .entry)) (now (required .entry)) (now (written .entry))) n) ⌝ }
 {
     let s = Search {
         unplaced: sets::bit(n) - 1,

@@ -42,7 +42,7 @@ fn write_of(written: &[u64; 320], code: usize, register: usize) -> u64
 
 // What register holds after the places filled: the value of the last committed writer, looked for from the last place back, or the
 // start value.
-fn content(
+pub fn content(
     starts: &[u32; 32],
     written: &[u64; 320],
     placed: u64,

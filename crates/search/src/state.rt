@@ -3,7 +3,7 @@ ghost use mathlib.Core.Path.{_≡_};
 ghost use Prim.Native.Nat.{_*_, _/_, _%_, _^_, _≤_, _<_};
 ghost use lib.ListN.{take};
 ghost use Rattle.search.specs.Places.{codesOf};
-ghost use Rattle.search.specs.State.{Placeable, Extends};
+ghost use Rattle.search.specs.State.{Placeable, Extends, Ordered, PlaceOf};
 use crate::sets;
 
 // A place is one of so many codes, in so many bits.
@@ -40,6 +40,32 @@ pub fn code_at(placed: u64, back: usize) -> usize
     ensures { λ r. ⌜ r ≡ placed / 2 ^ (back * 5) % 32 ⌝ }
 {
     ((placed >> (back * BITS)) % CODES) as usize
+}
+
+// A place of an order: what stands before it, as a state has it, and its outcome.
+pub struct Spot {
+    pub filled: usize,
+    pub placed: u64,
+    pub committed: bool,
+}
+
+// The place of t in an order of so many places, looked for from the last place back.
+pub fn place_of(order: u64, count: usize, t: usize) -> Spot
+    requires { ⌜ Ordered count order ⌝ }
+    requires { ⌜ t < count ⌝ }
+    ensures { λ p. ⌜ PlaceOf count order t p ⌝ }
+{
+    let mut left = count;
+    let mut rest = order;
+    while rest % CODES / 2 != t as u64 {
+        left -= 1;
+        rest /= CODES;
+    }
+    Spot {
+        filled: left - 1,
+        placed: rest / CODES,
+        committed: rest % CODES % 2 == 1,
+    }
 }
 
 // The codes of a completion of so many places, from the first place on.

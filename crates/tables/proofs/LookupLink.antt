@@ -5,21 +5,24 @@ use mathlib.Core.Path.{_≡_, refl, sym, ap, ap₂, _∙_}
 use Prim.Native.Nat.{ℕ, suc, _/_, _<_}
 use native.Mathlib.Nat.{le-refl, zero-lt-suc, suc-le-suc-iff}
 use native.Mathlib.Omega.{arith}
-use mathlib.Core.Bool.{cond}
+use mathlib.Core.Bool.{true, cond}
 use mathlib.Core.List.{List, [], _∷_}
 use mathlib.Core.Option.{Option, none, some, Option·getD}
 use lib.ListN.{length, getD}
 use lib.Seq.{take-all}
-use Rattle.events.specs.Lists.{orElse, latest}
+use lib.Dec.{ltb}
+use borrow.Author.Tests.{ltb-true, lt-ltb}
+use Rattle.events.specs.Lists.{orElse, all, latest}
+use Rattle.events.proofs.ListLaws.{and-l, and-r, and-i}
 use Rattle.events.specs.declared.event.Event.{Event}
 use Rattle.events.specs.Starts.{startOf}
 use Rattle.opacity.specs.Transactions.{lastWrite}
-use Rattle.opacity.specs.Justification.{written, contents}
+use Rattle.opacity.specs.Justification.{Place, written, contents}
 use Rattle.opacity.specs.Store.{applied}
 use Rattle.opacity.specs.Serial.{serialStore}
 use Rattle.opacity.proofs.Serial.{serial-contents}
 use Rattle.opacity.proofs.Contents.{contents-applied}
-use Rattle.search.specs.Places.{codesOf, coded, decode, plus, writesIn}
+use Rattle.search.specs.Places.{codesOf, decode, plus, writesIn}
 use Rattle.search.specs.State.{Coded}
 use Rattle.search.proofs.StateLaws.{length-codes}
 use Rattle.search.proofs.LookupLaws.{held}
@@ -35,29 +38,36 @@ plus-one none (some y) e = absurd (omega arith)
 plus-one (some x) none e = absurd (omega arith)
 plus-one (some x) (some y) e = let q : x ≡ y = omega arith in ap some q
 
--- places that wrote the same
-latest-same : (g h : List Event) (r : ℕ) (p : List ℕ) → ((i : ℕ) → i < length p → written g r (coded (getD p i 0)) ≡ written h r (coded (getD p i 0)))
-    → latest (written g r) (decode p) ≡ latest (written h r) (decode p)
-unfolding latest decode
-latest-same g h r [] f = refl
-latest-same g h r (c ∷ p) f = ap₂ orElse (latest-same g h r p (λ i l. f (suc i) (suc-le-suc-iff .1 l))) (f 0 (zero-lt-suc (length p)))
+module _ (h : List Event) (good : Good h) (r : ℕ) (low : r < 32) where
+  -- the table has the last write of each transaction to each register
+  pub last-held : (t : ℕ) → t < 10 → lastWrite (writesIn (tablesOf h .written)) t r ≡ lastWrite h t r
+  last-held t l = plus-one _ _ (held t r low (tablesOf h .written) ∙ (rw (take-all (length h) h (le-refl (length h))) at (written-holds h good (length h) (le-refl (length h)) t r l low)))
+
+  latest-held : (P : List Place) → all (λ p. ltb (p .transaction) 10) P ≡ true → latest (written (writesIn (tablesOf h .written)) r) P ≡ latest (written h r) P
+  unfolding latest all written
+  latest-held [] k = refl
+  latest-held (p ∷ P) k = ap₂ orElse (latest-held P (and-r _ _ k)) (ap (λ (a : Option ℕ). cond (p .committed) a none) (last-held (p .transaction) (ltb-true _ _ (and-l _ _ k))))
+
+  -- so that r holds the same after any places of ten transactions
+  pub contents-held : (start : ℕ → ℕ) (P : List Place) → all (λ p. ltb (p .transaction) 10) P ≡ true
+      → contents start (writesIn (tablesOf h .written)) P r ≡ contents start h P r
+  unfolding contents
+  contents-held start P k = ap (λ (a : Option ℕ). Option·getD a (start r)) (latest-held P k)
 
 -- each place filled is of one of ten transactions
 abbrev pub Known : List ℕ → Type 0
 Known p = (i : ℕ) → i < length p → getD p i 0 / 2 < 10
 
-module _ (o : List ℕ) (h : List Event) (good : Good h) (p : List ℕ) (known : Known p) (r : ℕ) (low : r < 32) where
-  -- the table has the last write of each transaction to each register
-  last-held : (t : ℕ) → t < 10 → lastWrite (writesIn (tablesOf h .written)) t r ≡ lastWrite h t r
-  last-held t l = plus-one _ _ (held t r low (tablesOf h .written) ∙ (rw (take-all (length h) h (le-refl (length h))) at (written-holds h good (length h) (le-refl (length h)) t r l low)))
+known-places : (p : List ℕ) → Known p → all (λ q. ltb (q .transaction) 10) (decode p) ≡ true
+unfolding all decode
+known-places [] k = refl
+known-places (c ∷ p) k = and-i _ _ (lt-ltb (c / 2) 10 (k 0 (zero-lt-suc (length p)))) (known-places p (λ i l. k (suc i) (suc-le-suc-iff .1 l)))
 
+module _ (o : List ℕ) (h : List Event) (good : Good h) (p : List ℕ) (known : Known p) (r : ℕ) (low : r < 32) where
   -- For every register and every order of places filled: what is looked up in the tables of a history is what the register holds by the
   -- definition of justifications,
   pub looked-up-contents : contents (startOf o) (writesIn (tablesOf h .written)) (decode p) r ≡ contents (startOf o) h (decode p) r
-  unfolding contents written
-  looked-up-contents =
-      ap (λ (a : Option ℕ). Option·getD a (startOf o r))
-      (latest-same (writesIn (tablesOf h .written)) h r p (λ i l. ap (λ (a : Option ℕ). cond (coded (getD p i 0) .committed) a none) (last-held (getD p i 0 / 2) (known i l))))
+  looked-up-contents = contents-held h good r low (startOf o) (decode p) (known-places p known)
 
   -- what the committed transactions placed so far, applied in order over the start values, leave there,
   pub looked-up-applied : contents (startOf o) (writesIn (tablesOf h .written)) (decode p) r ≡ applied (startOf o) h (decode p) r

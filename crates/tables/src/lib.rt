@@ -10,7 +10,7 @@ ghost use Rattle.events.specs.Events.{isWrite};
 ghost use Rattle.events.specs.Columns.{columns, history};
 ghost use Rattle.events.specs.Starts.{startOf};
 ghost use Rattle.opacity.specs.Lowest.{lowestOf};
-ghost use Rattle.search.specs.Tree.{readAnswer, firstCompletion};
+ghost use Rattle.search.specs.Tree.{firstCompletion, Answers};
 ghost use Rattle.tables.specs.Order.{constraintsOf, Judged, orderOf};
 ghost use Rattle.tables.specs.Tables.{tablesBy, Becomes, event, clashes, readAt, next, empty};
 use events::record::Record;
@@ -181,7 +181,7 @@ pub fn complete(
     transactions: usize,
 ) -> u64
     requires { ⌜ transactions ≤ 10 ⌝ }
-    ensures { λ r. ⌜ readAnswer transactions r ≡ cond (s .contradictory) none (firstCompletion (constraintsOf (now (starts .entry)) (tablesBy s (now (predecessors .entry)) (now (allowed .entry)) (now (reads .entry)) (now (required .entry)) (now (written .entry)))) transactions) ⌝ }
+    ensures { λ r. ⌜ Answers transactions r (cond (s .contradictory) none (firstCompletion (constraintsOf (now (starts .entry)) (tablesBy s (now (predecessors .entry)) (now (allowed .entry)) (now (reads .entry)) (now (required .entry)) (now (written .entry)))) transactions)) ⌝ }
 {
     if s.contradictory {
         return 0;

@@ -9,7 +9,7 @@ use Rattle.search.specs.State.{whole, Sound, Within}
 use Rattle.search.specs.Tree.{constraints}
 use Rattle.search.specs.declared.state.Search.{Search}
 use Rattle.search.proofs.StateLaws.{room-lt}
-use Rattle.search.proofs.TreeLaws.{attempt, attempt-none, fits-by, attempt-next, answer-none, outcome-first, outcome-second, all-placed, among, none-among, candidate-found, candidate-missed, all-unplaced, within-rest, falls-to-next}
+use Rattle.search.proofs.TreeLaws.{attempt, attempt-none, fits-by, attempt-next, answer-none, answers-next, answers-none, outcome-first, outcome-second, all-placed, among, none-among, candidate-found, candidate-missed, all-unplaced, within-rest, falls-to-next}
 use Rattle.search.proofs.SetLaws.{lowest-member}
 use Prim.Native.Nat.{ℕ, _<_, _+_, _*_, _^_}
 use native.Mathlib.Omega.{arith}
@@ -111,9 +111,10 @@ choose-outcome-returns t c =
     let start = c .before .before .before .before .before .before in
     let D = constraints (start .args .starts .now) (start .args .predecessors .now) (start .args .allowed .now) (start .args .reads .now) (start .args .required .now) (start .args .written .now) in
     let asked = c .before .before .before .before in
-    outcome-first D (start .args .s) (start .args .t) (c .before .choose-transaction .result) (c .if2 .taken)
+    answers-next (start .args .s) (c .before .before .place .result) (start .args .t) 0 (c .before .choose-transaction .result) (c .before .before .place .ensures) (c .before .choose-transaction .ensures)
+    (outcome-first D (start .args .s) (start .args .t) (c .before .choose-transaction .result) (c .if2 .taken)
     (attempt-next D (start .args .s) (c .before .before .place .result) (start .args .t) 0 (c .before .choose-transaction .result) (start .pre .1) (c .before .before .place .ensures)
-    (fits-by D (start .args .s) (start .args .t) 0 _ (asked .before .rule-next .ensures) (asked .allows .ensures)) (c .before .before .before .if1 .taken) (c .before .choose-transaction .ensures))
+    (fits-by D (start .args .s) (start .args .t) 0 _ (asked .before .rule-next .ensures) (asked .allows .ensures)) (c .before .before .before .if1 .taken) (c .before .choose-transaction .ensures .completion)))
 
 choose-outcome-allows-requires-2 : (t : ℕ) → choose-outcome-lts.Need-allows-requires-2 (outcome-claims t) (choose-outcome-at t) choose-outcome.Post
 choose-outcome-allows-requires-2 t c κs =
@@ -140,7 +141,7 @@ missed t c =
     let D = constraints (start .args .starts .now) (start .args .predecessors .now) (start .args .allowed .now) (start .args .reads .now) (start .args .required .now) (start .args .written .now) in
     let fit = fits-by D (start .args .s) (start .args .t) 0 _ (c .before .before .rule-next .ensures) (c .before .allows .ensures) in
     ⊎-elim
-    (λ w. sym (attempt-next D (start .args .s) (w .1 .result) (start .args .t) 0 (w .2 .result) (start .pre .1) (w .1 .ensures) fit (w .0 .taken) (w .2 .ensures))
+    (λ w. sym (attempt-next D (start .args .s) (w .1 .result) (start .args .t) 0 (w .2 .result) (start .pre .1) (w .1 .ensures) fit (w .0 .taken) (w .2 .ensures .completion))
     ∙ answer-none (whole (start .args .s)) (w .2 .result) (w .3 .left))
     (λ w. attempt-none D (start .args .s) (start .args .t) 0 fit (w .left))
     (c .if1 .came)
@@ -150,17 +151,19 @@ choose-outcome-returns-2 t c =
     let start = c .before .before .before .before .before .before .before in
     let D = constraints (start .args .starts .now) (start .args .predecessors .now) (start .args .allowed .now) (start .args .reads .now) (start .args .required .now) (start .args .written .now) in
     let asked = c .before .before .before in
-    outcome-second D (start .args .s) (start .args .t) (missed t (asked .before))
+    answers-next (start .args .s) (c .before .place2 .result) (start .args .t) 1 (c .choose-transaction2 .result) (c .before .place2 .ensures) (c .choose-transaction2 .ensures)
+    (outcome-second D (start .args .s) (start .args .t) (missed t (asked .before))
     (attempt-next D (start .args .s) (c .before .place2 .result) (start .args .t) 1 (c .choose-transaction2 .result) (start .pre .1) (c .before .place2 .ensures)
-    (fits-by D (start .args .s) (start .args .t) 1 _ (asked .before .before .before .rule-next .ensures) (asked .allows2 .ensures)) (c .before .before .if3 .taken) (c .choose-transaction2 .ensures))
+    (fits-by D (start .args .s) (start .args .t) 1 _ (asked .before .before .before .rule-next .ensures) (asked .allows2 .ensures)) (c .before .before .if3 .taken) (c .choose-transaction2 .ensures .completion)))
 
 choose-outcome-returns-3 : (t : ℕ) → choose-outcome-lts.Need-returns-3 (outcome-claims t) (choose-outcome-at t) choose-outcome.Post
 choose-outcome-returns-3 t c =
     let start = c .before .before .before .before .before in
     let D = constraints (start .args .starts .now) (start .args .predecessors .now) (start .args .allowed .now) (start .args .reads .now) (start .args .required .now) (start .args .written .now) in
     let asked = c .before in
-    outcome-second D (start .args .s) (start .args .t) (missed t (asked .before))
-    (sym (attempt-none D (start .args .s) (start .args .t) 1 (fits-by D (start .args .s) (start .args .t) 1 _ (asked .before .before .before .rule-next .ensures) (asked .allows2 .ensures)) (c .if3 .left)))
+    answers-none (whole (start .args .s))
+    (outcome-second D (start .args .s) (start .args .t) (missed t (asked .before))
+    (sym (attempt-none D (start .args .s) (start .args .t) 1 (fits-by D (start .args .s) (start .args .t) 1 _ (asked .before .before .before .rule-next .ensures) (asked .allows2 .ensures)) (c .if3 .left))))
 
 -- the candidates left are unplaced, and the completion is among those with one of them next
 abbrev choose-transaction-Inv-loop : choose-transaction-lts.InvT-loop
@@ -207,9 +210,12 @@ choose-transaction-returns-2 t c =
     let start = c .before .before .before .before .before .before .before in
     let at = c .before .before .before .before .loop in
     let D = constraints (start .args .starts .now) (start .args .predecessors .now) (start .args .allowed .now) (start .args .reads .now) (start .args .required .now) (start .args .written .now) in
-    candidate-found D (start .args .s) (at .left) (c .before .before .lowest .result) (c .before .choose-outcome .result) (at .inv .0)
-    (small (start .args .s) (at .left) (start .pre .1) (at .inv .0)) (c .before .before .before .loop-test .taken) (c .before .before .lowest .ensures) (c .if2 .taken) (c .before .choose-outcome .ensures)
-    ∙ sym (at .inv .1)
+    record {
+      completion = candidate-found D (start .args .s) (at .left) (c .before .before .lowest .result) (c .before .choose-outcome .result) (at .inv .0)
+          (small (start .args .s) (at .left) (start .pre .1) (at .inv .0)) (c .before .before .before .loop-test .taken) (c .before .before .lowest .ensures) (c .if2 .taken) (c .before .choose-outcome .ensures .completion)
+          ∙ sym (at .inv .1);
+      room = c .before .choose-outcome .ensures .room;
+    }
 
 choose-transaction-without-requires : (t : ℕ) → choose-transaction-lts.Need-without-requires (transaction-claims t) (choose-transaction-at t) choose-transaction.Post choose-transaction-Inv-loop choose-transaction-μ-loop
 choose-transaction-without-requires t c κs =
@@ -234,14 +240,14 @@ choose-transaction-loop-again t c =
       within-rest D (start .args .s) (at .left) t′ (c .without .result) (at .inv .0) isIn (c .without .ensures),
       at .inv .1
           ∙ candidate-missed D (start .args .s) (at .left) t′ (c .without .result) (c .before .before .choose-outcome .result) (at .inv .0)
-          low some (c .before .before .before .lowest .ensures) (c .before .if2 .left) (c .before .before .choose-outcome .ensures) (c .without .ensures),
+          low some (c .before .before .before .lowest .ensures) (c .before .if2 .left) (c .before .before .choose-outcome .ensures .completion) (c .without .ensures),
     )
 
 choose-transaction-returns-3 : (t : ℕ) → choose-transaction-lts.Need-returns-3 (transaction-claims t) (choose-transaction-at t) choose-transaction.Post choose-transaction-Inv-loop choose-transaction-μ-loop
 choose-transaction-returns-3 t c =
     let start = c .before .before .before .before in
     let at = c .before .loop in
-    none-among (constraints (start .args .starts .now) (start .args .predecessors .now) (start .args .allowed .now) (start .args .reads .now) (start .args .required .now) (start .args .written .now)) (start .args .s) (at .left) (λ e. c .before .before .if1 .left (c .before .before .before .count .ensures ∙ e)) (c .loop-test .left) ∙ sym (at .inv .1)
+    answers-none (whole (start .args .s)) (none-among (constraints (start .args .starts .now) (start .args .predecessors .now) (start .args .allowed .now) (start .args .reads .now) (start .args .required .now) (start .args .written .now)) (start .args .s) (at .left) (λ e. c .before .before .if1 .left (c .before .before .before .count .ensures ∙ e)) (c .loop-test .left) ∙ sym (at .inv .1))
 
 pub +choose-outcome+choose-transaction-spec : {M : Type 1} → statement M
 +choose-outcome+choose-transaction-spec =

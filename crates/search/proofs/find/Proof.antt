@@ -29,8 +29,11 @@ returns c =
     let D = constraints (start .args .starts .now) (start .args .predecessors .now) (start .args .allowed .now) (start .args .reads .now) (start .args .required .now) (start .args .written .now) in
     let u = c .before .bit .result - 1 in
     let all : 0 + ones u ≡ start .args .n = zero-add (ones u) ∙ ap (λ (k : ℕ). ones (k - 1)) (c .before .bit .ensures) ∙ ones-ones (start .args .n) in
-    ap (λ (k : ℕ). readAnswer k (c .choose-transaction .result)) (sym all) ∙ c .choose-transaction .ensures
-    ∙ start-completes D (start .args .n) (c .before .bit .result - 1) (start .pre) (ap (λ (k : ℕ). k - 1) (c .before .bit .ensures))
+    record {
+      completion = ap (λ (k : ℕ). readAnswer k (c .choose-transaction .result)) (sym all) ∙ c .choose-transaction .ensures .completion
+          ∙ start-completes D (start .args .n) (c .before .bit .result - 1) (start .pre) (ap (λ (k : ℕ). k - 1) (c .before .bit .ensures));
+      room = rw all at (c .choose-transaction .ensures .room);
+    }
 
 pub find-spec : {M : Type 1} → statement M
 find-spec = tie.close (tie.spec bit-requires sub-t10 choose-transaction-requires returns)

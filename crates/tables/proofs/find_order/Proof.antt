@@ -89,7 +89,7 @@ returns c =
     let e : at .i ≡ start .args .n = omega arith in
     let count = c .before .before .before .before .before .before .transactions-begun .ensures in
     ap (λ (k : ℕ). decoded (readAnswer k (c .complete .result))) (sym count)
-    ∙ found-by (now (start .args .starts)) cs (start .args .n) _ _ _ (start .pre) (at .inv .1 ∙ ap (λ (k : ℕ). tablesOf (history cs k)) e) count (c .complete .ensures)
+    ∙ found-by (now (start .args .starts)) cs (start .args .n) _ _ _ (start .pre) (at .inv .1 ∙ ap (λ (k : ℕ). tablesOf (history cs k)) e) count (c .complete .ensures .completion)
 
 pub find-order-spec : {M : Type 1} → statement M
 find-order-spec =

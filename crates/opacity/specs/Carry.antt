@@ -1,0 +1,29 @@
+-- An order carried on to one event more: the order of places that is to justify the history with that event, and whether it does, asked of that
+-- event alone.
+-- Assumes nothing.
+use Prim.Native.Nat.{ℕ}
+use mathlib.Core.Bool.{Bool, true, false, not, cond}
+use mathlib.Core.List.{List, [], _∷_, _++_}
+use mathlib.Core.Option.{Option·getD}
+use lib.Dec.{eqb}
+use Rattle.events.specs.declared.event.Event.{Event}
+use Rattle.events.specs.Events.{isBegin, isRead, isCommit, isAbort}
+use Rattle.opacity.specs.Transactions.{lastWrite}
+use Rattle.opacity.specs.Justification.{Place, before, outcome, contents}
+use Rattle.opacity.specs.Lowest.{place}
+
+-- what t reads in r: what it wrote there last, or what r holds before the place of t
+unfoldable pub seen : (ℕ → ℕ) → List Event → List Place → ℕ → ℕ → ℕ
+seen start h J t r = Option·getD (lastWrite h t r) (contents start h (before t J) r)
+
+-- with a begin the new transaction comes last, aborted
+unfoldable pub carried : List Place → Event → List Place
+carried J e = cond (isBegin e) (J ++ (place (e .transaction) false ∷ [])) J
+
+-- a read returns what its transaction reads there, and an end is the outcome that the order has
+unfoldable pub carries : (ℕ → ℕ) → List Event → List Place → Event → Bool
+carries start h J e =
+    cond (isRead e) (eqb (seen start h J (e .transaction) (e .register)) (e .value))
+    (cond (isCommit e) (outcome (e .transaction) J)
+    (cond (isAbort e) (not (outcome (e .transaction) J))
+    true))

@@ -1,0 +1,51 @@
+-- `scan::witness::seen_by` meets its contract.
+-- Assumes nothing.
+use borrow.Author.Needs.{needs}
+use mathlib.Core.Path.{sym, ap, _∙_}
+use mathlib.Core.List.{List}
+use Prim.Native.Nat.{ℕ}
+use lib.ListN.{getD}
+use Rattle.events.specs.Starts.{startOf}
+use Rattle.opacity.specs.Justification.{Place, contents}
+use Rattle.search.specs.Places.{codesOf, decode, writesIn}
+use Rattle.scan.proofs.WitnessLaws.{seen-own, seen-store}
+use Rattle.scan.proofs.witness.seen_by.Statement.{statement}
+use Rattle.scan.proofs.witness.seen_by.Tie as tie
+
+slot-requires : tie.Need-slot-requires
+slot-requires c κs = search needs
+
+mul-own : tie.Need-mul-own
+mul-own c = search needs
+
+element-copy-out-own : tie.Need-element-copy-out-own
+element-copy-out-own c = search needs
+
+sub-result : tie.Need-sub-result
+sub-result c = search needs
+
+returns : tie.Need-returns
+returns c =
+    let a = c .before .before .before .args in
+    seen-own (startOf (a .starts .now)) (a .written .now) (decode (codesOf (a .count) (a .order))) (a .t) (a .r) (c .before .before .before .pre .1 .1) _
+    (ap (λ (k : ℕ). getD (a .written .now) k 0) (c .before .before .slot .ensures .0)) (c .if1 .taken)
+
+place-of-requires : tie.Need-place-of-requires
+place-of-requires c κs = search needs
+
+content-requires : tie.Need-content-requires
+content-requires c κs = search needs
+
+returns-2 : tie.Need-returns-2
+returns-2 c =
+    let start = c .before .before .before .before .before in
+    let a = start .args in
+    c .content .ensures
+    ∙ ap (λ (P : List Place). contents (startOf (a .starts .now)) (writesIn (a .written .now)) P (a .r)) (c .before .place-of .ensures .places)
+    ∙ seen-store (startOf (a .starts .now)) (a .written .now) (decode (codesOf (a .count) (a .order))) (a .t) (a .r) (start .pre .1 .1)
+    (ap (λ (k : ℕ). getD (a .written .now) k 0) (sym (c .before .before .before .before .slot .ensures .0)) ∙ c .before .before .if1 .left)
+
+pub seen-by-spec : {M : Type 1} → statement M
+seen-by-spec =
+    tie.close
+    (tie.spec slot-requires mul-own element-copy-out-own sub-result returns place-of-requires content-requires returns-2)

@@ -1,0 +1,35 @@
+-- The witness: an order of places that justifies the events passed, as one number, carried on to one event more.
+-- Assumes nothing.
+use mathlib.Core.Path.{_≡_}
+use Prim.Native.Nat.{ℕ, _+_, _*_, _^_, _<_}
+use mathlib.Core.Bool.{true, false, cond}
+use mathlib.Core.List.{List}
+use Rattle.events.specs.declared.event.Event.{Event}
+use Rattle.events.specs.Events.{isBegin}
+use Rattle.events.specs.Starts.{startOf}
+use Rattle.opacity.specs.Carry.{carries}
+use Rattle.search.specs.Places.{codesOf, decode, writesIn}
+use Rattle.search.specs.State.{Ordered}
+use Rattle.search.specs.Tree.{Completion, Answers}
+
+-- with a begin the new transaction comes last, aborted
+unfoldable pub carriedCode : ℕ → Event → ℕ
+carriedCode order e = cond (isBegin e) (order * 32 + e .transaction * 2) order
+
+-- the order of n places with the event e, if it justifies e too, and else 0; `written` is the table of last writes
+unfoldable pub kept : List ℕ → List ℕ → ℕ → ℕ → Event → ℕ
+kept starts written n order e = cond (carries (startOf starts) (writesIn written) (decode (codesOf n order)) e) (carriedCode order e) 0
+
+-- an order of n places and an event that may come next
+pub record Carryable (n order : ℕ) (e : Event) : Type 0 where
+  pub ordered : Ordered n order
+  pub room : order < 2 ^ (n * 5 + 1)
+  pub transaction : e .transaction < 10
+  pub register : e .register < 32
+  pub another : isBegin e ≡ true → n < 10
+  pub known : isBegin e ≡ false → e .transaction < n
+
+-- the answer a is the order that was kept, or, where that is 0, the answer of the search
+pub record Judges (kept n a : ℕ) (x : Completion) : Type 0 where
+  pub stays : (kept ≡ 0 → ⊥) → a ≡ kept
+  pub searched : kept ≡ 0 → Answers n a x
