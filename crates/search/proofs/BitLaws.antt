@@ -7,7 +7,7 @@ use Prim.Native.Nat.{ℕ, zero, suc, _+_, _-_, _*_, _/_, _%_, _^_, _≤_, _<_}
 use native.Mathlib.Nat.{pow-suc, add-zero, add-suc, suc-add}
 use native.Mathlib.Omega.{arith}
 use lib.Dec.{eqb}
-use lib.Pow.{pow-pos}
+use lib.Pow.{pow-pos, shr-shr}
 use lib.Count.{ones, ones-step, trailingZeros, under}
 use borrow.Author.Tests.{eq-eqb, ne-eqb}
 use Rattle.search.specs.Bits.{bitAt, consIf, membersIn, members}
@@ -55,7 +55,50 @@ member-off zero (suc j) n h g = rw (odd-off-half n h) at g
 member-off (suc k) zero n h g = sym (off-low n k (member-le k (n / 2) h)) ∙ g
 member-off (suc k) (suc j) n h g = member-off k j (n / 2) h (rw off-half at g)
 
+-- and what was there and is not k is left
+pub member-kept : (k j n : ℕ) → bitAt k n ≡ 1 → (j ≡ k → ⊥) → bitAt j n ≡ 1 → bitAt j (n - 2 ^ k) ≡ 1
+unfolding bitAt
+member-kept zero zero n h f g = absurd (f refl)
+member-kept zero (suc j) n h f g = rw (odd-off-half n h) g
+member-kept (suc k) zero n h f g = off-low n k (member-le k (n / 2) h) ∙ g
+member-kept (suc k) (suc j) n h f g = rw off-half (member-kept k j (n / 2) h (λ e. f (ap suc e)) g)
+
+-- k is not
+pub member-gone : (k n : ℕ) → bitAt k n ≡ 1 → bitAt k (n - 2 ^ k) ≡ 0
+unfolding bitAt
+member-gone zero n h = odd-off-low n h
+member-gone (suc k) n h = rw off-half (member-gone k (n / 2) h)
+
+-- the empty set has none
+pub no-member : (k n : ℕ) → n ≡ 0 → bitAt k n ≡ 1 → ⊥
+no-member k n e h = let p : 0 < 2 ^ k = pow-pos k in omega (arith, member-le k n h)
+
+-- a member as a digit
+pub bit-digit : (k n : ℕ) → bitAt k n ≡ n / 2 ^ k % 2
+unfolding bitAt
+bit-digit zero n = let e : n / 2 ^ 0 ≡ n = omega arith in rw e
+bit-digit (suc k) n =
+    let h : n / 2 ≡ n / 2 ^ 1 = omega arith in
+    let e : 1 + k ≡ suc k = omega arith in
+    bit-digit k (n / 2) ∙ ap (λ (x : ℕ). x / 2 ^ k % 2) h ∙ ap (λ (x : ℕ). x % 2) (shr-shr n 1 k ∙ ap (λ (x : ℕ). n / 2 ^ x) e)
+
+-- ---- the common members of two sets
+
+pub and-member : (k a b : ℕ) → bitAt k (bitAnd a b) ≡ 1 → (bitAt k a ≡ 1) × (bitAt k b ≡ 1)
+unfolding bitAt
+and-member zero a b h = (omega (arith, and-step a b), omega (arith, and-step a b))
+and-member (suc k) a b h = let e : bitAnd a b / 2 ≡ bitAnd (a / 2) (b / 2) = omega (arith, and-step a b) in and-member k (a / 2) (b / 2) (rw e at h)
+
+pub member-and : (k a b : ℕ) → bitAt k a ≡ 1 → bitAt k b ≡ 1 → bitAt k (bitAnd a b) ≡ 1
+unfolding bitAt
+member-and zero a b g h = omega (arith, and-step a b)
+member-and (suc k) a b g h = let e : bitAnd a b / 2 ≡ bitAnd (a / 2) (b / 2) = omega (arith, and-step a b) in rw e (member-and k (a / 2) (b / 2) g h)
+
 -- ---- the count
+
+pub none-counted : (d n : ℕ) → n < 2 ^ d → ones n ≡ 0 → n ≡ 0
+none-counted zero n l e = omega arith
+none-counted (suc d) n l e = let s = ones-step n in let r = none-counted d (n / 2) (half-lt n d l) (omega arith) in omega arith
 
 pub ones-off : (k n : ℕ) → bitAt k n ≡ 1 → ones n ≡ suc (ones (n - 2 ^ k))
 unfolding bitAt

@@ -4,4 +4,8 @@ pub mod SetLaws
 pub mod StateLaws
 pub mod LookupLaws
 pub mod PlaceLaws
+pub mod EffectLaws
 pub mod TreeLaws
+pub mod RunLaws
+pub mod HopeLaws
+pub mod OrphanLaws

@@ -6,7 +6,7 @@ use mathlib.Core.Bool.{Bool, true, false}
 use borrow.Author.Tests.{ne-eqb}
 use mathlib.Core.Option.{none}
 use Prim.Native.Nat.{ℕ, zero, suc, _+_, _-_, _*_, _^_, _≤_, _<_}
-use native.Mathlib.Nat.{zero-add, le-refl}
+use native.Mathlib.Nat.{zero-add}
 use native.Mathlib.Omega.{arith}
 use lib.Dec.{eqb}
 use lib.Pow.{pow-mono, pow-pos}
@@ -15,7 +15,8 @@ use Rattle.search.specs.declared.state.Search.{Search}
 use Rattle.search.specs.Bits.{bitAt, membersIn, members}
 use Rattle.search.specs.State.{placedOf, whole, Sound, Placeable, Within, Extends}
 use Rattle.search.specs.Tree.{Constraints, Completion, orElse, remove, ruleNext, allowsOutcome, fitsAt, firstOf, tryOne, tryBoth, fromCandidates, atTransaction, firstCompletion, readAnswer, Answers}
-use Rattle.search.proofs.BitLaws.{member-lt, member-off, ones-off, members-off, members-all}
+use Rattle.search.specs.Choice.{among, withNext, from}
+use Rattle.search.proofs.BitLaws.{member-lt, ones-off, members-off, members-all}
 use Rattle.search.proofs.SetLaws.{members-first, lowest-member}
 
 -- ---- answers
@@ -61,53 +62,56 @@ unfolding attempt tryOne
 attempt-next D s next t o a r x e f h =
     rw (← e, f, ← members-remove t (s .unplaced) (r .sound .few) (r .isIn), ← x .rest, ← x .places) (ap (λ (n : ℕ). readAnswer n a) (sym (x .total)) ∙ h)
 
--- the first outcome leads to a completion
-pub outcome-first : (D : Constraints) (s : Search) (t a : ℕ) → (a ≡ 0 → ⊥) → readAnswer (whole s) a ≡ attempt D s t 0
-    → readAnswer (whole s) a ≡ atTransaction D (ones (s .unplaced - 2 ^ t)) (placedOf s) (members (s .unplaced)) t
-unfolding attempt atTransaction tryBoth
-outcome-first D s t a f e = first-found (whole s) a (attempt D s t 1) f e
-
--- it does not, and the answer is the second's
-pub outcome-second : {x : Completion} (D : Constraints) (s : Search) (t : ℕ) → attempt D s t 0 ≡ none → x ≡ attempt D s t 1
-    → x ≡ atTransaction D (ones (s .unplaced - 2 ^ t)) (placedOf s) (members (s .unplaced)) t
-unfolding attempt atTransaction tryBoth
-outcome-second D s t e f = first-none e f
-
 -- ---- no more than the places
 
 -- the answer of the next state
-pub answers-next : {x y : Completion} (s next : Search) (t o a : ℕ) → Extends s t o next → Answers (whole next) a x → readAnswer (whole s) a ≡ y → Answers (whole s) a y
+pub answers-next : {x y : Completion} (s next : Search) (t o a : ℕ) → Extends s t o next → Answers (whole next) a x → readAnswer (whole s) a ≡ y
+    → Answers (whole s) a y
 answers-next s next t o a x h e = record { completion = e; room = rw (x .total) at (h .room) }
 
 -- none
 pub answers-none : {x : Completion} (n : ℕ) → none ≡ x → Answers n 0 x
 answers-none n e = record { completion = e; room = pow-pos (n * 5 + 1) }
 
+-- an answer read as another completion
+pub answers-as : {x y : Completion} (n a : ℕ) → Answers n a x → x ≡ y → Answers n a y
+answers-as n a h e = record { completion = h .completion ∙ e; room = h .room }
+
+module _ (D : Constraints) (s : Search) (t : ℕ) where
+  -- the first outcome leads to a completion
+  pub outcome-first : (a : ℕ) (y : Completion) → (a ≡ 0 → ⊥) → readAnswer (whole s) a ≡ attempt D s t 0
+      → readAnswer (whole s) a ≡ orElse (withNext D s t) y
+  unfolding attempt atTransaction tryBoth
+  outcome-first a y f e = first-found (whole s) a y f (first-found (whole s) a (attempt D s t 1) f e)
+
+  -- it does not, and the second does
+  pub outcome-second : (a : ℕ) (y : Completion) → (a ≡ 0 → ⊥) → attempt D s t 0 ≡ none → readAnswer (whole s) a ≡ attempt D s t 1
+      → readAnswer (whole s) a ≡ orElse (withNext D s t) y
+  unfolding attempt atTransaction tryBoth
+  outcome-second a y f e g = first-found (whole s) a y f (first-none e g)
+
+  -- neither does, and the other candidates decide
+  pub outcome-neither : {y : Completion} → attempt D s t 0 ≡ none → attempt D s t 1 ≡ none → y ≡ orElse (withNext D s t) y
+  unfolding attempt atTransaction tryBoth
+  outcome-neither e g = first-none (sym (first-none e (sym g))) refl
+
 -- ---- choosing a transaction
 
-pub all-placed : (D : Constraints) (s : Search) → Sound s → ones (s .unplaced) ≡ 0
-    → Answers (whole s) (s .placed) (fromCandidates D (ones (s .unplaced)) (placedOf s) (members (s .unplaced)) (members (s .unplaced)))
+pub all-placed : (D : Constraints) (s : Search) (c : ℕ) → Sound s → ones (s .unplaced) ≡ 0 → Answers (whole s) (s .placed) (among D s c)
 unfolding fromCandidates
-all-placed D s h e =
+all-placed D s c h e =
     let g : eqb (s .placed) 0 ≡ false = ne-eqb (s .placed) 0 (λ q. omega (arith, h .led)) in
     let n : s .filled + 0 ≡ s .filled = omega arith in
     record { completion = rw (e, g, n); room = rw (e, n) (h .room) }
 
 module _ (D : Constraints) (s : Search) where
-  -- the first completion with one of the candidates c next
-  abbrev pub among : ℕ → Completion
-  among c = fromCandidates D (ones (s .unplaced)) (placedOf s) (members (s .unplaced)) (members c)
-
-  -- the first with t next
-  abbrev pub with-next : ℕ → Completion
-  with-next t = atTransaction D (ones (s .unplaced - 2 ^ t)) (placedOf s) (members (s .unplaced)) t
-
-  next-candidate : (c t : ℕ) → Within s c → c < 2 ^ 64 → (c ≡ 0 → ⊥) → t ≡ trailingZeros 64 c → among c ≡ orElse (with-next t) (among (c - 2 ^ t))
+  -- the lowest candidate comes first, and then the others
+  pub next-candidate : (c t : ℕ) → Within (s .unplaced) c → c < 2 ^ 64 → (c ≡ 0 → ⊥) → t ≡ trailingZeros 64 c → among D s c ≡ from D s c t
   unfolding fromCandidates firstOf atTransaction
-  next-candidate c t w l f e = rw (members-first t c l f e, ones-off t (s .unplaced) (w .candidates t (lowest-member t c l f e)))
+  next-candidate c t w l f e = rw (members-first t c l f e, ones-off t (s .unplaced) (w .isIn t (lowest-member t c l f e)))
 
   -- no candidate, and something to be placed
-  pub none-among : (c : ℕ) → (ones (s .unplaced) ≡ 0 → ⊥) → c ≡ 0 → none ≡ among c
+  pub none-among : (c : ℕ) → (ones (s .unplaced) ≡ 0 → ⊥) → c ≡ 0 → none ≡ among D s c
   unfolding fromCandidates firstOf members membersIn
   none-among c f e = rw e (go (ones (s .unplaced)) f)
     where
@@ -115,28 +119,21 @@ module _ (D : Constraints) (s : Search) where
       go zero g = absurd (g refl)
       go (suc n) g = refl
 
-  -- a completion with the lowest candidate next
-  pub candidate-found : (c t a : ℕ) → Within s c → c < 2 ^ 64 → (c ≡ 0 → ⊥) → t ≡ trailingZeros 64 c → (a ≡ 0 → ⊥)
-      → readAnswer (whole s) a ≡ with-next t → readAnswer (whole s) a ≡ among c
-  candidate-found c t a w l f e h g = rw (next-candidate c t w l f e) (first-found (whole s) a _ h g)
+-- ---- the measure: unplaced transactions first, then candidates, and 1 before one is chosen
 
-  -- none: the candidates left decide
-  pub candidate-missed : (c t r a : ℕ) → Within s c → c < 2 ^ 64 → (c ≡ 0 → ⊥) → t ≡ trailingZeros 64 c → a ≡ 0
-      → readAnswer (whole s) a ≡ with-next t → r ≡ c - 2 ^ t → among c ≡ among r
-  candidate-missed c t r a w l f e h g q = rw (next-candidate c t w l f e, ← q) (sym (first-none (sym g ∙ answer-none (whole s) a h) refl))
+abbrev pub size : Search → ℕ → ℕ
+size s c = ones (s .unplaced) * 100 + ones c * 2
 
-  pub all-unplaced : Within s (s .unplaced)
-  all-unplaced = record { few = le-refl (s .unplaced); candidates = λ k h. h }
+-- a candidate has been tried
+pub falls-to-rest : (s : Search) (c t r : ℕ) → bitAt t c ≡ 1 → r ≡ c - 2 ^ t → size s r + 1 < size s c
+falls-to-rest s c t r h e = rw e (omega (arith, ones-off t c h))
 
-  pub within-rest : (c t r : ℕ) → Within s c → bitAt t c ≡ 1 → r ≡ c - 2 ^ t → Within s r
-  within-rest c t r w h e = record { few = omega (arith, w .few); candidates = λ k g. w .candidates k (member-off t k c h (rw e at g)) }
+-- a transaction has been placed
+pub fewer : (s next : Search) (t o : ℕ) → Placeable s t → Extends s t o next → ones (s .unplaced) ≡ suc (ones (next .unplaced))
+fewer s next t o r x = ones-off t (s .unplaced) (r .isIn) ∙ ap (λ (n : ℕ). suc (ones n)) (sym (x .rest))
 
--- ---- the measure: twice the unplaced transactions, and 1 before one is chosen
-
-pub falls-to-next : (s next : Search) (t o : ℕ) → Placeable s t → Extends s t o next → ones (next .unplaced) * 2 + 1 < ones (s .unplaced) * 2
-falls-to-next s next t o r x =
-    let e : ones (next .unplaced) ≡ ones (s .unplaced - 2 ^ t) = ap ones (x .rest) in
-    omega (arith, ones-off t (s .unplaced) (r .isIn))
+pub falls-to-next : (s next : Search) (c t o : ℕ) → Placeable s t → Extends s t o next → size next (next .unplaced) + 1 < size s c
+falls-to-next s next c t o r x = omega (arith, fewer s next t o r x, r .sound .fit)
 
 -- ---- the start
 

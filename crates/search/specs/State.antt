@@ -37,10 +37,10 @@ pub record Placeable (s : Search) (t : ℕ) : Type 0 where
   pub sound : Sound s
   pub isIn : bitAt t (s .unplaced) ≡ 1
 
--- the candidates c are unplaced
-pub record Within (s : Search) (c : ℕ) : Type 0 where
-  pub few : c ≤ s .unplaced
-  pub candidates : (k : ℕ) → bitAt k c ≡ 1 → bitAt k (s .unplaced) ≡ 1
+-- the set c is part of the set u
+pub record Within (u c : ℕ) : Type 0 where
+  pub few : c ≤ u
+  pub isIn : (k : ℕ) → bitAt k c ≡ 1 → bitAt k u ≡ 1
 
 -- r is s with t placed next
 pub record Extends (s : Search) (t o : ℕ) (r : Search) : Type 0 where

@@ -1,16 +1,20 @@
 // The lowest completion: a search over the orders and outcomes of at most ten transactions. `state` has the places filled, `lookup` what
-// they leave in a register, and here transactions and outcomes are chosen.
+// they leave in a register, `hope` the test that leaves a state which nothing completes, `effects` what a commit does to the reads of others,
+// and here transactions and outcomes are chosen.
 ghost use mathlib.Core.Path.{_≡_};
-ghost use Prim.Native.Nat.{_-_, _^_, _≤_, _<_};
-ghost use lib.Count.{ones};
-ghost use Rattle.search.specs.Bits.{members};
-ghost use Rattle.search.specs.State.{placedOf, whole, Sound, Placeable};
-ghost use Rattle.search.specs.Tree.{constraints, allowsOutcome, ruleNext, fromCandidates, atTransaction, firstCompletion, Answers};
+ghost use Prim.Native.Nat.{_≤_, _<_};
+ghost use Rattle.search.specs.Bits.{bitAt, members};
+ghost use Rattle.search.specs.State.{placedOf, whole, Sound, Placeable, Within};
+ghost use Rattle.search.specs.Tree.{constraints, allowsOutcome, ruleNext, firstCompletion, Answers};
+ghost use Rattle.search.specs.Choice.{among, from};
 
+mod effects;
+mod hope;
 pub mod lookup;
 pub mod sets;
 pub mod state;
 
+use hope::hopeful;
 use lookup::legal;
 use state::Search;
 
@@ -36,7 +40,10 @@ fn rule_next(
 ) -> u8
     requires { ⌜ Sound s ⌝ }
     requires { ⌜ t < 10 ⌝ }
-    ensures { λ r. ⌜ r ≡ ruleNext (constraints (now (starts .entry)) (now (predecessors .entry)) (now (allowed .entry)) (now (reads .entry)) (now (required .entry)) (now (written .entry))) (placedOf s) (members (s .unplaced)) t ⌝ }
+    ensures { λ r. ⌜ r ≡ ruleNext
+        (constraints (now (starts .entry)) (now (predecessors .entry)) (now (allowed .entry))
+        (now (reads .entry)) (now (required .entry)) (now (written .entry)))
+        (placedOf s) (members (s .unplaced)) t ⌝ }
 {
     if predecessors[t] & s.unplaced != 0 {
         return NONE;
@@ -57,8 +64,8 @@ fn allows(rule: u8, outcome: u8) -> bool
     rule == EITHER
 }
 
-// The first completion of the places filled: the next transaction is the lowest that leads to one. The answer has all places as a
-// state has them, or is 0 for none.
+// The first completion of the places filled whose next transaction is one of the candidates, lowest first. The answer has all places
+// as a state has them, or is 0 for none.
 fn choose_transaction(
     starts: &[u32; 32],
     predecessors: &[u64; 10],
@@ -67,35 +74,47 @@ fn choose_transaction(
     required: &[u64; 320],
     written: &[u64; 320],
     s: Search,
+    candidates: u64,
 ) -> u64
     requires { ⌜ Sound s ⌝ }
-    ensures { λ r. ⌜ Answers (whole s) r (fromCandidates (constraints (now (starts .entry)) (now (predecessors .entry)) (now (allowed .entry)) (now (reads .entry)) (now (required .entry)) (now (written .entry))) (ones (s .unplaced)) (placedOf s) (members (s .unplaced)) (members (s .unplaced))) ⌝ }
+    requires { ⌜ Within (s .unplaced) candidates ⌝ }
+    ensures { λ r. ⌜ Answers (whole s) r
+        (among (constraints (now (starts .entry)) (now (predecessors .entry)) (now (allowed .entry))
+        (now (reads .entry)) (now (required .entry)) (now (written .entry))) s candidates) ⌝ }
 {
     if sets::count(s.unplaced) == 0 {
         return s.placed;
     }
-    let mut left = s.unplaced;
-    while left != 0 {
-        let t = sets::lowest(left);
-        let order = choose_outcome(
-            starts,
-            predecessors,
-            allowed,
-            reads,
-            required,
-            written,
-            s,
-            t,
-        );
-        if order != 0 {
-            return order;
-        }
-        left = sets::without(left, t);
+    if candidates == 0 {
+        return 0;
     }
-    0
+    if !hopeful(
+        starts,
+        predecessors,
+        allowed,
+        reads,
+        required,
+        written,
+        s,
+        candidates,
+    ) {
+        return 0;
+    }
+    let t = sets::lowest(candidates);
+    choose_outcome(
+        starts,
+        predecessors,
+        allowed,
+        reads,
+        required,
+        written,
+        s,
+        candidates,
+        t,
+    )
 }
 
-// The first completion whose next transaction is t, aborted first; 0 for none.
+// The first completion whose next transaction is t, aborted first, or else one of the other candidates.
 fn choose_outcome(
     starts: &[u32; 32],
     predecessors: &[u64; 10],
@@ -104,10 +123,15 @@ fn choose_outcome(
     required: &[u64; 320],
     written: &[u64; 320],
     s: Search,
+    candidates: u64,
     t: usize,
 ) -> u64
     requires { ⌜ Placeable s t ⌝ }
-    ensures { λ r. ⌜ Answers (whole s) r (atTransaction (constraints (now (starts .entry)) (now (predecessors .entry)) (now (allowed .entry)) (now (reads .entry)) (now (required .entry)) (now (written .entry))) (ones (s .unplaced - 2 ^ t)) (placedOf s) (members (s .unplaced)) t) ⌝ }
+    requires { ⌜ Within (s .unplaced) candidates ⌝ }
+    requires { ⌜ bitAt t candidates ≡ 1 ⌝ }
+    ensures { λ r. ⌜ Answers (whole s) r
+        (from (constraints (now (starts .entry)) (now (predecessors .entry)) (now (allowed .entry))
+        (now (reads .entry)) (now (required .entry)) (now (written .entry))) s candidates t) ⌝ }
 {
     let rule = rule_next(
         starts,
@@ -129,6 +153,7 @@ fn choose_outcome(
             required,
             written,
             next,
+            next.unplaced,
         );
         if order != 0 {
             return order;
@@ -136,7 +161,7 @@ fn choose_outcome(
     }
     if allows(rule, COMMITTED) {
         let next = s.place(t, COMMITTED);
-        return choose_transaction(
+        let order = choose_transaction(
             starts,
             predecessors,
             allowed,
@@ -144,9 +169,22 @@ fn choose_outcome(
             required,
             written,
             next,
+            next.unplaced,
         );
+        if order != 0 {
+            return order;
+        }
     }
-    0
+    choose_transaction(
+        starts,
+        predecessors,
+        allowed,
+        reads,
+        required,
+        written,
+        s,
+        sets::without(candidates, t),
+    )
 }
 
 // The lowest completion of n transactions, from nothing placed; 0 for none.
@@ -160,12 +198,23 @@ pub fn find(
     n: usize,
 ) -> u64
     requires { ⌜ n ≤ 10 ⌝ }
-    ensures { λ r. ⌜ Answers n r (firstCompletion (constraints (now (starts .entry)) (now (predecessors .entry)) (now (allowed .entry)) (now (reads .entry)) (now (required .entry)) (now (written .entry))) n) ⌝ }
+    ensures { λ r. ⌜ Answers n r
+        (firstCompletion (constraints (now (starts .entry)) (now (predecessors .entry)) (now (allowed .entry))
+        (now (reads .entry)) (now (required .entry)) (now (written .entry))) n) ⌝ }
 {
     let s = Search {
         unplaced: sets::bit(n) - 1,
         filled: 0,
         placed: 1,
     };
-    choose_transaction(starts, predecessors, allowed, reads, required, written, s)
+    choose_transaction(
+        starts,
+        predecessors,
+        allowed,
+        reads,
+        required,
+        written,
+        s,
+        s.unplaced,
+    )
 }

@@ -14,7 +14,7 @@ use crate::state::code_at;
 
 const REGISTERS: usize = 32;
 
-fn value_of(x: u32) -> u64
+pub fn value_of(x: u32) -> u64
     ensures { λ r. ⌜ r ≡ x ⌝ }
 {
     x as u64

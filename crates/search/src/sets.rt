@@ -1,6 +1,7 @@
 // Sets of transactions, one bit each in a u64, and of registers, one bit each in a u32.
 ghost use mathlib.Core.Path.{_≡_};
 ghost use Prim.Native.Nat.{_-_, _^_, _<_};
+ghost use lib.Dec.{eqb};
 ghost use lib.Bits.{bitOr};
 ghost use lib.Count.{ones, trailingZeros};
 ghost use Rattle.search.specs.Bits.{bitAt};
@@ -25,6 +26,14 @@ pub fn count(set: u64) -> usize
     ensures { λ r. ⌜ r ≡ ones set ⌝ }
 {
     u64::count_ones(set) as usize
+}
+
+// Is t a member?
+pub fn has(set: u64, t: usize) -> bool
+    requires { ⌜ t < 64 ⌝ }
+    ensures { λ r. ⌜ r ≡ eqb (bitAt t set) 1 ⌝ }
+{
+    (set >> t) % 2 == 1
 }
 
 // The set without its member t.

@@ -10,6 +10,7 @@ use lib.Pow.{pow-pos}
 use Rattle.search.specs.Places.{codesOf}
 use Rattle.search.specs.Tree.{constraints, readAnswer}
 use Rattle.search.proofs.TreeLaws.{start-sound, start-completes}
+use Rattle.search.proofs.SetLaws.{within-self}
 use Rattle.search.proofs.find.Statement.{statement}
 use Rattle.search.proofs.find.Tie as tie
 
@@ -20,7 +21,7 @@ sub-t10 : tie.Need-sub-t10
 sub-t10 c = omega (arith, c .bit .ensures, pow-pos (c .before .args .n))
 
 choose-transaction-requires : tie.Need-choose-transaction-requires
-choose-transaction-requires c κs = start-sound (c .before .args .n) (c .bit .result - 1) (c .before .pre) (ap (λ (k : ℕ). k - 1) (c .bit .ensures))
+choose-transaction-requires c κs = (start-sound (c .before .args .n) (c .bit .result - 1) (c .before .pre) (ap (λ (k : ℕ). k - 1) (c .bit .ensures)), within-self _)
 
 returns : tie.Need-returns
 unfolding codesOf

@@ -1,0 +1,85 @@
+-- `search::hope::ready_after` meets its contract, as `ready_among` does.
+-- Assumes nothing.
+use native.Mathlib.Omega.{arith}
+use lib.Pow.{pow-pos}
+use Rattle.search.specs.State.{placedOf, Within}
+use Rattle.search.specs.Runs.{legalFor, Keeps, Renewed}
+use Rattle.search.proofs.BitLaws.{member-le, member-lt}
+use Rattle.search.proofs.SetLaws.{lowest-member, keeps-all, keeps-on}
+use Rattle.search.proofs.hope.ready_after.Statement.{statement}
+use Rattle.search.proofs.hope.ready_after.Tie as tie
+
+abbrev Inv-loop : tie.InvT-loop
+Inv-loop starts reads required written s x ready after₀ left₀ after left =
+    Keeps (Renewed (legalFor starts reads required written) (placedOf s) x ready) (s .unplaced) after × Within after left
+
+abbrev μ-loop : tie.MeasureT-loop
+μ-loop starts reads required written s x ready after₀ left₀ after left = left
+
+loop-holds : tie.Need-loop-holds Inv-loop μ-loop
+loop-holds c = keeps-all _ (c .args .s .unplaced)
+
+lowest-requires : tie.Need-lowest-requires Inv-loop μ-loop
+lowest-requires c κs = tt
+
+still-ready-requires : tie.Need-still-ready-requires Inv-loop μ-loop
+still-ready-requires c κs =
+    let start = c .before .before .before in
+    let at = c .before .before .loop in
+    let t = c .lowest .result in
+    let isIn = lowest-member t (at .left) (omega (arith, at .inv .1 .few, at .inv .0 .within .few, start .pre .0 .few)) (c .before .loop-test .taken) (c .lowest .ensures) in
+    (start .pre .0, (start .pre .1, member-lt t (start .args .s .unplaced) 10 (at .inv .0 .within .isIn t (at .inv .1 .isIn t isIn)) (start .pre .0 .few)))
+
+kept-requires : tie.Need-kept-requires Inv-loop μ-loop
+kept-requires c κs =
+    let start = c .before .before .before .before in
+    let at = c .before .before .before .loop in
+    let t = c .before .lowest .result in
+    let isIn = lowest-member t (at .left) (omega (arith, at .inv .1 .few, at .inv .0 .within .few, start .pre .0 .few)) (c .before .before .loop-test .taken) (c .before .lowest .ensures) in
+    at .inv .1 .isIn t isIn
+
+without-requires : tie.Need-without-requires Inv-loop μ-loop
+without-requires c κs =
+    let start = c .before .before .before .before .before in
+    let at = c .before .before .before .before .loop in
+    let t = c .before .before .lowest .result in
+    let isIn = lowest-member t (at .left) (omega (arith, at .inv .1 .few, at .inv .0 .within .few, start .pre .0 .few)) (c .before .before .before .loop-test .taken) (c .before .before .lowest .ensures) in
+    isIn
+
+loop-less : tie.Need-loop-less Inv-loop μ-loop
+loop-less c =
+    let start = c .before .before .before .before .before .before in
+    let at = c .before .before .before .before .before .loop in
+    let t = c .before .before .before .lowest .result in
+    let isIn = lowest-member t (at .left) (omega (arith, at .inv .1 .few, at .inv .0 .within .few, start .pre .0 .few)) (c .before .before .before .before .loop-test .taken) (c .before .before .before .lowest .ensures) in
+    let less = member-le t (at .left) isIn in
+    let positive = pow-pos t in
+    omega (arith, c .without .ensures)
+
+loop-again : tie.Need-loop-again Inv-loop μ-loop
+loop-again c =
+    let start = c .before .before .before .before .before .before in
+    let at = c .before .before .before .before .before .loop in
+    let t = c .before .before .before .lowest .result in
+    let isIn = lowest-member t (at .left) (omega (arith, at .inv .1 .few, at .inv .0 .within .few, start .pre .0 .few)) (c .before .before .before .before .loop-test .taken) (c .before .before .before .lowest .ensures) in
+    let a = start .args in
+    keeps-on (Renewed (legalFor (a .starts .now) (a .reads .now) (a .required .now) (a .written .now)) (placedOf (a .s)) (a .x) (a .ready)) (a .s .unplaced) (at .after) (at .left) t
+    (c .before .before .still-ready .result) (c .before .kept .result) (c .without .result) (at .inv .0) (at .inv .1) isIn (c .before .before .still-ready .ensures) (c .before .kept .ensures) (c .without .ensures)
+
+returns : tie.Need-returns Inv-loop μ-loop
+returns c = c .before .loop .inv .0
+
+pub ready-after-spec : {M : Type 1} → statement M
+ready-after-spec =
+    tie.close
+    (tie.spec
+    Inv-loop
+    μ-loop
+    loop-holds
+    lowest-requires
+    still-ready-requires
+    kept-requires
+    without-requires
+    loop-less
+    loop-again
+    returns)
