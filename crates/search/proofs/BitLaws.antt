@@ -2,16 +2,16 @@
 -- Assumes nothing.
 use mathlib.Core.Path.{_≡_, refl, sym, ap, _∙_}
 use mathlib.Core.List.{List, [], _∷_}
-use mathlib.Core.Bool.{true, false}
-use Prim.Native.Nat.{ℕ, zero, suc, _+_, _-_, _*_, _/_, _%_, _^_, _≤_, _<_}
+use mathlib.Core.Bool.{Bool, true, false, cond}
+use Prim.Native.Nat.{ℕ, zero, suc, max, _+_, _-_, _*_, _/_, _%_, _^_, _≤_, _<_}
 use native.Mathlib.Nat.{pow-suc, add-zero, add-suc, suc-add}
 use native.Mathlib.Omega.{arith}
 use lib.Dec.{eqb}
 use lib.Pow.{pow-pos, shr-shr}
 use lib.Count.{ones, ones-step, trailingZeros, under}
-use borrow.Author.Tests.{eq-eqb, ne-eqb}
+use borrow.Author.Tests.{eqb-true, eqb-false, eq-eqb, ne-eqb}
 use Rattle.search.specs.Bits.{bitAt, consIf, membersIn, members}
-use lib.Bits.{bitAnd, and-step, and-zero-r}
+use lib.Bits.{bitAnd, bitOr, bitXor, differ, and-step, and-zero-r, or-step, or-zero-r, xor-step}
 use Rattle.search.specs.Tree.{remove, noneIn, upFrom}
 
 -- ---- halving a number with a digit taken off
@@ -93,6 +93,68 @@ pub member-and : (k a b : ℕ) → bitAt k a ≡ 1 → bitAt k b ≡ 1 → bitAt
 unfolding bitAt
 member-and zero a b g h = omega (arith, and-step a b)
 member-and (suc k) a b g h = let e : bitAnd a b / 2 ≡ bitAnd (a / 2) (b / 2) = omega (arith, and-step a b) in rw e (member-and k (a / 2) (b / 2) g h)
+
+-- ---- the members of one of two sets alone
+
+pub xor-member : (k a b : ℕ) → (bitAt k b ≡ 1 → bitAt k a ≡ 1) → bitAt k (bitXor a b) ≡ 1 → bitAt k a ≡ 1
+unfolding bitAt
+xor-member zero a b sub h = go (a % 2) refl (b % 2) refl (omega arith) (omega arith)
+  where
+    go : (x : ℕ) → a % 2 ≡ x → (y : ℕ) → b % 2 ≡ y → x < 2 → y < 2 → a % 2 ≡ 1
+    go (suc zero) e y f l m = e
+    go zero e zero f l m = absurd (let s = rw (e, f) at (xor-step a b) in omega arith)
+    go zero e (suc y) f l m = absurd (let q : b % 2 ≡ 1 = omega arith in omega (arith, sub q))
+    go (suc (suc x)) e y f l m = absurd (omega arith)
+xor-member (suc k) a b sub h =
+    let s = xor-step a b in
+    let l : differ (a % 2) (b % 2) < 2 = differ-lt (a % 2) (b % 2) (omega arith) (omega arith) in
+    let e : bitXor a b / 2 ≡ bitXor (a / 2) (b / 2) = omega arith in
+    xor-member k (a / 2) (b / 2) sub (rw e at h)
+  where
+    differ-lt : (x y : ℕ) → x < 2 → y < 2 → differ x y < 2
+    differ-lt zero y l m = m
+    differ-lt (suc x) zero l m = omega arith
+    differ-lt (suc x) (suc y) l m = differ-lt x y (omega arith) (omega arith)
+
+-- ---- one bit more in a set
+
+pub bit-none : (x : ℕ) → bitAt x 0 ≡ 0
+unfolding bitAt
+bit-none zero = refl
+bit-none (suc x) = bit-none x
+
+or-half : (a b : ℕ) → bitOr a b / 2 ≡ bitOr (a / 2) (b / 2)
+or-half a b = let s = or-step a b in let l : max (a % 2) (b % 2) < 2 = omega arith in omega arith
+
+or-low : (a b : ℕ) → bitOr a b % 2 ≡ max (a % 2) (b % 2)
+or-low a b = let s = or-step a b in let l : max (a % 2) (b % 2) < 2 = omega arith in omega arith
+
+eqb-suc : (t x : ℕ) → eqb (suc t) (suc x) ≡ eqb t x
+eqb-suc t x = go (eqb t x) refl
+  where
+    go : (b : Bool) → eqb t x ≡ b → eqb (suc t) (suc x) ≡ b
+    go true e = eq-eqb (suc t) (suc x) (ap suc (eqb-true t x e))
+    go false e = ne-eqb (suc t) (suc x) (λ q. eqb-false t x e (omega arith))
+
+pub bit-with : (x t n : ℕ) → bitAt x (bitOr n (2 ^ t)) ≡ cond (eqb t x) 1 (bitAt x n)
+unfolding bitAt
+bit-with zero zero n = rw (or-low n 1) (omega arith)
+bit-with (suc x) zero n = let f : eqb 0 (suc x) ≡ false = ne-eqb 0 (suc x) (λ q. omega arith) in rw (or-half n 1, or-zero-r, f)
+bit-with zero (suc t) n =
+    let e : 2 ^ suc t % 2 ≡ 0 = rw pow-suc (omega arith) in
+    let f : eqb (suc t) 0 ≡ false = ne-eqb (suc t) 0 (λ q. omega arith) in
+    rw (or-low n (2 ^ suc t), e, f) (omega arith)
+bit-with (suc x) (suc t) n = let e : 2 ^ suc t / 2 ≡ 2 ^ t = rw pow-suc (omega arith) in rw (or-half n (2 ^ suc t), e, eqb-suc t x) (bit-with x t (n / 2))
+
+-- all of the lowest n digits
+pub bit-all : (k n : ℕ) → k < n → bitAt k (2 ^ n - 1) ≡ 1
+unfolding bitAt
+bit-all k zero l = absurd (omega arith)
+bit-all zero (suc n) l = let p = pow-pos n in rw pow-suc (omega arith)
+bit-all (suc k) (suc n) l =
+    let p = pow-pos n in
+    let h : (2 ^ suc n - 1) / 2 ≡ 2 ^ n - 1 = rw pow-suc (omega arith) in
+    rw h (bit-all k n (omega arith))
 
 -- ---- the count
 

@@ -1,15 +1,16 @@
 -- What the commit of a transaction does to the store reads of another.
 -- Assumes nothing.
-use mathlib.Core.Path.{_≡_, refl, sym, ap, _∙_}
-use Prim.Native.Nat.{ℕ, _+_, _*_, _-_, _/_, _^_, _<_}
+use mathlib.Core.Path.{_≡_, refl, sym, ap, _∙_, subst}
+use Prim.Native.Nat.{ℕ, _+_, _*_, _-_, _/_, _%_, _^_, _<_}
 use native.Mathlib.Omega.{arith}
 use mathlib.Core.List.{List, [], _∷_, _++_}
-use mathlib.Core.Bool.{Bool, true, false}
+use mathlib.Core.Bool.{Bool, true, false, cond}
 use mathlib.Core.Option.{Option, none, some, Option·getD}
-use lib.ListN.{getD}
-use lib.Bits.{bitOr, and-le-l, and-le-r, or-add-and}
+use lib.ListN.{length, getD, set, replicate, getD-replicate}
+use lib.Seq.{getD-set-same, getD-set-other}
+use lib.Bits.{bitAnd, bitOr, and-le-l, and-le-r, or-add-and}
 use lib.Dec.{eqb}
-use borrow.Author.Tests.{eqb-true, ne-eqb}
+use borrow.Author.Tests.{eqb-true, eqb-false, ne-eqb}
 use Rattle.events.specs.Lists.{all}
 use Rattle.events.specs.Starts.{startOf}
 use Rattle.opacity.specs.Justification.{written, contents}
@@ -17,8 +18,8 @@ use Rattle.opacity.proofs.Contents.{contents-more}
 use Rattle.search.specs.Bits.{bitAt, members}
 use Rattle.search.specs.Places.{coded, decode, plus, writesIn, writeOf}
 use Rattle.search.specs.Tree.{legalAt}
-use Rattle.search.specs.Runs.{Effect}
-use Rattle.search.proofs.BitLaws.{member-lt}
+use Rattle.search.specs.Runs.{legalFor, Effect, Writes, Written, Renewed, Stays}
+use Rattle.search.proofs.BitLaws.{member-lt, and-member, member-and, bit-with, bit-all}
 use Rattle.search.proofs.SetLaws.{member-passes, members-pass}
 use Rattle.search.proofs.LookupLaws.{committed-wrote, decode-snoc}
 
@@ -92,3 +93,87 @@ or-none a b e = (omega (arith, or-add-and a b, and-le-r a b), omega (arith, or-a
 
 pub all-members : (f g : ℕ → Bool) (set : ℕ) → set < 2 ^ 32 → ((k : ℕ) → bitAt k set ≡ 1 → f k ≡ true → g k ≡ true) → all f (members set) ≡ true → all g (members set) ≡ true
 all-members f g set low h t = members-pass g set (λ k b. h k b (member-passes f set t k (omega (arith, member-lt k set 32 b low)) b))
+
+-- a register that x does not write needs no asking
+pub effect-among : (w v : List ℕ) (x t reads registers e : ℕ) → reads < 2 ^ 32 → Writes v x registers
+    → Effect (λ (o p : List ℕ). all (legalAt o w (writesIn v) p t) (members (bitAnd reads registers))) x e
+    → Effect (λ (o p : List ℕ). all (legalAt o w (writesIn v) p t) (members reads)) x e
+effect-among w v x t reads registers e low writes f =
+    record {
+      small = f .small;
+      untouched = λ z o p h. all-members (λ k. legalAt o w (writesIn v) (p ++ ((x * 2 + 1) ∷ [])) t k) (λ k. legalAt o w (writesIn v) p t k) reads low
+          (λ k b g. go o p k b (member-lt k reads 32 b low) g (f .untouched z o p (part o p h)) (eqb (getD v (x * 32 + k) 0) 0) refl) h;
+      spoilt = λ z o p h. f .spoilt z o p (part o p h);
+    }
+  where
+    part : (o p : List ℕ) → all (legalAt o w (writesIn v) (p ++ ((x * 2 + 1) ∷ [])) t) (members reads) ≡ true
+        → all (legalAt o w (writesIn v) (p ++ ((x * 2 + 1) ∷ [])) t) (members (bitAnd reads registers)) ≡ true
+    part o p h = members-pass _ (bitAnd reads registers) (λ k b.
+        let m = and-member k reads registers b .0 in member-passes _ reads h k (omega (arith, member-lt k reads 32 m low)) m)
+
+    go : (o p : List ℕ) (k : ℕ) → bitAt k reads ≡ 1 → k < 32 → legalAt o w (writesIn v) (p ++ ((x * 2 + 1) ∷ [])) t k ≡ true
+        → all (legalAt o w (writesIn v) p t) (members (bitAnd reads registers)) ≡ true → (d : Bool) → eqb (getD v (x * 32 + k) 0) 0 ≡ d → legalAt o w (writesIn v) p t k ≡ true
+    go o p k b l g h true q = writes-nothing w v x t k l (eqb-true _ _ q) .untouched refl o p g
+    go o p k b l g h false q = member-passes _ (bitAnd reads registers) h k (omega arith) (member-and k reads registers b (writes .has k l (eqb-false _ _ q)))
+
+-- one that is legal now, and was ready if it was legal before, stays ready by the effect
+pub stays : (o reads w v p : List ℕ) (x ready t e : ℕ) → Effect (λ (q l : List ℕ). legalFor q reads w v l t) x e → Renewed (legalFor o reads w v) p x ready t
+    → Stays (legalFor o reads w v p t) ready t e
+stays o reads w v p x ready t e f h =
+    let after : legalFor o reads w v (h .before ++ ((x * 2 + 1) ∷ [])) t ≡ true = subst (λ (l : List ℕ). legalFor o reads w v l t ≡ true) (h .grown) (h .is) in
+    record { is = h .is; unspoilt = λ z. f .spoilt z o (h .before) after; was = λ z. h .was (f .untouched z o (h .before) after) }
+
+-- ---- the registers that each writes
+
+-- what the table holds below i is noted
+pub record Noted (v m : List ℕ) (i : ℕ) : Type 0 where
+  pub below : (k : ℕ) → k < i → (getD v k 0 ≡ 0 → ⊥) → bitAt (k % 32) (getD m (k / 32) 0) ≡ 1
+
+pub noted-none : (v m : List ℕ) → Noted v m 0
+noted-none v m = record { below = λ k l f. absurd (omega arith) }
+
+module _ (v m : List ℕ) (i : ℕ) (long : length m ≡ 10) (low : i < 320) (noted : Noted v m i) where
+  -- the set at the place of i, with the register of i in it if the table holds something there
+  abbrev pub one-more : ℕ
+  one-more = cond (eqb (getD v i 0) 0) (getD m (i / 32) 0) (bitOr (getD m (i / 32) 0) (2 ^ (i % 32)))
+
+  more-has : (k : ℕ) → k < i + 1 → k / 32 ≡ i / 32 → (getD v k 0 ≡ 0 → ⊥) → bitAt (k % 32) one-more ≡ 1
+  more-has k l same f = go (eqb (getD v i 0) 0) refl (eqb (i % 32) (k % 32)) refl
+    where
+      old : (k ≡ i → ⊥) → bitAt (k % 32) (getD m (i / 32) 0) ≡ 1
+      old n = rw same at (noted .below k (omega arith) f)
+
+      go : (b : Bool) → eqb (getD v i 0) 0 ≡ b → (d : Bool) → eqb (i % 32) (k % 32) ≡ d
+          → bitAt (k % 32) (cond b (getD m (i / 32) 0) (bitOr (getD m (i / 32) 0) (2 ^ (i % 32)))) ≡ 1
+      go true e d p = old (λ q. f (ap (λ (n : ℕ). getD v n 0) q ∙ eqb-true _ _ e))
+      go false e true p = bit-with (k % 32) (i % 32) (getD m (i / 32) 0) ∙ (rw p)
+      go false e false p = bit-with (k % 32) (i % 32) (getD m (i / 32) 0) ∙ (rw p (old (λ q. eqb-false _ _ p (ap (λ (n : ℕ). n % 32) (sym q)))))
+
+  pub noted-on : (n : ℕ) → n ≡ one-more → Noted v (set m (i / 32) n) (i + 1)
+  noted-on n e = record { below = λ k l f. go k l f (eqb (k / 32) (i / 32)) refl }
+    where
+      go : (k : ℕ) → k < i + 1 → (getD v k 0 ≡ 0 → ⊥) → (b : Bool) → eqb (k / 32) (i / 32) ≡ b → bitAt (k % 32) (getD (set m (i / 32) n) (k / 32) 0) ≡ 1
+      go k l f true q =
+          let same : k / 32 ≡ i / 32 = eqb-true _ _ q in
+          rw (same, getD-set-same m (i / 32) n 0 (omega arith), e) (more-has k l same f)
+      go k l f false q =
+          let other : k / 32 ≡ i / 32 → ⊥ = eqb-false _ _ q in
+          rw (getD-set-other m (i / 32) (k / 32) n 0 other) (noted .below k (less k l (λ r. other (ap (λ (x : ℕ). x / 32) r))) f)
+        where
+          less : (x : ℕ) → x < i + 1 → (x ≡ i → ⊥) → x < i
+          less x g h = omega arith
+
+pub noted-all : (v m : List ℕ) → Noted v m 320 → Written v m
+noted-all v m n =
+    record {
+      at = λ t low. record {
+        has = λ r l f.
+            let a : (t * 32 + r) % 32 ≡ r = omega arith in
+            let b : (t * 32 + r) / 32 ≡ t = omega arith in
+            rw (a, b) at (n .below (t * 32 + r) (omega arith) f);
+      };
+    }
+
+-- all registers are, whatever is written
+pub all-written : (v : List ℕ) → Written v (replicate 10 4294967295)
+all-written v = record { at = λ t low. record { has = λ r l f. ap (bitAt r) (getD-replicate 10 t 4294967295 0 low) ∙ bit-all r 32 l } }

@@ -174,8 +174,9 @@ ready-on o x w v s next t ready after r e known k =
     }
 
 -- fewer are needed
-pub awaited-less : (D : Constraints) (s : Search) (need rest u : ℕ) (p l : List ℕ) → Within need rest → Awaited D s need u p l → Awaited D s rest u p l
-awaited-less D s need rest u p l w a = record { few = a .few; alike = a .alike; needed = λ k h. a .needed k (w .isIn k h); unplaced = a .unplaced; run = a .run }
+pub awaited-less : (D : Constraints) (s : Search) (need rest u : ℕ) (p l : List ℕ) → ((k : ℕ) → bitAt k rest ≡ 1 → bitAt k need ≡ 1)
+    → Awaited D s need u p l → Awaited D s rest u p l
+awaited-less D s need rest u p l w a = record { few = a .few; alike = a .alike; needed = λ k h. a .needed k (w k h); unplaced = a .unplaced; run = a .run }
 
 module _ (D : Constraints) (s : Search) (need ready : ℕ) (low : need < 2 ^ 64) (more : need ≡ 0 → ⊥)
     (keeps : Knows D s ready)

@@ -1,4 +1,4 @@
--- A read that has been spoilt, and that nobody who is left can make good, stays so: there is no run.
+-- A read that is not legal, and that nobody who is left can make so, stays so: there is no run.
 -- Assumes nothing.
 use mathlib.Core.Path.{_≡_, refl, sym}
 use Prim.Native.Nat.{ℕ, zero, suc, _+_, _*_, _-_, _/_, _%_, _^_, _<_}
@@ -6,21 +6,19 @@ use native.Mathlib.Omega.{arith}
 use mathlib.Core.List.{List, [], _∷_, _++_}
 use mathlib.Core.Bool.{Bool, true, false}
 use lib.ListN.{getD}
-use lib.Bits.{bitAnd}
 use lib.Dec.{eqb}
 use borrow.Author.Tests.{eqb-true, eqb-false, eq-eqb}
 use Rattle.events.proofs.ListLaws.{not-true, clash}
 use Rattle.search.specs.declared.state.Search.{Search}
 use Rattle.search.specs.Bits.{bitAt}
 use Rattle.search.specs.Places.{writesIn}
-use Rattle.search.specs.State.{Extends}
 use Rattle.search.specs.Tree.{constraints, legalAt, legalReads}
 use Rattle.search.specs.Runs.{runs, holds, Awaited, NoSource, Orphaned}
 use Rattle.search.proofs.BitLaws.{member-off, member-kept, no-member}
 use Rattle.search.proofs.SetLaws.{member-passes}
 use Rattle.search.proofs.EffectLaws.{writes-nothing, reads-nothing, spoils}
 use Rattle.search.proofs.RunLaws.{Step, step-of, runs-empty}
-use Rattle.search.proofs.HopeLaws.{Fits, fits-parts, not-other, aborted-place, committed-next}
+use Rattle.search.proofs.HopeLaws.{Fits, fits-parts, not-other, aborted-place}
 
 module _ (o b a x w v : List ℕ) (t r set : ℕ) (low : r < 32) (isRead : bitAt r (getD x t 0) ≡ 1)
     (none : (k : ℕ) → bitAt k set ≡ 1 → NoSource a v t r (getD w (t * 32 + r) 0) k) where
@@ -69,11 +67,11 @@ module _ (o b a x w v : List ℕ) (t r set : ℕ) (low : r < 32) (isRead : bitAt
           (λ q. clash (eq-eqb (getD a y 0) 0 q) (not-true _ (not-other (getD a y 0) 1 0 (omega arith) (omega arith) (λ n. omega arith) (f .allowed)))) h)) (s .rest)
       go y (suc (suc z)) two s f false d ih = omega arith
 
--- so that no run begins with a commit that orphans one that is needed
-pub orphan-run : (o b a x w v : List ℕ) (s next : Search) (need u : ℕ) (p l : List ℕ) (t : ℕ) → Extends s t 1 next
-    → Orphaned a x w v (bitAnd need (next .unplaced)) (next .unplaced) t → Awaited (constraints o b a x w v) s need u p ((t * 2 + 1) ∷ l) → ⊥
-orphan-run o b a x w v s next need u p l t e g h =
-    let n = committed-next (constraints o b a x w v) s need u p l t next e h in
+-- so that a state in which such a read is of one that is needed waits for none
+pub orphaned-run : (o b a x w v : List ℕ) (s : Search) (need u : ℕ) (p l : List ℕ) → Orphaned o a x w v s need
+    → Awaited (constraints o b a x w v) s need u p l → ⊥
+unfolding legalAt holds
+orphaned-run o b a x w v s need u p l g h =
     let k = g .orphan in
-    lost-run o b a x w v (g .t) (k .register) (next .unplaced) (k .low) (k .isRead) (k .lost .none) l (u - 2 ^ t) (p ++ ((t * 2 + 1) ∷ []))
-    (n .few) (n .needed (g .t) (g .needed)) (n .unplaced) (k .lost .spoilt o p) (n .run)
+    lost-run o b a x w v (g .t) (k .register) (s .unplaced) (k .low) (k .isRead) (k .lost .none) l u p (h .few) (h .needed (g .t) (g .needed)) (h .unplaced)
+    (λ e. clash (rw (h .alike (k .register)) at e) (k .lost .wrong)) (h .run)

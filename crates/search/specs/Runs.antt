@@ -64,23 +64,31 @@ pub record Effect (legal : List ℕ → List ℕ → Bool) (x e : ℕ) : Type 0 
 abbrev pub NoSource : List ℕ → List ℕ → ℕ → ℕ → ℕ → ℕ → Type 0
 NoSource allowed written t r v k = (k ≡ t → ⊥) → (getD allowed k 0 ≡ 0 → ⊥) → getD written (k * 32 + r) 0 ≡ v → ⊥
 
--- the read of r by t is not legal where x has just committed, and nobody of the set can make it so
-pub record Lost (allowed required written : List ℕ) (set x t r : ℕ) : Type 0 where
-  pub spoilt : (o p : List ℕ) → legalAt o required (writesIn written) (p ++ ((x * 2 + 1) ∷ [])) t r ≡ true → ⊥
-  pub none : (k : ℕ) → bitAt k set ≡ 1 → NoSource allowed written t r (getD required (t * 32 + r) 0) k
+-- the read of r by t is not legal after the places of s, and nobody unplaced can make it so
+pub record Lost (starts allowed required written : List ℕ) (s : Search) (t r : ℕ) : Type 0 where
+  pub wrong : legalAt starts required (writesIn written) (placedOf s) t r ≡ false
+  pub none : (k : ℕ) → bitAt k (s .unplaced) ≡ 1 → NoSource allowed written t r (getD required (t * 32 + r) 0) k
 
--- a read of t is
-pub record Orphan (allowed required written : List ℕ) (set x t registers : ℕ) : Type 0 where
+-- a read of t from one of these registers is
+pub record Orphan (starts allowed required written : List ℕ) (s : Search) (t registers : ℕ) : Type 0 where
   pub register : ℕ
   pub low : register < 32
   pub isRead : bitAt register registers ≡ 1
-  pub lost : Lost allowed required written set x t register
+  pub lost : Lost starts allowed required written s t register
 
 -- a read of a needed one is
-pub record Orphaned (allowed reads required written : List ℕ) (need set x : ℕ) : Type 0 where
+pub record Orphaned (starts allowed reads required written : List ℕ) (s : Search) (need : ℕ) : Type 0 where
   pub t : ℕ
   pub needed : bitAt t need ≡ 1
-  pub orphan : Orphan allowed required written set x t (getD reads t 0)
+  pub orphan : Orphan starts allowed required written s t (getD reads t 0)
+
+-- registers has all that x writes, one bit each
+pub record Writes (written : List ℕ) (x registers : ℕ) : Type 0 where
+  pub has : (r : ℕ) → r < 32 → (getD written (x * 32 + r) 0 ≡ 0 → ⊥) → bitAt r registers ≡ 1
+
+-- the table has them for each
+pub record Written (written registers : List ℕ) : Type 0 where
+  pub at : (t : ℕ) → t < 10 → Writes written t (getD registers t 0)
 
 -- t is legal after the places p, the last of which is x committed, and was in ready if it was legal before
 pub record Renewed (legal : List ℕ → ℕ → Bool) (p : List ℕ) (x ready t : ℕ) : Type 0 where
@@ -88,6 +96,12 @@ pub record Renewed (legal : List ℕ → ℕ → Bool) (p : List ℕ) (x ready t
   pub grown : p ≡ before ++ ((x * 2 + 1) ∷ [])
   pub was : legal before t ≡ true → bitAt t ready ≡ 1
   pub is : legal p t ≡ true
+
+-- t is legal, a commit with the effect e has not spoilt it, and it was ready if that has not touched it
+pub record Stays (legal : Bool) (ready t e : ℕ) : Type 0 where
+  pub is : legal ≡ true
+  pub unspoilt : e ≡ 2 → ⊥
+  pub was : e ≡ 0 → bitAt t ready ≡ 1
 
 -- may t come next with another outcome than o, where no one counts but those that are needed
 unfoldable pub otherThan : List ℕ → List ℕ → ℕ → ℕ → ℕ → Bool

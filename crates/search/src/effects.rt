@@ -1,17 +1,22 @@
-// What the commit of a transaction does to the store reads of others, from the tables alone.
+// What the commit of a transaction does to the store reads of others, and which of them nobody can make good again.
 ghost use mathlib.Core.Path.{_≡_};
-ghost use mathlib.Core.Bool.{true, false};
+ghost use mathlib.Core.Bool.{true, false, cond};
 ghost use mathlib.Core.List.{List};
-ghost use Prim.Native.Nat.{ℕ, _*_, _+_, _<_};
+ghost use Prim.Native.Nat.{ℕ, _*_, _+_, _^_, _<_};
+ghost use lib.Bits.{bitOr};
+ghost use lib.Dec.{eqb};
 ghost use lib.ListN.{getD};
 ghost use Rattle.events.specs.Lists.{all};
 ghost use Rattle.search.specs.Bits.{bitAt, members};
 ghost use Rattle.search.specs.Places.{writesIn};
+ghost use Rattle.search.specs.State.{Sound};
 ghost use Rattle.search.specs.Tree.{legalAt};
-ghost use Rattle.search.specs.Runs.{Effect, NoSource, Lost, Orphan, Orphaned};
+ghost use Rattle.search.specs.Runs.{Effect, Writes, Written, NoSource, Lost, Orphan, Orphaned};
 use crate::ABORTED;
+use crate::lookup::legal_at;
 use crate::lookup::value_of;
 use crate::sets;
+use crate::state::Search;
 
 const REGISTERS: usize = 32;
 
@@ -22,12 +27,38 @@ const HELPED: u8 = 1;
 
 pub const SPOILT: u8 = 2;
 
+// The set of registers, and r in it if a table holds something at it.
+fn noted(set: u32, r: usize, entry: u64) -> u32
+    requires { ⌜ r < 32 ⌝ }
+    ensures { λ m. ⌜ m ≡ cond (eqb entry 0) set (bitOr set (2 ^ r)) ⌝ }
+{
+    if entry == 0 {
+        return set;
+    }
+    sets::with_register(set, r)
+}
+
+// The registers that each transaction writes.
+pub fn registers_written(written: &[u64; 320]) -> [u32; 10]
+    ensures { λ r. ⌜ Written (now (written .entry)) r ⌝ }
+{
+    let mut registers = [0u32; 10];
+    let mut i: usize = 0;
+    while i < 320 {
+        let t = i / REGISTERS;
+        registers[t] = noted(registers[t], i % REGISTERS, written[i]);
+        i += 1;
+    }
+    registers
+}
+
 // What the commit of x does to the store read of register by t.
 fn effect_at(required: &[u64; 320], written: &[u64; 320], x: usize, t: usize, register: usize) -> u8
     requires { ⌜ x < 10 ⌝ }
     requires { ⌜ t < 10 ⌝ }
     requires { ⌜ register < 32 ⌝ }
-    ensures { λ r. ⌜ Effect (λ (o p : List ℕ). legalAt o (now (required .entry)) (writesIn (now (written .entry))) p t register) x r ⌝ }
+    ensures { λ r. ⌜ Effect
+        (λ (o p : List ℕ). legalAt o (now (required .entry)) (writesIn (now (written .entry))) p t register) x r ⌝ }
 {
     let w = written[x * REGISTERS + register];
     if w == 0 {
@@ -43,14 +74,23 @@ fn effect_at(required: &[u64; 320], written: &[u64; 320], x: usize, t: usize, re
     SPOILT
 }
 
-// What it does to the store reads of t, which are those of these registers.
-pub fn effect(required: &[u64; 320], written: &[u64; 320], x: usize, t: usize, registers: u32) -> u8
+// What it does to the store reads of t, which are those of these registers, where x writes those of `writes`.
+pub fn effect(
+    required: &[u64; 320],
+    written: &[u64; 320],
+    x: usize,
+    t: usize,
+    registers: u32,
+    writes: u32,
+) -> u8
     requires { ⌜ x < 10 ⌝ }
     requires { ⌜ t < 10 ⌝ }
-    ensures { λ r. ⌜ Effect (λ (o p : List ℕ). all (legalAt o (now (required .entry)) (writesIn (now (written .entry))) p t) (members registers)) x r ⌝ }
+    requires { ⌜ Writes (now written) x writes ⌝ }
+    ensures { λ r. ⌜ Effect
+        (λ (o p : List ℕ). all (legalAt o (now (required .entry)) (writesIn (now (written .entry))) p t) (members registers)) x r ⌝ }
 {
     let mut done = UNTOUCHED;
-    let mut left = value_of(registers);
+    let mut left = value_of(registers & writes);
     while left != 0 {
         let r = sets::lowest(left);
         let e = effect_at(required, written, x, t, r);
@@ -96,7 +136,8 @@ fn sourced(
 ) -> bool
     requires { ⌜ set < 1024 ⌝ }
     requires { ⌜ register < 32 ⌝ }
-    ensures { λ r. ⌜ (r ≡ false → (k : ℕ) → bitAt k set ≡ 1 → NoSource (now (allowed .entry)) (now (written .entry)) t register value k) ⌝ }
+    ensures { λ r. ⌜ (r ≡ false → (k : ℕ) → bitAt k set ≡ 1
+        → NoSource (now (allowed .entry)) (now (written .entry)) t register value k) ⌝ }
 {
     let mut left = set;
     while left != 0 {
@@ -109,48 +150,48 @@ fn sourced(
     false
 }
 
-// Has the commit of x spoilt the store read of register by t, and nobody of the set can make it good?
+// Is the store read of register by t not legal after the places filled, with nobody unplaced who could make it so?
 fn orphan_at(
+    starts: &[u32; 32],
     allowed: &[u8; 10],
     required: &[u64; 320],
     written: &[u64; 320],
-    set: u64,
-    x: usize,
+    s: Search,
     t: usize,
     register: usize,
 ) -> bool
-    requires { ⌜ set < 1024 ⌝ }
-    requires { ⌜ x < 10 ⌝ }
+    requires { ⌜ Sound s ⌝ }
     requires { ⌜ t < 10 ⌝ }
     requires { ⌜ register < 32 ⌝ }
-    ensures { λ r. ⌜ (r ≡ true → Lost (now (allowed .entry)) (now (required .entry)) (now (written .entry)) set x t register) ⌝ }
+    ensures { λ r. ⌜ (r ≡ true → Lost
+        (now (starts .entry)) (now (allowed .entry)) (now (required .entry)) (now (written .entry)) s t register) ⌝ }
 {
-    if effect_at(required, written, x, t, register) != SPOILT {
+    if legal_at(starts, required, written, s.placed, s.filled, t, register) {
         return false;
     }
     let value = required[t * REGISTERS + register];
-    !sourced(allowed, written, set, t, register, value)
+    !sourced(allowed, written, s.unplaced, t, register, value)
 }
 
-// One of the store reads of t, which are those of these registers?
+// Is one of the store reads of t from these registers?
 fn orphan(
+    starts: &[u32; 32],
     allowed: &[u8; 10],
     required: &[u64; 320],
     written: &[u64; 320],
-    set: u64,
-    x: usize,
+    s: Search,
     t: usize,
     registers: u32,
 ) -> bool
-    requires { ⌜ set < 1024 ⌝ }
-    requires { ⌜ x < 10 ⌝ }
+    requires { ⌜ Sound s ⌝ }
     requires { ⌜ t < 10 ⌝ }
-    ensures { λ r. ⌜ (r ≡ true → Orphan (now (allowed .entry)) (now (required .entry)) (now (written .entry)) set x t registers) ⌝ }
+    ensures { λ r. ⌜ (r ≡ true → Orphan
+        (now (starts .entry)) (now (allowed .entry)) (now (required .entry)) (now (written .entry)) s t registers) ⌝ }
 {
     let mut left = value_of(registers);
     while left != 0 {
         let r = sets::lowest(left);
-        if orphan_at(allowed, required, written, set, x, t, r) {
+        if orphan_at(starts, allowed, required, written, s, t, r) {
             return true;
         }
         left = sets::without(left, r);
@@ -158,25 +199,34 @@ fn orphan(
     false
 }
 
-// One of those that are needed?
+// Is one of a transaction that is needed? Only these registers are asked about.
 pub fn orphaned(
+    starts: &[u32; 32],
     allowed: &[u8; 10],
     reads: &[u32; 10],
     required: &[u64; 320],
     written: &[u64; 320],
+    s: Search,
     need: u64,
-    set: u64,
-    x: usize,
+    registers: u32,
 ) -> bool
+    requires { ⌜ Sound s ⌝ }
     requires { ⌜ need < 1024 ⌝ }
-    requires { ⌜ set < 1024 ⌝ }
-    requires { ⌜ x < 10 ⌝ }
-    ensures { λ r. ⌜ (r ≡ true → Orphaned (now (allowed .entry)) (now (reads .entry)) (now (required .entry)) (now (written .entry)) need set x) ⌝ }
+    ensures { λ r. ⌜ (r ≡ true → Orphaned
+        (now (starts .entry)) (now (allowed .entry)) (now (reads .entry)) (now (required .entry)) (now (written .entry)) s need) ⌝ }
 {
     let mut left = need;
     while left != 0 {
         let t = sets::lowest(left);
-        if orphan(allowed, required, written, set, x, t, reads[t]) {
+        if orphan(
+            starts,
+            allowed,
+            required,
+            written,
+            s,
+            t,
+            reads[t] & registers,
+        ) {
             return true;
         }
         left = sets::without(left, t);

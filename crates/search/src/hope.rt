@@ -9,19 +9,23 @@ ghost use Rattle.search.specs.Bits.{bitAt, members};
 ghost use Rattle.search.specs.State.{placedOf, Sound, Placeable};
 ghost use Rattle.search.specs.Tree.{constraints};
 ghost use Rattle.search.specs.Choice.{among};
-ghost use Rattle.search.specs.Runs.{Hope, HopeBy, legalFor, Keeps, Ready, Renewed, otherThan, Settled};
+ghost use Rattle.search.specs.Runs.{Hope, HopeBy, legalFor, Keeps, Ready, Renewed, Stays, Writes, Written, otherThan, Settled};
 use crate::ABORTED;
 use crate::COMMITTED;
 use crate::effects::SPOILT;
 use crate::effects::UNTOUCHED;
 use crate::effects::effect;
 use crate::effects::orphaned;
+use crate::effects::registers_written;
 use crate::lookup::legal;
 use crate::sets;
 use crate::state::Search;
 
 // Fewer unplaced than this are searched without asking.
 const FEW: usize = 5;
+
+// All registers.
+const ALL: u32 = 4294967295;
 
 // The set, and t in it only if it passes.
 fn kept(set: u64, t: usize, passes: bool) -> u64
@@ -56,39 +60,38 @@ fn ready_among(
     ready
 }
 
-// May t be ready, now that x has been placed committed as the last place of s? It may if it was before, unless x has spoilt a read of it; if
-// it was not, x has helped it or nothing has changed.
+// May t be ready, now that a commit with this effect on it is the last place of s? It may if it was before, unless a read of it is spoilt; if
+// it was not, it may be only where something that it reads was written.
 fn still_ready(
     starts: &[u32; 32],
     reads: &[u32; 10],
     required: &[u64; 320],
     written: &[u64; 320],
     s: Search,
-    x: usize,
     ready: u64,
     t: usize,
+    effect: u8,
 ) -> bool
     requires { ⌜ Sound s ⌝ }
-    requires { ⌜ x < 10 ⌝ }
     requires { ⌜ t < 10 ⌝ }
-    ensures { λ r. ⌜ (Renewed
-        (legalFor (now (starts .entry)) (now (reads .entry)) (now (required .entry)) (now (written .entry)))
-        (placedOf s) x ready t → r ≡ true) ⌝ }
+    ensures { λ r. ⌜ (Stays
+        (legalFor (now (starts .entry)) (now (reads .entry)) (now (required .entry)) (now (written .entry)) (placedOf s) t)
+        ready t effect → r ≡ true) ⌝ }
 {
-    let e = effect(required, written, x, t, reads[t]);
-    if e == SPOILT {
+    if effect == SPOILT {
         return false;
     }
     if sets::has(ready, t) {
         return true;
     }
-    if e == UNTOUCHED {
+    if effect == UNTOUCHED {
         return false;
     }
     legal(starts, required, written, s.placed, s.filled, t, reads[t])
 }
 
-// The unplaced whose store reads may be legal after the places filled, from those before the last, which is x committed.
+// The unplaced whose store reads may be legal after the places filled, from those before the last, which is x committed; x writes these
+// registers.
 fn ready_after(
     starts: &[u32; 32],
     reads: &[u32; 10],
@@ -96,10 +99,12 @@ fn ready_after(
     written: &[u64; 320],
     s: Search,
     x: usize,
+    registers: u32,
     ready: u64,
 ) -> u64
     requires { ⌜ Sound s ⌝ }
     requires { ⌜ x < 10 ⌝ }
+    requires { ⌜ Writes (now written) x registers ⌝ }
     ensures { λ r. ⌜ Keeps (Renewed
         (legalFor (now (starts .entry)) (now (reads .entry)) (now (required .entry)) (now (written .entry)))
         (placedOf s) x ready) (s .unplaced) r ⌝ }
@@ -108,7 +113,8 @@ fn ready_after(
     let mut left = s.unplaced;
     while left != 0 {
         let t = sets::lowest(left);
-        let passes = still_ready(starts, reads, required, written, s, x, ready, t);
+        let e = effect(required, written, x, t, reads[t], registers);
+        let passes = still_ready(starts, reads, required, written, s, ready, t, e);
         after = kept(after, t, passes);
         left = sets::without(left, t);
     }
@@ -156,12 +162,14 @@ fn possible(
     reads: &[u32; 10],
     required: &[u64; 320],
     written: &[u64; 320],
+    writes: &[u32; 10],
     s: Search,
     need: u64,
     ready: u64,
 ) -> bool
     requires { ⌜ Sound s ⌝ }
     requires { ⌜ Ready (now starts) (now reads) (now required) (now written) s ready ⌝ }
+    requires { ⌜ Written (now written) (now writes) ⌝ }
     ensures { λ r. ⌜ Hope
         (constraints (now (starts .entry)) (now (predecessors .entry)) (now (allowed .entry))
         (now (reads .entry)) (now (required .entry)) (now (written .entry))) s need r ⌝ }
@@ -180,6 +188,7 @@ fn possible(
             reads,
             required,
             written,
+            writes,
             s,
             rest,
             ready,
@@ -200,6 +209,7 @@ fn leads(
     reads: &[u32; 10],
     required: &[u64; 320],
     written: &[u64; 320],
+    writes: &[u32; 10],
     s: Search,
     need: u64,
     ready: u64,
@@ -207,6 +217,7 @@ fn leads(
 ) -> bool
     requires { ⌜ Placeable s t ⌝ }
     requires { ⌜ Ready (now starts) (now reads) (now required) (now written) s ready ⌝ }
+    requires { ⌜ Written (now written) (now writes) ⌝ }
     ensures { λ r. ⌜ HopeBy
         (constraints (now (starts .entry)) (now (predecessors .entry)) (now (allowed .entry))
         (now (reads .entry)) (now (required .entry)) (now (written .entry))) s need t r ⌝ }
@@ -216,10 +227,20 @@ fn leads(
     }
     let next = s.place(t, COMMITTED);
     let rest = need & next.unplaced;
-    if orphaned(allowed, reads, required, written, rest, next.unplaced, t) {
+    let registers = writes[t];
+    if orphaned(
+        starts,
+        allowed,
+        reads,
+        required,
+        written,
+        next,
+        rest,
+        registers,
+    ) {
         return false;
     }
-    let after = ready_after(starts, reads, required, written, next, t, ready);
+    let after = ready_after(starts, reads, required, written, next, t, registers, ready);
     possible(
         starts,
         predecessors,
@@ -227,6 +248,7 @@ fn leads(
         reads,
         required,
         written,
+        writes,
         next,
         rest,
         after,
@@ -241,10 +263,12 @@ pub fn hopeful(
     reads: &[u32; 10],
     required: &[u64; 320],
     written: &[u64; 320],
+    writes: &[u32; 10],
     s: Search,
     candidates: u64,
 ) -> bool
     requires { ⌜ Sound s ⌝ }
+    requires { ⌜ Written (now written) (now writes) ⌝ }
     ensures { λ r. ⌜ (r ≡ false → among
         (constraints (now (starts .entry)) (now (predecessors .entry)) (now (allowed .entry))
         (now (reads .entry)) (now (required .entry)) (now (written .entry))) s candidates ≡ none) ⌝ }
@@ -256,6 +280,10 @@ pub fn hopeful(
         return true;
     }
     let ready = ready_among(starts, reads, required, written, s);
+    let waiting = s.unplaced ^ ready;
+    if orphaned(starts, allowed, reads, required, written, s, waiting, ALL) {
+        return false;
+    }
     possible(
         starts,
         predecessors,
@@ -263,8 +291,19 @@ pub fn hopeful(
         reads,
         required,
         written,
+        writes,
         s,
         candidates,
         ready,
     )
+}
+
+// The registers that each transaction writes, as the questions want them: where so few are searched that none is asked, any will do.
+pub fn registers_for(written: &[u64; 320], n: usize) -> [u32; 10]
+    ensures { λ r. ⌜ Written (now (written .entry)) r ⌝ }
+{
+    if n < FEW {
+        return [ALL; 10];
+    }
+    registers_written(written)
 }

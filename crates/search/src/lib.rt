@@ -7,6 +7,7 @@ ghost use Rattle.search.specs.Bits.{bitAt, members};
 ghost use Rattle.search.specs.State.{placedOf, whole, Sound, Placeable, Within};
 ghost use Rattle.search.specs.Tree.{constraints, allowsOutcome, ruleNext, firstCompletion, Answers};
 ghost use Rattle.search.specs.Choice.{among, from};
+ghost use Rattle.search.specs.Runs.{Written};
 
 mod effects;
 mod hope;
@@ -15,6 +16,7 @@ pub mod sets;
 pub mod state;
 
 use hope::hopeful;
+use hope::registers_for;
 use lookup::legal;
 use state::Search;
 
@@ -73,11 +75,13 @@ fn choose_transaction(
     reads: &[u32; 10],
     required: &[u64; 320],
     written: &[u64; 320],
+    writes: &[u32; 10],
     s: Search,
     candidates: u64,
 ) -> u64
     requires { ⌜ Sound s ⌝ }
     requires { ⌜ Within (s .unplaced) candidates ⌝ }
+    requires { ⌜ Written (now written) (now writes) ⌝ }
     ensures { λ r. ⌜ Answers (whole s) r
         (among (constraints (now (starts .entry)) (now (predecessors .entry)) (now (allowed .entry))
         (now (reads .entry)) (now (required .entry)) (now (written .entry))) s candidates) ⌝ }
@@ -95,6 +99,7 @@ fn choose_transaction(
         reads,
         required,
         written,
+        writes,
         s,
         candidates,
     ) {
@@ -108,6 +113,7 @@ fn choose_transaction(
         reads,
         required,
         written,
+        writes,
         s,
         candidates,
         t,
@@ -122,6 +128,7 @@ fn choose_outcome(
     reads: &[u32; 10],
     required: &[u64; 320],
     written: &[u64; 320],
+    writes: &[u32; 10],
     s: Search,
     candidates: u64,
     t: usize,
@@ -129,6 +136,7 @@ fn choose_outcome(
     requires { ⌜ Placeable s t ⌝ }
     requires { ⌜ Within (s .unplaced) candidates ⌝ }
     requires { ⌜ bitAt t candidates ≡ 1 ⌝ }
+    requires { ⌜ Written (now written) (now writes) ⌝ }
     ensures { λ r. ⌜ Answers (whole s) r
         (from (constraints (now (starts .entry)) (now (predecessors .entry)) (now (allowed .entry))
         (now (reads .entry)) (now (required .entry)) (now (written .entry))) s candidates t) ⌝ }
@@ -152,6 +160,7 @@ fn choose_outcome(
             reads,
             required,
             written,
+            writes,
             next,
             next.unplaced,
         );
@@ -168,6 +177,7 @@ fn choose_outcome(
             reads,
             required,
             written,
+            writes,
             next,
             next.unplaced,
         );
@@ -182,6 +192,7 @@ fn choose_outcome(
         reads,
         required,
         written,
+        writes,
         s,
         sets::without(candidates, t),
     )
@@ -207,6 +218,7 @@ pub fn find(
         filled: 0,
         placed: 1,
     };
+    let writes = registers_for(written, n);
     choose_transaction(
         starts,
         predecessors,
@@ -214,6 +226,7 @@ pub fn find(
         reads,
         required,
         written,
+        &writes,
         s,
         s.unplaced,
     )

@@ -66,7 +66,7 @@ pub fn content(
 }
 
 // Is the store read of register by t, if there is one, that of the register's content?
-fn legal_at(
+pub fn legal_at(
     starts: &[u32; 32],
     required: &[u64; 320],
     written: &[u64; 320],

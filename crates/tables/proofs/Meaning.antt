@@ -1,7 +1,7 @@
 -- What the tables of the first n events of a history hold.
 -- Assumes nothing.
 use mathlib.Core.Path.{_≡_, refl, sym, ap, _∙_}
-use Prim.Native.Nat.{ℕ, zero, suc, max, _+_, _*_, _/_, _%_, _^_, _≤_, _<_}
+use Prim.Native.Nat.{ℕ, zero, suc, _+_, _*_, _/_, _%_, _^_, _≤_, _<_}
 use native.Mathlib.Nat.{le-of-lt, pow-suc}
 use native.Mathlib.Omega.{arith}
 use mathlib.Core.Bool.{Bool, true, false, cond}
@@ -10,7 +10,7 @@ use mathlib.Core.Option.{none, some}
 use lib.ListN.{length, take, getD, set, length-set, length-replicate, getD-replicate}
 use lib.Seq.{take-suc, getD-set-same, getD-set-other}
 use lib.Dec.{eqb}
-use lib.Bits.{bitOr, or-step, or-zero-r}
+use lib.Bits.{bitOr}
 use borrow.Author.Tests.{eqb-true, eqb-false, eq-eqb, ne-eqb}
 use Rattle.events.specs.Lists.{_and_, _or_, orElse, any, latest}
 use Rattle.events.specs.declared.event.Event.{Event}
@@ -21,6 +21,7 @@ use Rattle.events.proofs.StateLaws.{has-snoc}
 use Rattle.opacity.proofs.Snoc.{precedes-more}
 use Rattle.search.specs.Bits.{bitAt}
 use Rattle.search.specs.Places.{plus}
+use Rattle.search.proofs.BitLaws.{bit-none, bit-with}
 use Rattle.tables.specs.Tables.{Tables, slotOf, next, empty, goThrough, tablesOf}
 use Rattle.tables.proofs.TableLaws.{tables-snoc}
 use Rattle.tables.proofs.NextLaws.{Sort, begin, read, write, ask, commit, abort, other, sort, ended-next, predecessors-next, written-next, allowed-next, required-next}
@@ -37,36 +38,6 @@ Good h = (i : ℕ) → i < length h → Fine (take i h) (eventAt h i)
 abbrev pub digit : Bool → ℕ
 digit true = 1
 digit false = 0
-
--- ---- one bit more in a set
-
-pub bit-none : (x : ℕ) → bitAt x 0 ≡ 0
-unfolding bitAt
-bit-none zero = refl
-bit-none (suc x) = bit-none x
-
-or-half : (a b : ℕ) → bitOr a b / 2 ≡ bitOr (a / 2) (b / 2)
-or-half a b = let s = or-step a b in let l : max (a % 2) (b % 2) < 2 = omega arith in omega arith
-
-or-low : (a b : ℕ) → bitOr a b % 2 ≡ max (a % 2) (b % 2)
-or-low a b = let s = or-step a b in let l : max (a % 2) (b % 2) < 2 = omega arith in omega arith
-
-eqb-suc : (t x : ℕ) → eqb (suc t) (suc x) ≡ eqb t x
-eqb-suc t x = go (eqb t x) refl
-  where
-    go : (b : Bool) → eqb t x ≡ b → eqb (suc t) (suc x) ≡ b
-    go true e = eq-eqb (suc t) (suc x) (ap suc (eqb-true t x e))
-    go false e = ne-eqb (suc t) (suc x) (λ q. eqb-false t x e (omega arith))
-
-pub bit-with : (x t n : ℕ) → bitAt x (bitOr n (2 ^ t)) ≡ cond (eqb t x) 1 (bitAt x n)
-unfolding bitAt
-bit-with zero zero n = rw (or-low n 1) (omega arith)
-bit-with (suc x) zero n = let f : eqb 0 (suc x) ≡ false = ne-eqb 0 (suc x) (λ q. omega arith) in rw (or-half n 1, or-zero-r, f)
-bit-with zero (suc t) n =
-    let e : 2 ^ suc t % 2 ≡ 0 = rw pow-suc (omega arith) in
-    let f : eqb (suc t) 0 ≡ false = ne-eqb (suc t) 0 (λ q. omega arith) in
-    rw (or-low n (2 ^ suc t), e, f) (omega arith)
-bit-with (suc x) (suc t) n = let e : 2 ^ suc t / 2 ≡ 2 ^ t = rw pow-suc (omega arith) in rw (or-half n (2 ^ suc t), e, eqb-suc t x) (bit-with x t (n / 2))
 
 -- ---- one event more in a history
 

@@ -22,7 +22,8 @@ use Rattle.search.specs.Bits.{bitAt}
 use Rattle.search.specs.Places.{plus}
 use Rattle.tables.specs.Tables.{Tables, slotOf, withRegister, empty, goThrough, tablesOf}
 use Rattle.tables.proofs.NextLaws.{reads-next}
-use Rattle.tables.proofs.Meaning.{Fine, Good, bit-none, bit-with, tab, tab-suc, written-holds}
+use Rattle.search.proofs.BitLaws.{bit-none, bit-with}
+use Rattle.tables.proofs.Meaning.{Fine, Good, tab, tab-suc, written-holds}
 
 -- ---- what is no store read
 

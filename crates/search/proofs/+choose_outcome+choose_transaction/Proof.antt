@@ -31,42 +31,42 @@ use Rattle.search.proofs.+choose_outcome+choose_transaction.Lts-choose_
 use Rattle.search.proofs.+choose_outcome+choose_transaction.{statement}
 use Rattle.search.proofs.+choose_outcome+choose_transaction.Tie.{close}
 
-abbrev μ-choose-outcome : Measures 6 choose-outcome-kinds.ps ℕ
-μ-choose-outcome κs a = size (a .1 .1 .1 .1 .1 .1 .0) (a .1 .1 .1 .1 .1 .1 .1 .0)
+abbrev μ-choose-outcome : Measures 7 choose-outcome-kinds.ps ℕ
+μ-choose-outcome κs a = size (a .1 .1 .1 .1 .1 .1 .1 .0) (a .1 .1 .1 .1 .1 .1 .1 .1 .0)
 
-abbrev μ-choose-transaction : Measures 6 choose-transaction-kinds.ps ℕ
-μ-choose-transaction κs a = size (a .1 .1 .1 .1 .1 .1 .0) (a .1 .1 .1 .1 .1 .1 .1 .0) + 1
+abbrev μ-choose-transaction : Measures 7 choose-transaction-kinds.ps ℕ
+μ-choose-transaction κs a = size (a .1 .1 .1 .1 .1 .1 .1 .0) (a .1 .1 .1 .1 .1 .1 .1 .1 .0) + 1
 
-abbrev choose-outcome-at : ℕ → In 6 choose-outcome-kinds.ps
+abbrev choose-outcome-at : ℕ → In 7 choose-outcome-kinds.ps
 choose-outcome-at t =
     and
-    6
+    7
     choose-outcome-kinds.ps
-    (is 6 choose-outcome-kinds.ps μ-choose-outcome t)
+    (is 7 choose-outcome-kinds.ps μ-choose-outcome t)
     choose-outcome.Pre
 
-abbrev choose-outcome-below : ℕ → In 6 choose-outcome-kinds.ps
+abbrev choose-outcome-below : ℕ → In 7 choose-outcome-kinds.ps
 choose-outcome-below t =
     and
-    6
+    7
     choose-outcome-kinds.ps
-    (falls 6 choose-outcome-kinds.ps _<_ μ-choose-outcome t)
+    (falls 7 choose-outcome-kinds.ps _<_ μ-choose-outcome t)
     choose-outcome.Pre
 
-abbrev choose-transaction-at : ℕ → In 6 choose-transaction-kinds.ps
+abbrev choose-transaction-at : ℕ → In 7 choose-transaction-kinds.ps
 choose-transaction-at t =
     and
-    6
+    7
     choose-transaction-kinds.ps
-    (is 6 choose-transaction-kinds.ps μ-choose-transaction t)
+    (is 7 choose-transaction-kinds.ps μ-choose-transaction t)
     choose-transaction.Pre
 
-abbrev choose-transaction-below : ℕ → In 6 choose-transaction-kinds.ps
+abbrev choose-transaction-below : ℕ → In 7 choose-transaction-kinds.ps
 choose-transaction-below t =
     and
-    6
+    7
     choose-transaction-kinds.ps
-    (falls 6 choose-transaction-kinds.ps _<_ μ-choose-transaction t)
+    (falls 7 choose-transaction-kinds.ps _<_ μ-choose-transaction t)
     choose-transaction.Pre
 
 -- what each is handed of the functions that it calls
@@ -105,7 +105,7 @@ choose-outcome-choose-transaction-requires t c κs =
     let next = c .place .result in (
       subst (λ (n : ℕ). size next (next .unplaced) + 1 < n) (start .pre .0)
           (falls-to-next (start .args .s) next (start .args .candidates) (start .args .t) 0 (start .pre .1 .0) (c .place .ensures)),
-      (c .place .ensures .sound, within-self (next .unplaced)),
+      (c .place .ensures .sound, (within-self (next .unplaced), start .pre .1 .1 .1 .1)),
     )
 
 choose-outcome-returns : (t : ℕ) → choose-outcome-lts.Need-returns (outcome-claims t) (choose-outcome-at t) choose-outcome.Post
@@ -134,7 +134,7 @@ choose-outcome-choose-transaction-requires-2 t c κs =
     let next = c .place2 .result in (
       subst (λ (n : ℕ). size next (next .unplaced) + 1 < n) (start .pre .0)
           (falls-to-next (start .args .s) next (start .args .candidates) (start .args .t) 1 (start .pre .1 .0) (c .place2 .ensures)),
-      (c .place2 .ensures .sound, within-self (next .unplaced)),
+      (c .place2 .ensures .sound, (within-self (next .unplaced), start .pre .1 .1 .1 .1)),
     )
 
 -- where the second outcome is asked for, the first led to nothing
@@ -177,15 +177,15 @@ choose-outcome-returns-2 t c =
 
 choose-outcome-without-requires : (t : ℕ) → choose-outcome-lts.Need-without-requires (outcome-claims t) (choose-outcome-at t) choose-outcome.Post
 choose-outcome-without-requires t c κs =
-    c .before .before .before .before .before .pre .1 .1 .1
+    c .before .before .before .before .before .pre .1 .1 .1 .0
 
 choose-outcome-choose-transaction-requires-3 : (t : ℕ) → choose-outcome-lts.Need-choose-transaction-requires-3 (outcome-claims t) (choose-outcome-at t) choose-outcome.Post
 choose-outcome-choose-transaction-requires-3 t c κs =
     let start = c .before .before .before .before .before .before in
     let pre = start .pre .1 in (
       subst (λ (n : ℕ). size (start .args .s) (c .without .result) + 1 < n) (start .pre .0)
-          (falls-to-rest (start .args .s) (start .args .candidates) (start .args .t) (c .without .result) (pre .1 .1) (c .without .ensures)),
-      (pre .0 .sound, within-rest (start .args .s .unplaced) (start .args .candidates) (start .args .t) (c .without .result) (pre .1 .0) (pre .1 .1) (c .without .ensures)),
+          (falls-to-rest (start .args .s) (start .args .candidates) (start .args .t) (c .without .result) (pre .1 .1 .0) (c .without .ensures)),
+      (pre .0 .sound, (within-rest (start .args .s .unplaced) (start .args .candidates) (start .args .t) (c .without .result) (pre .1 .0) (pre .1 .1 .0) (c .without .ensures), pre .1 .1 .1)),
     )
 
 choose-outcome-returns-3 : (t : ℕ) → choose-outcome-lts.Need-returns-3 (outcome-claims t) (choose-outcome-at t) choose-outcome.Post
@@ -211,7 +211,7 @@ choose-transaction-returns-2 t c =
 
 choose-transaction-hopeful-requires : (t : ℕ) → choose-transaction-lts.Need-hopeful-requires (transaction-claims t) (choose-transaction-at t) choose-transaction.Post
 choose-transaction-hopeful-requires t c κs =
-    c .before .before .before .pre .1 .0
+    (c .before .before .before .pre .1 .0, c .before .before .before .pre .1 .1 .1)
 
 choose-transaction-returns-3 : (t : ℕ) → choose-transaction-lts.Need-returns-3 (transaction-claims t) (choose-transaction-at t) choose-transaction.Post
 choose-transaction-returns-3 t c =
@@ -227,7 +227,7 @@ choose-transaction-choose-outcome-requires t c κs =
     let set = start .args .candidates in
     let isIn = lowest-member (c .lowest .result) set (start .fits .candidates .fits) (c .before .before .before .if2 .left) (c .lowest .ensures) in (
       subst (λ (n : ℕ). size (start .args .s) set < n) (start .pre .0) (omega arith),
-      (record { sound = start .pre .1 .0; isIn = start .pre .1 .1 .isIn (c .lowest .result) isIn }, (start .pre .1 .1, isIn)),
+      (record { sound = start .pre .1 .0; isIn = start .pre .1 .1 .0 .isIn (c .lowest .result) isIn }, (start .pre .1 .1 .0, (isIn, start .pre .1 .1 .1))),
     )
 
 choose-transaction-returns-4 : (t : ℕ) → choose-transaction-lts.Need-returns-4 (transaction-claims t) (choose-transaction-at t) choose-transaction.Post
@@ -235,7 +235,7 @@ choose-transaction-returns-4 t c =
     let start = c .before .before .before .before .before .before .before in
     let D = constraints (start .args .starts .now) (start .args .predecessors .now) (start .args .allowed .now) (start .args .reads .now) (start .args .required .now) (start .args .written .now) in
     answers-as (whole (start .args .s)) (c .choose-outcome .result) (c .choose-outcome .ensures)
-    (sym (next-candidate D (start .args .s) (start .args .candidates) (c .before .lowest .result) (start .pre .1 .1) (start .fits .candidates .fits) (c .before .before .before .before .if2 .left) (c .before .lowest .ensures)))
+    (sym (next-candidate D (start .args .s) (start .args .candidates) (c .before .lowest .result) (start .pre .1 .1 .0) (start .fits .candidates .fits) (c .before .before .before .before .if2 .left) (c .before .lowest .ensures)))
 
 pub +choose-outcome+choose-transaction-spec : {M : Type 1} → statement M
 +choose-outcome+choose-transaction-spec =

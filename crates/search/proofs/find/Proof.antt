@@ -17,24 +17,30 @@ use Rattle.search.proofs.find.Tie as tie
 bit-requires : tie.Need-bit-requires
 bit-requires c κs = search needs
 
-sub-t10 : tie.Need-sub-t10
-sub-t10 c = omega (arith, c .bit .ensures, pow-pos (c .before .args .n))
+sub-t11 : tie.Need-sub-t11
+sub-t11 c = omega (arith, c .bit .ensures, pow-pos (c .before .args .n))
+
+registers-for-requires : tie.Need-registers-for-requires
+registers-for-requires c κs = search needs
 
 choose-transaction-requires : tie.Need-choose-transaction-requires
-choose-transaction-requires c κs = (start-sound (c .before .args .n) (c .bit .result - 1) (c .before .pre) (ap (λ (k : ℕ). k - 1) (c .bit .ensures)), within-self _)
+choose-transaction-requires c κs =
+    let start = c .before .before .before in
+    let all = c .before .before .bit in
+    (start-sound (start .args .n) (all .result - 1) (start .pre) (ap (λ (k : ℕ). k - 1) (all .ensures)), (within-self _, c .before .registers-for .ensures))
 
 returns : tie.Need-returns
 unfolding codesOf
 returns c =
-    let start = c .before .before in
+    let start = c .before .before .before .before in
     let D = constraints (start .args .starts .now) (start .args .predecessors .now) (start .args .allowed .now) (start .args .reads .now) (start .args .required .now) (start .args .written .now) in
-    let u = c .before .bit .result - 1 in
-    let all : 0 + ones u ≡ start .args .n = zero-add (ones u) ∙ ap (λ (k : ℕ). ones (k - 1)) (c .before .bit .ensures) ∙ ones-ones (start .args .n) in
+    let u = c .before .before .before .bit .result - 1 in
+    let all : 0 + ones u ≡ start .args .n = zero-add (ones u) ∙ ap (λ (k : ℕ). ones (k - 1)) (c .before .before .before .bit .ensures) ∙ ones-ones (start .args .n) in
     record {
       completion = ap (λ (k : ℕ). readAnswer k (c .choose-transaction .result)) (sym all) ∙ c .choose-transaction .ensures .completion
-          ∙ start-completes D (start .args .n) (c .before .bit .result - 1) (start .pre) (ap (λ (k : ℕ). k - 1) (c .before .bit .ensures));
+          ∙ start-completes D (start .args .n) (c .before .before .before .bit .result - 1) (start .pre) (ap (λ (k : ℕ). k - 1) (c .before .before .before .bit .ensures));
       room = rw all at (c .choose-transaction .ensures .room);
     }
 
 pub find-spec : {M : Type 1} → statement M
-find-spec = tie.close (tie.spec bit-requires sub-t10 choose-transaction-requires returns)
+find-spec = tie.close (tie.spec bit-requires sub-t11 registers-for-requires choose-transaction-requires returns)

@@ -5,14 +5,14 @@ use mathlib.Core.List.{List, [], _∷_, _++_}
 use mathlib.Core.Bool.{true}
 use Prim.Native.Nat.{ℕ, _+_, _*_, _^_, _<_}
 use native.Mathlib.Omega.{arith}
-use lib.Bits.{bitOr, or-lt}
+use lib.Bits.{bitAnd, bitOr, or-lt, and-le-l}
 use lib.Pow.{pow-pos}
 use Rattle.search.specs.Bits.{bitAt}
 use Rattle.search.specs.Places.{writesIn}
 use Rattle.search.specs.Tree.{legalAt}
 use Rattle.search.proofs.BitLaws.{member-le, member-lt, member-off, no-member}
 use Rattle.search.proofs.SetLaws.{lowest-member, passed-one, member-passes}
-use Rattle.search.proofs.EffectLaws.{or-none, all-members}
+use Rattle.search.proofs.EffectLaws.{or-none, all-members, effect-among}
 use Rattle.search.proofs.effects.effect.Statement.{statement}
 use Rattle.search.proofs.effects.effect.Tie as tie
 
@@ -22,21 +22,22 @@ Same required written x t k =
     (o p : List ℕ) → legalAt o required (writesIn written) (p ++ ((x * 2 + 1) ∷ [])) t k ≡ true → legalAt o required (writesIn written) p t k ≡ true
 
 abbrev Inv-loop : tie.InvT-loop
-Inv-loop required written x t registers done₀ left₀ done left =
-    (done < 2) × (left < 2 ^ 32) × ((k : ℕ) → bitAt k left ≡ 1 → bitAt k registers ≡ 1)
-    × ((k : ℕ) → (bitAt k left ≡ 1 → ⊥) → bitAt k registers ≡ 1 → done ≡ 0 → Same required written x t k)
+Inv-loop required written x t registers writes done₀ left₀ done left =
+    (done < 2) × (left < 2 ^ 32) × ((k : ℕ) → bitAt k left ≡ 1 → bitAt k (bitAnd registers writes) ≡ 1)
+    × ((k : ℕ) → (bitAt k left ≡ 1 → ⊥) → bitAt k (bitAnd registers writes) ≡ 1 → done ≡ 0 → Same required written x t k)
 
 abbrev μ-loop : tie.MeasureT-loop
-μ-loop required written x t registers done₀ left₀ done left = left
+μ-loop required written x t registers writes done₀ left₀ done left = left
 
 value-of-requires : tie.Need-value-of-requires Inv-loop μ-loop
 value-of-requires c κs = tt
 
 loop-holds : tie.Need-loop-holds Inv-loop μ-loop
 loop-holds c =
-    let e : c .value-of .result ≡ c .before .args .registers = c .value-of .ensures in (
+    let a = c .before .args in
+    let e : c .value-of .result ≡ bitAnd (a .registers) (a .writes) = c .value-of .ensures in (
       omega arith,
-      omega (arith, c .before .fits .registers .fits),
+      omega (arith, c .before .fits .registers .fits, and-le-l (a .registers) (a .writes)),
       λ k h. rw e at h,
       λ k out h. absurd (out (rw e h)),
     )
@@ -50,7 +51,7 @@ effect-at-requires c κs =
     let at = c .before .before .loop in
     let r = c .lowest .result in
     let isIn = lowest-member r (at .left) (omega (arith, at .inv .1)) (c .before .loop-test .taken) (c .lowest .ensures) in
-    (start .pre .0, (start .pre .1, member-lt r (at .left) 32 isIn (at .inv .1)))
+    (start .pre .0, (start .pre .1 .0, member-lt r (at .left) 32 isIn (at .inv .1)))
 
 returns : tie.Need-returns Inv-loop μ-loop
 returns c =
@@ -59,12 +60,14 @@ returns c =
     let r = c .before .before .lowest .result in
     let isIn = lowest-member r (at .left) (omega (arith, at .inv .1)) (c .before .before .before .loop-test .taken) (c .before .before .lowest .ensures) in
     let e = c .before .effect-at .ensures in
-    let set = start .args .registers in
-    record {
+    let a = start .args in
+    let set = bitAnd (a .registers) (a .writes) in
+    effect-among (a .required .now) (a .written .now) (a .x) (a .t) (a .registers) (a .writes) 2 (start .fits .registers .fits) (start .pre .1 .1)
+    (record {
       small = omega arith;
       untouched = λ z o p h. absurd (omega arith);
       spoilt = λ z o p h. e .spoilt (c .if1 .taken) o p (member-passes _ set h r (omega (arith, member-lt r (at .left) 32 isIn (at .inv .1))) (at .inv .2 r isIn));
-    }
+    })
 
 without-requires : tie.Need-without-requires Inv-loop μ-loop
 without-requires c κs =
@@ -92,7 +95,7 @@ loop-again c =
     let isIn = lowest-member r (at .left) (omega (arith, at .inv .1)) (c .before .before .before .before .loop-test .taken) (c .before .before .before .lowest .ensures) in
     let e = c .before .before .effect-at in
     let a = start .args in
-    let set = a .registers in (
+    let set = bitAnd (a .registers) (a .writes) in (
       or-lt 1 (at .done) (e .result) (omega (arith, at .inv .0)) (omega (arith, e .ensures .small, c .before .if1 .left)),
       omega (arith, c .without .ensures, at .inv .1),
       λ k h. at .inv .2 k (member-off r k (at .left) isIn (rw (c .without .ensures) at h)),
@@ -104,12 +107,15 @@ returns-2 : tie.Need-returns-2 Inv-loop μ-loop
 returns-2 c =
     let start = c .before .before .before in
     let at = c .before .loop in
-    let set = start .args .registers in
-    record {
+    let a = start .args in
+    let set = bitAnd (a .registers) (a .writes) in
+    effect-among (a .required .now) (a .written .now) (a .x) (a .t) (a .registers) (a .writes) (at .done) (start .fits .registers .fits) (start .pre .1 .1)
+    (record {
       small = omega (arith, at .inv .0);
-      untouched = λ z o p h. all-members _ _ set (start .fits .registers .fits) (λ k b q. at .inv .3 k (no-member k (at .left) (c .loop-test .left)) b z o p q) h;
+      untouched = λ z o p h. all-members _ _ set (omega (arith, start .fits .registers .fits, and-le-l (a .registers) (a .writes)))
+          (λ k b q. at .inv .3 k (no-member k (at .left) (c .loop-test .left)) b z o p q) h;
       spoilt = λ z o p h. omega (arith, at .inv .0);
-    }
+    })
 
 pub effect-spec : {M : Type 1} → statement M
 effect-spec =

@@ -12,10 +12,10 @@ use Rattle.search.proofs.effects.orphan.Statement.{statement}
 use Rattle.search.proofs.effects.orphan.Tie as tie
 
 abbrev Inv-loop : tie.InvT-loop
-Inv-loop allowed required written set x t registers left₀ left = (left < 2 ^ 32) × ((k : ℕ) → bitAt k left ≡ 1 → bitAt k registers ≡ 1)
+Inv-loop starts allowed required written s t registers left₀ left = (left < 2 ^ 32) × ((k : ℕ) → bitAt k left ≡ 1 → bitAt k registers ≡ 1)
 
 abbrev μ-loop : tie.MeasureT-loop
-μ-loop allowed required written set x t registers left₀ left = left
+μ-loop starts allowed required written s t registers left₀ left = left
 
 value-of-requires : tie.Need-value-of-requires Inv-loop μ-loop
 value-of-requires c κs = tt
@@ -34,7 +34,7 @@ orphan-at-requires c κs =
     let at = c .before .before .loop in
     let r = c .lowest .result in
     let isIn = lowest-member r (at .left) (omega (arith, at .inv .0)) (c .before .loop-test .taken) (c .lowest .ensures) in
-    (start .pre .0, (start .pre .1 .0, (start .pre .1 .1, member-lt r (at .left) 32 isIn (at .inv .0))))
+    (start .pre .0, (start .pre .1, member-lt r (at .left) 32 isIn (at .inv .0)))
 
 returns : tie.Need-returns Inv-loop μ-loop
 returns c =

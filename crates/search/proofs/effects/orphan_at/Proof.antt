@@ -2,12 +2,13 @@
 -- Assumes nothing.
 use borrow.Author.Needs.{needs}
 use borrow.Author.Tests.{not-true}
+use mathlib.Core.Path.{sym, _∙_}
 use mathlib.Core.Bool.{false≢true}
 use Rattle.search.proofs.effects.orphan_at.Statement.{statement}
 use Rattle.search.proofs.effects.orphan_at.Tie as tie
 
-effect-at-requires : tie.Need-effect-at-requires
-effect-at-requires c κs = search needs
+legal-at-requires : tie.Need-legal-at-requires
+legal-at-requires c κs = search needs
 
 returns : tie.Need-returns
 returns c = λ e. absurd (false≢true e)
@@ -28,9 +29,9 @@ sourced-requires : tie.Need-sourced-requires
 sourced-requires c κs = search needs
 
 returns-2 : tie.Need-returns-2
-returns-2 c = λ e. record { spoilt = c .before .before .before .effect-at .ensures .spoilt (c .before .before .if1 .left); none = c .sourced .ensures (not-true _ e) }
+returns-2 c = λ e. record { wrong = sym (c .before .before .before .legal-at .ensures) ∙ c .before .before .if1 .left; none = c .sourced .ensures (not-true _ e) }
 
 pub orphan-at-spec : {M : Type 1} → statement M
 orphan-at-spec =
     tie.close
-    (tie.spec effect-at-requires returns mul-value add-value mul-value-2 element-copy-out-value sourced-requires returns-2)
+    (tie.spec legal-at-requires returns mul-value add-value mul-value-2 element-copy-out-value sourced-requires returns-2)

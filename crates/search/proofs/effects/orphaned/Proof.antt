@@ -5,16 +5,16 @@ use mathlib.Core.Bool.{false≢true}
 use native.Mathlib.Omega.{arith}
 use lib.Pow.{pow-pos}
 use Rattle.search.specs.State.{Within}
-use Rattle.search.proofs.BitLaws.{member-le, member-lt}
+use Rattle.search.proofs.BitLaws.{member-le, member-lt, and-member}
 use Rattle.search.proofs.SetLaws.{lowest-member, within-self, within-rest}
 use Rattle.search.proofs.effects.orphaned.Statement.{statement}
 use Rattle.search.proofs.effects.orphaned.Tie as tie
 
 abbrev Inv-loop : tie.InvT-loop
-Inv-loop allowed reads required written need set x left₀ left = Within need left
+Inv-loop starts allowed reads required written s need registers left₀ left = Within need left
 
 abbrev μ-loop : tie.MeasureT-loop
-μ-loop allowed reads required written need set x left₀ left = left
+μ-loop starts allowed reads required written s need registers left₀ left = left
 
 loop-holds : tie.Need-loop-holds Inv-loop μ-loop
 loop-holds c = within-self (c .args .need)
@@ -27,8 +27,8 @@ mul-orphan c =
     let start = c .before .before .before in
     let at = c .before .before .loop in
     let t = c .lowest .result in
-    let isIn = lowest-member t (at .left) (omega (arith, at .inv .few, start .pre .0)) (c .before .loop-test .taken) (c .lowest .ensures) in
-    let ten = member-lt t (start .args .need) 10 (at .inv .isIn t isIn) (start .pre .0) in
+    let isIn = lowest-member t (at .left) (omega (arith, at .inv .few, start .pre .1)) (c .before .loop-test .taken) (c .lowest .ensures) in
+    let ten = member-lt t (start .args .need) 10 (at .inv .isIn t isIn) (start .pre .1) in
     search needs
 
 element-copy-out-orphan : tie.Need-element-copy-out-orphan Inv-loop μ-loop
@@ -36,31 +36,36 @@ element-copy-out-orphan c =
     let start = c .before .before .before in
     let at = c .before .before .loop in
     let t = c .lowest .result in
-    let isIn = lowest-member t (at .left) (omega (arith, at .inv .few, start .pre .0)) (c .before .loop-test .taken) (c .lowest .ensures) in
-    member-lt t (start .args .need) 10 (at .inv .isIn t isIn) (start .pre .0)
+    let isIn = lowest-member t (at .left) (omega (arith, at .inv .few, start .pre .1)) (c .before .loop-test .taken) (c .lowest .ensures) in
+    member-lt t (start .args .need) 10 (at .inv .isIn t isIn) (start .pre .1)
 
 orphan-requires : tie.Need-orphan-requires Inv-loop μ-loop
 orphan-requires c κs =
     let start = c .before .before .before .before in
     let at = c .before .before .before .loop in
     let t = c .before .lowest .result in
-    let isIn = lowest-member t (at .left) (omega (arith, at .inv .few, start .pre .0)) (c .before .before .loop-test .taken) (c .before .lowest .ensures) in
-    (start .pre .1 .0, (start .pre .1 .1, member-lt t (start .args .need) 10 (at .inv .isIn t isIn) (start .pre .0)))
+    let isIn = lowest-member t (at .left) (omega (arith, at .inv .few, start .pre .1)) (c .before .before .loop-test .taken) (c .before .lowest .ensures) in
+    (start .pre .0, member-lt t (start .args .need) 10 (at .inv .isIn t isIn) (start .pre .1))
 
 returns : tie.Need-returns Inv-loop μ-loop
 returns c =
     let start = c .before .before .before .before .before .before in
     let at = c .before .before .before .before .before .loop in
     let t = c .before .before .before .lowest .result in
-    let isIn = lowest-member t (at .left) (omega (arith, at .inv .few, start .pre .0)) (c .before .before .before .before .loop-test .taken) (c .before .before .before .lowest .ensures) in
-    λ e. record { t = t; needed = at .inv .isIn t isIn; orphan = c .before .orphan .ensures (c .if1 .taken) }
+    let isIn = lowest-member t (at .left) (omega (arith, at .inv .few, start .pre .1)) (c .before .before .before .before .loop-test .taken) (c .before .before .before .lowest .ensures) in
+    let found = c .before .orphan .ensures (c .if1 .taken) in
+    λ e. record {
+      t = t;
+      needed = at .inv .isIn t isIn;
+      orphan = record { register = found .register; low = found .low; isRead = and-member (found .register) _ (start .args .registers) (found .isRead) .0; lost = found .lost };
+    }
 
 without-requires : tie.Need-without-requires Inv-loop μ-loop
 without-requires c κs =
     let start = c .before .before .before .before .before .before in
     let at = c .before .before .before .before .before .loop in
     let t = c .before .before .before .lowest .result in
-    let isIn = lowest-member t (at .left) (omega (arith, at .inv .few, start .pre .0)) (c .before .before .before .before .loop-test .taken) (c .before .before .before .lowest .ensures) in
+    let isIn = lowest-member t (at .left) (omega (arith, at .inv .few, start .pre .1)) (c .before .before .before .before .loop-test .taken) (c .before .before .before .lowest .ensures) in
     isIn
 
 loop-less : tie.Need-loop-less Inv-loop μ-loop
@@ -68,7 +73,7 @@ loop-less c =
     let start = c .before .before .before .before .before .before .before in
     let at = c .before .before .before .before .before .before .loop in
     let t = c .before .before .before .before .lowest .result in
-    let isIn = lowest-member t (at .left) (omega (arith, at .inv .few, start .pre .0)) (c .before .before .before .before .before .loop-test .taken) (c .before .before .before .before .lowest .ensures) in
+    let isIn = lowest-member t (at .left) (omega (arith, at .inv .few, start .pre .1)) (c .before .before .before .before .before .loop-test .taken) (c .before .before .before .before .lowest .ensures) in
     let less = member-le t (at .left) isIn in
     let positive = pow-pos t in
     omega (arith, c .without .ensures)
@@ -78,7 +83,7 @@ loop-again c =
     let start = c .before .before .before .before .before .before .before in
     let at = c .before .before .before .before .before .before .loop in
     let t = c .before .before .before .before .lowest .result in
-    let isIn = lowest-member t (at .left) (omega (arith, at .inv .few, start .pre .0)) (c .before .before .before .before .before .loop-test .taken) (c .before .before .before .before .lowest .ensures) in
+    let isIn = lowest-member t (at .left) (omega (arith, at .inv .few, start .pre .1)) (c .before .before .before .before .before .loop-test .taken) (c .before .before .before .before .lowest .ensures) in
     within-rest (start .args .need) (at .left) t (c .without .result) (at .inv) isIn (c .without .ensures)
 
 returns-2 : tie.Need-returns-2 Inv-loop μ-loop

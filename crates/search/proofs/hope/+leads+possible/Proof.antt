@@ -16,7 +16,7 @@ use Rattle.search.proofs.SetLaws.{lowest-member, within-rest, passed-on
 use Rattle.search.proofs.StateLaws.{room-lt}
 use Rattle.search.proofs.TreeLaws.{fewer}
 use Rattle.search.proofs.HopeLaws.{Missed, ready-by, ready-on, next-ready, next-may, committed-next, awaited-less, no-run}
-use Rattle.search.proofs.OrphanLaws.{orphan-run}
+use Rattle.search.proofs.OrphanLaws.{orphaned-run}
 use Prim.Native.Nat.{ℕ, _+_, _*_, _<_}
 use borrow.Fn.Kinds.{In}
 use borrow.Fn.PlainCycle.{Measures, is, falls, and}
@@ -36,24 +36,24 @@ use Rattle.search.proofs.state.Search.place.Reads as place-reads
 use Rattle.search.proofs.hope.+leads+possible.{statement}
 use Rattle.search.proofs.hope.+leads+possible.Tie.{close}
 
-abbrev μ-leads : Measures 6 leads-kinds.ps ℕ
-μ-leads κs a = ones (a .1 .1 .1 .1 .1 .1 .0 .unplaced) * 2
+abbrev μ-leads : Measures 7 leads-kinds.ps ℕ
+μ-leads κs a = ones (a .1 .1 .1 .1 .1 .1 .1 .0 .unplaced) * 2
 
-abbrev μ-possible : Measures 6 possible-kinds.ps ℕ
-μ-possible κs a = ones (a .1 .1 .1 .1 .1 .1 .0 .unplaced) * 2 + 1
+abbrev μ-possible : Measures 7 possible-kinds.ps ℕ
+μ-possible κs a = ones (a .1 .1 .1 .1 .1 .1 .1 .0 .unplaced) * 2 + 1
 
-abbrev leads-at : ℕ → In 6 leads-kinds.ps
-leads-at t = and 6 leads-kinds.ps (is 6 leads-kinds.ps μ-leads t) leads.Pre
+abbrev leads-at : ℕ → In 7 leads-kinds.ps
+leads-at t = and 7 leads-kinds.ps (is 7 leads-kinds.ps μ-leads t) leads.Pre
 
-abbrev leads-below : ℕ → In 6 leads-kinds.ps
-leads-below t = and 6 leads-kinds.ps (falls 6 leads-kinds.ps _<_ μ-leads t) leads.Pre
+abbrev leads-below : ℕ → In 7 leads-kinds.ps
+leads-below t = and 7 leads-kinds.ps (falls 7 leads-kinds.ps _<_ μ-leads t) leads.Pre
 
-abbrev possible-at : ℕ → In 6 possible-kinds.ps
-possible-at t = and 6 possible-kinds.ps (is 6 possible-kinds.ps μ-possible t) possible.Pre
+abbrev possible-at : ℕ → In 7 possible-kinds.ps
+possible-at t = and 7 possible-kinds.ps (is 7 possible-kinds.ps μ-possible t) possible.Pre
 
-abbrev possible-below : ℕ → In 6 possible-kinds.ps
+abbrev possible-below : ℕ → In 7 possible-kinds.ps
 possible-below t =
-    and 6 possible-kinds.ps (falls 6 possible-kinds.ps _<_ μ-possible t) possible.Pre
+    and 7 possible-kinds.ps (falls 7 possible-kinds.ps _<_ μ-possible t) possible.Pre
 
 -- what each is handed of the functions that it calls
 abbrev leads-claims : ℕ → leads-lts.Claims
@@ -97,49 +97,68 @@ leads-place-requires : (t : ℕ) → leads-lts.Need-place-requires (leads-claims
 leads-place-requires t c κs =
     (c .before .before .pre .1 .0, search needs)
 
+leads-mul-registers : (t : ℕ) → leads-lts.Need-mul-registers (leads-claims t) (leads-at t) leads.Post
+leads-mul-registers t c =
+    let ten = room-lt (c .before .before .before .before .pre .1 .0) in search needs
+
+leads-element-copy-out-registers : (t : ℕ) → leads-lts.Need-element-copy-out-registers (leads-claims t) (leads-at t) leads.Post
+leads-element-copy-out-registers t c =
+    room-lt (c .before .before .before .before .pre .1 .0)
+
 leads-orphaned-requires : (t : ℕ) → leads-lts.Need-orphaned-requires (leads-claims t) (leads-at t) leads.Post
 leads-orphaned-requires t c κs =
-    let start = c .before .before .before .before in
-    let next = c .before .place .result in
-    let few = c .before .place .ensures .sound .few in
-    (omega (arith, and-le-r (start .args .need) (next .unplaced)), (few, room-lt (start .pre .1 .0)))
+    let start = c .before .before .before .before .before in
+    let place = c .before .before .place in
+    (place .ensures .sound, omega (arith, and-le-r (start .args .need) (place .result .unplaced), place .ensures .sound .few))
 
 leads-returns-2 : (t : ℕ) → leads-lts.Need-returns-2 (leads-claims t) (leads-at t) leads.Post
 leads-returns-2 t c =
-    let start = c .before .before .before .before .before .before in
-    let place = c .before .before .before .place in
-    λ u p l a. absurd (orphan-run (start .args .starts .now) (start .args .predecessors .now) (start .args .allowed .now) (start .args .reads .now) (start .args .required .now) (start .args .written .now) (start .args .s) (place .result) (start .args .need) u p l (start .args .t) (place .ensures) (c .before .orphaned .ensures (c .if2 .taken)) a)
+    let a = c .before .before .before .before .before .before .before .args in
+    let place = c .before .before .before .before .place in
+    let D = constraints (a .starts .now) (a .predecessors .now) (a .allowed .now) (a .reads .now) (a .required .now) (a .written .now) in
+    λ u p l run. absurd (orphaned-run (a .starts .now) (a .predecessors .now) (a .allowed .now) (a .reads .now) (a .required .now) (a .written .now)
+    (place .result) _ _ _ l (c .before .orphaned .ensures (c .if2 .taken)) (committed-next D (a .s) (a .need) u p l (a .t) (place .result) (place .ensures) run))
 
 leads-ready-after-requires : (t : ℕ) → leads-lts.Need-ready-after-requires (leads-claims t) (leads-at t) leads.Post
 leads-ready-after-requires t c κs =
-    (c .before .before .before .place .ensures .sound, room-lt (c .before .before .before .before .before .before .pre .1 .0))
+    let start = c .before .before .before .before .before .before .before in
+    let ten = room-lt (start .pre .1 .0) in
+    (c .before .before .before .before .place .ensures .sound, (ten, start .pre .1 .1 .1 .at (start .args .t) ten))
 
 leads-possible-requires : (t : ℕ) → leads-lts.Need-possible-requires (leads-claims t) (leads-at t) leads.Post
 leads-possible-requires t c κs =
-    let start = c .before .before .before .before .before .before .before in
-    let place = c .before .before .before .before .place in (
+    let start = c .before .before .before .before .before .before .before .before in
+    let a = start .args in
+    let place = c .before .before .before .before .before .place in (
       subst (λ (n : ℕ). ones (place .result .unplaced) * 2 + 1 < n) (start .pre .0)
-          (omega (arith, fewer (start .args .s) (place .result) (start .args .t) 1 (start .pre .1 .0) (place .ensures))),
-      (place .ensures .sound, ready-on (start .args .starts .now) (start .args .reads .now) (start .args .required .now) (start .args .written .now) (start .args .s) (place .result) (start .args .t) (start .args .ready) (c .ready-after .result) (start .pre .1 .0) (place .ensures) (start .pre .1 .1) (c .ready-after .ensures)),
+          (omega (arith, fewer (a .s) (place .result) (a .t) 1 (start .pre .1 .0) (place .ensures))),
+      (
+        place .ensures .sound,
+        (
+          ready-on (a .starts .now) (a .reads .now) (a .required .now) (a .written .now) (a .s) (place .result) (a .t) (a .ready) (c .ready-after .result)
+              (start .pre .1 .0) (place .ensures) (start .pre .1 .1 .0) (c .ready-after .ensures),
+          start .pre .1 .1 .1,
+        ),
+      ),
     )
 
 leads-returns-3 : (t : ℕ) → leads-lts.Need-returns-3 (leads-claims t) (leads-at t) leads.Post
 leads-returns-3 t c =
-    let start = c .before .before .before .before .before .before .before .before in
-    let D = constraints (start .args .starts .now) (start .args .predecessors .now) (start .args .allowed .now) (start .args .reads .now) (start .args .required .now) (start .args .written .now) in
-    let place = c .before .before .before .before .before .place in
-    λ u p l a. c .possible .ensures _ _ l (committed-next D (start .args .s) (start .args .need) u p l (start .args .t) (place .result) (place .ensures) a)
+    let a = c .before .before .before .before .before .before .before .before .before .args in
+    let D = constraints (a .starts .now) (a .predecessors .now) (a .allowed .now) (a .reads .now) (a .required .now) (a .written .now) in
+    let place = c .before .before .before .before .before .before .place in
+    λ u p l run. c .possible .ensures _ _ l (committed-next D (a .s) (a .need) u p l (a .t) (place .result) (place .ensures) run)
 
 abbrev possible-Inv-loop : possible-lts.InvT-loop
-possible-Inv-loop starts predecessors allowed reads required written s need ready rest left₀ left =
+possible-Inv-loop starts predecessors allowed reads required written writes s need ready rest left₀ left =
     Within (s .unplaced) left × ((k : ℕ) → (bitAt k left ≡ 1 → ⊥) → Missed (constraints starts predecessors allowed reads required written) s rest k)
 
 abbrev possible-μ-loop : possible-lts.MeasureT-loop
-possible-μ-loop starts predecessors allowed reads required written s need ready rest left₀ left = left
+possible-μ-loop starts predecessors allowed reads required written writes s need ready rest left₀ left = left
 
 possible-settle-requires : (t : ℕ) → possible-lts.Need-settle-requires (possible-claims t) (possible-at t) possible.Post possible-Inv-loop possible-μ-loop
 possible-settle-requires t c κs =
-    omega (arith, c .pre .1 .1 .within .few, c .pre .1 .0 .few)
+    omega (arith, c .pre .1 .1 .0 .within .few, c .pre .1 .0 .few)
 
 possible-returns : (t : ℕ) → possible-lts.Need-returns (possible-claims t) (possible-at t) possible.Post possible-Inv-loop possible-μ-loop
 possible-returns t c =
@@ -149,7 +168,7 @@ possible-loop-holds : (t : ℕ) → possible-lts.Need-loop-holds (possible-claim
 possible-loop-holds t c =
     let start = c .before .before in
     let D = constraints (start .args .starts .now) (start .args .predecessors .now) (start .args .allowed .now) (start .args .reads .now) (start .args .required .now) (start .args .written .now) in
-    let known = ready-by (start .args .starts .now) (start .args .predecessors .now) (start .args .allowed .now) (start .args .reads .now) (start .args .required .now) (start .args .written .now) (start .args .s) (start .args .ready) (start .pre .1 .1) in
+    let known = ready-by (start .args .starts .now) (start .args .predecessors .now) (start .args .allowed .now) (start .args .reads .now) (start .args .required .now) (start .args .written .now) (start .args .s) (start .args .ready) (start .pre .1 .1 .0) in
     (known .within, λ k out u p l a. out (next-ready D (start .args .s) (c .before .settle .result) u p l k (start .args .ready) 1 (omega arith) known a))
 
 possible-lowest-requires : (t : ℕ) → possible-lts.Need-lowest-requires (possible-claims t) (possible-at t) possible.Post possible-Inv-loop possible-μ-loop
@@ -205,10 +224,10 @@ possible-returns-3 t c =
     let at = c .before .loop in
     let D = constraints (start .args .starts .now) (start .args .predecessors .now) (start .args .allowed .now) (start .args .reads .now) (start .args .required .now) (start .args .written .now) in
     let needed = c .before .before .before .settle in
-    let known = ready-by (start .args .starts .now) (start .args .predecessors .now) (start .args .allowed .now) (start .args .reads .now) (start .args .required .now) (start .args .written .now) (start .args .s) (start .args .ready) (start .pre .1 .1) in
+    let known = ready-by (start .args .starts .now) (start .args .predecessors .now) (start .args .allowed .now) (start .args .reads .now) (start .args .required .now) (start .args .written .now) (start .args .s) (start .args .ready) (start .pre .1 .1 .0) in
     λ u p l a. absurd (no-run D (start .args .s) (needed .result) (start .args .ready) (omega (arith, needed .ensures .within .few, start .fits .need .fits)) (c .before .before .if1 .left)
     known (needed .ensures .stuck) (λ k. at .inv .1 k (no-member k (at .left) (c .loop-test .left))) l u p
-    (awaited-less D (start .args .s) (start .args .need) (needed .result) u p l (needed .ensures .within) a))
+    (awaited-less D (start .args .s) (start .args .need) (needed .result) u p l (needed .ensures .within .isIn) a))
 
 pub +leads+possible-spec : {M : Type 1} → statement M
 +leads+possible-spec = close μ-leads μ-possible (λ t. leads-lts.spec (leads-claims t)
@@ -217,6 +236,8 @@ pub +leads+possible-spec : {M : Type 1} → statement M
     (leads-other-than-requires t)
     (leads-returns t)
     (leads-place-requires t)
+    (leads-mul-registers t)
+    (leads-element-copy-out-registers t)
     (leads-orphaned-requires t)
     (leads-returns-2 t)
     (leads-ready-after-requires t)

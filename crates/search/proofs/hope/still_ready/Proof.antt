@@ -2,27 +2,12 @@
 -- Assumes nothing.
 use borrow.Author.Needs.{needs}
 use borrow.Author.Tests.{eqb-false}
-use mathlib.Core.Path.{_≡_, refl, sym, _∙_, subst}
-use mathlib.Core.Bool.{true}
-use mathlib.Core.List.{List}
-use Prim.Native.Nat.{ℕ}
-use Rattle.search.specs.Runs.{legalFor}
+use mathlib.Core.Path.{_≡_, refl, sym, _∙_}
 use Rattle.search.proofs.hope.still_ready.Statement.{statement}
 use Rattle.search.proofs.hope.still_ready.Tie as tie
 
-mul-effect : tie.Need-mul-effect
-mul-effect c = search needs
-
-element-copy-out-effect : tie.Need-element-copy-out-effect
-element-copy-out-effect c = search needs
-
-effect-requires : tie.Need-effect-requires
-effect-requires c κs = search needs
-
 returns : tie.Need-returns
-returns c =
-    let a = c .before .before .before .args in
-    λ h. absurd (c .before .effect .ensures .spoilt (c .if1 .taken) (a .starts .now) (h .before) (subst (λ (p : List ℕ). legalFor (a .starts .now) (a .reads .now) (a .required .now) (a .written .now) p (a .t) ≡ true) (h .grown) (h .is)))
+returns c = λ h. absurd (h .unspoilt (c .if1 .taken))
 
 has-requires : tie.Need-has-requires
 has-requires c κs = search needs
@@ -31,11 +16,7 @@ returns-2 : tie.Need-returns-2
 returns-2 c = λ h. refl
 
 returns-3 : tie.Need-returns-3
-returns-3 c =
-    let a = c .before .before .before .before .before .before .args in
-    let e = c .before .before .before .before .effect in
-    λ h. absurd (eqb-false _ _ (sym (c .before .before .has .ensures) ∙ c .before .if2 .left)
-    (h .was (e .ensures .untouched (c .if3 .taken) (a .starts .now) (h .before) (subst (λ (p : List ℕ). legalFor (a .starts .now) (a .reads .now) (a .required .now) (a .written .now) p (a .t) ≡ true) (h .grown) (h .is)))))
+returns-3 c = λ h. absurd (eqb-false _ _ (sym (c .before .before .has .ensures) ∙ c .before .if2 .left) (h .was (c .if3 .taken)))
 
 mul-legal : tie.Need-mul-legal
 mul-legal c = search needs
@@ -52,15 +33,4 @@ returns-4 c = λ h. c .legal .ensures ∙ h .is
 pub still-ready-spec : {M : Type 1} → statement M
 still-ready-spec =
     tie.close
-    (tie.spec
-    mul-effect
-    element-copy-out-effect
-    effect-requires
-    returns
-    has-requires
-    returns-2
-    returns-3
-    mul-legal
-    element-copy-out-legal
-    legal-requires
-    returns-4)
+    (tie.spec returns has-requires returns-2 returns-3 mul-legal element-copy-out-legal legal-requires returns-4)
