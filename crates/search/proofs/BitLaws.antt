@@ -11,7 +11,7 @@ use lib.Pow.{pow-pos, shr-shr}
 use lib.Count.{ones, ones-step, trailingZeros, under}
 use borrow.Author.Tests.{eqb-true, eqb-false, eq-eqb, ne-eqb}
 use Rattle.search.specs.Bits.{bitAt, consIf, membersIn, members}
-use lib.Bits.{bitAnd, bitOr, bitXor, differ, and-step, and-zero-r, or-step, or-zero-r, xor-step}
+use lib.Bits.{bitAnd, bitOr, bitXor, differ, and-step, and-zero-r, or-step, or-zero-r, or-comm, xor-step}
 use Rattle.search.specs.Tree.{remove, noneIn, upFrom}
 
 -- ---- halving a number with a digit taken off
@@ -96,6 +96,17 @@ member-and (suc k) a b g h = let e : bitAnd a b / 2 ≡ bitAnd (a / 2) (b / 2) =
 
 -- ---- the members of one of two sets alone
 
+xor-half : (a b : ℕ) → bitXor a b / 2 ≡ bitXor (a / 2) (b / 2)
+xor-half a b =
+    let s = xor-step a b in
+    let l : differ (a % 2) (b % 2) < 2 = differ-lt (a % 2) (b % 2) (omega arith) (omega arith) in
+    omega arith
+  where
+    differ-lt : (x y : ℕ) → x < 2 → y < 2 → differ x y < 2
+    differ-lt zero y l m = m
+    differ-lt (suc x) zero l m = omega arith
+    differ-lt (suc x) (suc y) l m = differ-lt x y (omega arith) (omega arith)
+
 pub xor-member : (k a b : ℕ) → (bitAt k b ≡ 1 → bitAt k a ≡ 1) → bitAt k (bitXor a b) ≡ 1 → bitAt k a ≡ 1
 unfolding bitAt
 xor-member zero a b sub h = go (a % 2) refl (b % 2) refl (omega arith) (omega arith)
@@ -105,16 +116,15 @@ xor-member zero a b sub h = go (a % 2) refl (b % 2) refl (omega arith) (omega ar
     go zero e zero f l m = absurd (let s = rw (e, f) at (xor-step a b) in omega arith)
     go zero e (suc y) f l m = absurd (let q : b % 2 ≡ 1 = omega arith in omega (arith, sub q))
     go (suc (suc x)) e y f l m = absurd (omega arith)
-xor-member (suc k) a b sub h =
-    let s = xor-step a b in
-    let l : differ (a % 2) (b % 2) < 2 = differ-lt (a % 2) (b % 2) (omega arith) (omega arith) in
-    let e : bitXor a b / 2 ≡ bitXor (a / 2) (b / 2) = omega arith in
-    xor-member k (a / 2) (b / 2) sub (rw e at h)
+xor-member (suc k) a b sub h = xor-member k (a / 2) (b / 2) sub (rw (xor-half a b) at h)
+
+pub member-xor : (k a b : ℕ) → bitAt k a ≡ 1 → (bitAt k b ≡ 1 → ⊥) → bitAt k (bitXor a b) ≡ 1
+unfolding bitAt
+member-xor zero a b h out = let f : b % 2 ≡ 0 = even (b % 2) (omega arith) out in let s = rw (h, f) at (xor-step a b) in omega arith
   where
-    differ-lt : (x y : ℕ) → x < 2 → y < 2 → differ x y < 2
-    differ-lt zero y l m = m
-    differ-lt (suc x) zero l m = omega arith
-    differ-lt (suc x) (suc y) l m = differ-lt x y (omega arith) (omega arith)
+    even : (x : ℕ) → x < 2 → (x ≡ 1 → ⊥) → x ≡ 0
+    even x l n = omega arith
+member-xor (suc k) a b h out = rw (xor-half a b) (member-xor k (a / 2) (b / 2) h out)
 
 -- ---- one bit more in a set
 
@@ -145,6 +155,14 @@ bit-with zero (suc t) n =
     let f : eqb (suc t) 0 ≡ false = ne-eqb (suc t) 0 (λ q. omega arith) in
     rw (or-low n (2 ^ suc t), e, f) (omega arith)
 bit-with (suc x) (suc t) n = let e : 2 ^ suc t / 2 ≡ 2 ^ t = rw pow-suc (omega arith) in rw (or-half n (2 ^ suc t), e, eqb-suc t x) (bit-with x t (n / 2))
+
+pub member-or-l : (k a b : ℕ) → bitAt k a ≡ 1 → bitAt k (bitOr a b) ≡ 1
+unfolding bitAt
+member-or-l zero a b h = rw (or-low a b) (omega arith)
+member-or-l (suc k) a b h = rw (or-half a b) (member-or-l k (a / 2) (b / 2) h)
+
+pub member-or-r : (k a b : ℕ) → bitAt k b ≡ 1 → bitAt k (bitOr a b) ≡ 1
+member-or-r k a b h = rw (or-comm a b) (member-or-l k b a h)
 
 -- all of the lowest n digits
 pub bit-all : (k n : ℕ) → k < n → bitAt k (2 ^ n - 1) ≡ 1

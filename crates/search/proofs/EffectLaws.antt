@@ -19,8 +19,8 @@ use Rattle.search.specs.Bits.{bitAt, members}
 use Rattle.search.specs.Places.{coded, decode, plus, writesIn, writeOf}
 use Rattle.search.specs.Tree.{legalAt}
 use Rattle.search.specs.Runs.{legalFor, Effect, Writes, Written, Renewed, Stays}
-use Rattle.search.proofs.BitLaws.{member-lt, and-member, member-and, bit-with, bit-all}
-use Rattle.search.proofs.SetLaws.{member-passes, members-pass}
+use Rattle.search.proofs.BitLaws.{member-lt, member-and, bit-with, bit-all}
+use Rattle.search.proofs.SetLaws.{member-passes, members-pass, fewer-pass}
 use Rattle.search.proofs.LookupLaws.{committed-wrote, decode-snoc}
 
 -- ---- what a commit leaves in a register
@@ -108,8 +108,7 @@ effect-among w v x t reads registers e low writes f =
   where
     part : (o p : List ℕ) → all (legalAt o w (writesIn v) (p ++ ((x * 2 + 1) ∷ [])) t) (members reads) ≡ true
         → all (legalAt o w (writesIn v) (p ++ ((x * 2 + 1) ∷ [])) t) (members (bitAnd reads registers)) ≡ true
-    part o p h = members-pass _ (bitAnd reads registers) (λ k b.
-        let m = and-member k reads registers b .0 in member-passes _ reads h k (omega (arith, member-lt k reads 32 m low)) m)
+    part o p h = fewer-pass _ reads registers low h
 
     go : (o p : List ℕ) (k : ℕ) → bitAt k reads ≡ 1 → k < 32 → legalAt o w (writesIn v) (p ++ ((x * 2 + 1) ∷ [])) t k ≡ true
         → all (legalAt o w (writesIn v) p t) (members (bitAnd reads registers)) ≡ true → (d : Bool) → eqb (getD v (x * 32 + k) 0) 0 ≡ d → legalAt o w (writesIn v) p t k ≡ true

@@ -9,3 +9,4 @@ pub mod TreeLaws
 pub mod RunLaws
 pub mod HopeLaws
 pub mod OrphanLaws
+pub mod UnwrittenLaws

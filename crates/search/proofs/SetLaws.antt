@@ -15,7 +15,7 @@ use Rattle.search.specs.Bits.{bitAt, consIf, membersIn, members}
 use Rattle.search.specs.State.{Within}
 use Rattle.search.specs.Runs.{Keeps}
 use Rattle.events.proofs.ListLaws.{and-l, and-r, and-i, clash}
-use Rattle.search.proofs.BitLaws.{member-off, member-kept, member-gone, and-member, lowest-in, members-lowest}
+use Rattle.search.proofs.BitLaws.{member-lt, member-off, member-kept, member-gone, and-member, lowest-in, members-lowest}
 
 pub members-first : (t c : ℕ) → c < 2 ^ 64 → (c ≡ 0 → ⊥) → t ≡ trailingZeros 64 c → members c ≡ t ∷ members (c - 2 ^ t)
 unfolding members
@@ -124,3 +124,8 @@ module _ (p : ℕ → Bool) where
   pub members-pass : (n : ℕ) → ((k : ℕ) → bitAt k n ≡ 1 → p k ≡ true) → all p (members n) ≡ true
   unfolding members
   members-pass n f = in-passes 64 0 n (λ k l b. rw zero-add (f k b))
+
+-- so do those that are in another set too
+pub fewer-pass : (p : ℕ → Bool) (n other : ℕ) → n < 2 ^ 32 → all p (members n) ≡ true → all p (members (bitAnd n other)) ≡ true
+fewer-pass p n other low h = members-pass p (bitAnd n other) (λ k b.
+    let isIn = and-member k n other b .0 in member-passes p n h k (omega (arith, member-lt k n 32 isIn low)) isIn)

@@ -151,6 +151,12 @@ start-sound n u l e =
       coded = record { few = omega arith; codes = λ i h. absurd (omega arith) };
     }
 
-pub start-completes : (D : Constraints) (n u : ℕ) → n ≤ 10 → u ≡ 2 ^ n - 1 → fromCandidates D (ones u) [] (members u) (members u) ≡ firstCompletion D n
+-- and so is the answer that of the whole search
+pub start-answers : (D : Constraints) (n u a : ℕ) → n ≤ 10 → u ≡ 2 ^ n - 1
+    → Answers (0 + ones u) a (fromCandidates D (ones u) [] (members u) (members u)) → Answers n a (firstCompletion D n)
 unfolding firstCompletion
-start-completes D n u l e = rw (e, ones-ones n, members-all n (omega arith))
+start-answers D n u a l e h =
+    let all : ones u ≡ n = ap ones e ∙ ones-ones n in
+    let same : fromCandidates D (ones u) [] (members u) (members u) ≡ firstCompletion D n = rw (e, ones-ones n, members-all n (omega arith)) in
+    let n-places : 0 + ones u ≡ n = zero-add (ones u) ∙ all in
+    record { completion = ap (λ (k : ℕ). readAnswer k a) (sym n-places) ∙ h .completion ∙ same; room = rw n-places at (h .room) }

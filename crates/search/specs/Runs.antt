@@ -5,7 +5,7 @@ use mathlib.Core.Path.{_≡_}
 use Prim.Native.Nat.{ℕ, _+_, _*_, _-_, _/_, _%_, _^_, _<_}
 use mathlib.Core.List.{List, [], _∷_, _++_}
 use mathlib.Core.Bool.{Bool, true, false, not, cond}
-use lib.ListN.{getD}
+use lib.ListN.{length, getD}
 use lib.Dec.{eqb}
 use Rattle.events.specs.Lists.{_and_, all}
 use Rattle.events.specs.Starts.{startOf}
@@ -89,6 +89,22 @@ pub record Writes (written : List ℕ) (x registers : ℕ) : Type 0 where
 -- the table has them for each
 pub record Written (written registers : List ℕ) : Type 0 where
   pub at : (t : ℕ) → t < 10 → Writes written t (getD registers t 0)
+
+-- any has what one of them writes
+pub record WrittenByAny (registers : List ℕ) (any : ℕ) : Type 0 where
+  pub has : (t r : ℕ) → t < 10 → bitAt r (getD registers t 0) ≡ 1 → bitAt r any ≡ 1
+
+-- nobody writes another register
+pub record NoOther (written : List ℕ) (any : ℕ) : Type 0 where
+  pub none : (t r : ℕ) → t < 10 → r < 32 → (bitAt r any ≡ 1 → ⊥) → getD written (t * 32 + r) 0 ≡ 0
+
+-- places of at most ten transactions
+abbrev pub Codes : List ℕ → Type 0
+Codes p = (i : ℕ) → i < length p → getD p i 0 < 20
+
+-- to ask about these registers is to ask about all that are read
+pub record Asked (starts reads required written asked : List ℕ) : Type 0 where
+  pub same : (t : ℕ) (p : List ℕ) → t < 10 → Codes p → legalFor starts asked required written p t ≡ legalFor starts reads required written p t
 
 -- t is legal after the places p, the last of which is x committed, and was in ready if it was legal before
 pub record Renewed (legal : List ℕ → ℕ → Bool) (p : List ℕ) (x ready t : ℕ) : Type 0 where

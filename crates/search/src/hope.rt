@@ -16,16 +16,15 @@ use crate::effects::SPOILT;
 use crate::effects::UNTOUCHED;
 use crate::effects::effect;
 use crate::effects::orphaned;
-use crate::effects::registers_written;
 use crate::lookup::legal;
 use crate::sets;
 use crate::state::Search;
 
 // Fewer unplaced than this are searched without asking.
-const FEW: usize = 5;
+pub const FEW: usize = 5;
 
 // All registers.
-const ALL: u32 = 4294967295;
+pub const ALL: u32 = 4294967295;
 
 // The set, and t in it only if it passes.
 fn kept(set: u64, t: usize, passes: bool) -> u64
@@ -296,14 +295,4 @@ pub fn hopeful(
         candidates,
         ready,
     )
-}
-
-// The registers that each transaction writes, as the questions want them: where so few are searched that none is asked, any will do.
-pub fn registers_for(written: &[u64; 320], n: usize) -> [u32; 10]
-    ensures { λ r. ⌜ Written (now (written .entry)) r ⌝ }
-{
-    if n < FEW {
-        return [ALL; 10];
-    }
-    registers_written(written)
 }

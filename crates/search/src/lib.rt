@@ -14,11 +14,15 @@ mod hope;
 pub mod lookup;
 pub mod sets;
 pub mod state;
+mod unwritten;
 
+use effects::registers_written;
+use hope::ALL;
+use hope::FEW;
 use hope::hopeful;
-use hope::registers_for;
 use lookup::legal;
 use state::Search;
+use unwritten::reads_asked;
 
 // Outcomes, and as rules the outcomes that a transaction may have.
 const ABORTED: u8 = 0;
@@ -218,12 +222,27 @@ pub fn find(
         filled: 0,
         placed: 1,
     };
-    let writes = registers_for(written, n);
+    if n < FEW {
+        let writes = [ALL; 10];
+        return choose_transaction(
+            starts,
+            predecessors,
+            allowed,
+            reads,
+            required,
+            written,
+            &writes,
+            s,
+            s.unplaced,
+        );
+    }
+    let writes = registers_written(written);
+    let asked = reads_asked(starts, reads, required, written, &writes);
     choose_transaction(
         starts,
         predecessors,
         allowed,
-        reads,
+        &asked,
         required,
         written,
         &writes,

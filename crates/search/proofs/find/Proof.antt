@@ -1,46 +1,74 @@
 -- `search::find` meets its contract: the search starts with all transactions unplaced, as both the unplaced and the candidates.
 -- Assumes nothing.
 use borrow.Author.Needs.{needs}
-use mathlib.Core.Path.{_≡_, sym, ap, _∙_}
-use Prim.Native.Nat.{ℕ, _+_, _-_}
-use native.Mathlib.Nat.{zero-add}
+use mathlib.Core.Path.{_≡_, ap}
+use Prim.Native.Nat.{ℕ, _-_}
 use native.Mathlib.Omega.{arith}
-use lib.Count.{ones, ones-ones}
 use lib.Pow.{pow-pos}
 use Rattle.search.specs.Places.{codesOf}
-use Rattle.search.specs.Tree.{constraints, readAnswer}
-use Rattle.search.proofs.TreeLaws.{start-sound, start-completes}
+use Rattle.search.specs.Tree.{constraints}
+use Rattle.search.proofs.TreeLaws.{start-sound, start-answers, answers-as}
 use Rattle.search.proofs.SetLaws.{within-self}
+use Rattle.search.proofs.EffectLaws.{all-written}
+use Rattle.search.proofs.UnwrittenLaws.{asked-completion}
 use Rattle.search.proofs.find.Statement.{statement}
 use Rattle.search.proofs.find.Tie as tie
 
 bit-requires : tie.Need-bit-requires
 bit-requires c κs = search needs
 
-sub-t11 : tie.Need-sub-t11
-sub-t11 c = omega (arith, c .bit .ensures, pow-pos (c .before .args .n))
-
-registers-for-requires : tie.Need-registers-for-requires
-registers-for-requires c κs = search needs
+sub-t13 : tie.Need-sub-t13
+sub-t13 c = omega (arith, c .bit .ensures, pow-pos (c .before .args .n))
 
 choose-transaction-requires : tie.Need-choose-transaction-requires
 choose-transaction-requires c κs =
     let start = c .before .before .before in
     let all = c .before .before .bit in
-    (start-sound (start .args .n) (all .result - 1) (start .pre) (ap (λ (k : ℕ). k - 1) (all .ensures)), (within-self _, c .before .registers-for .ensures))
+    (start-sound (start .args .n) (all .result - 1) (start .pre) (ap (λ (k : ℕ). k - 1) (all .ensures)), (within-self _, all-written _))
 
 returns : tie.Need-returns
 unfolding codesOf
 returns c =
     let start = c .before .before .before .before in
-    let D = constraints (start .args .starts .now) (start .args .predecessors .now) (start .args .allowed .now) (start .args .reads .now) (start .args .required .now) (start .args .written .now) in
-    let u = c .before .before .before .bit .result - 1 in
-    let all : 0 + ones u ≡ start .args .n = zero-add (ones u) ∙ ap (λ (k : ℕ). ones (k - 1)) (c .before .before .before .bit .ensures) ∙ ones-ones (start .args .n) in
-    record {
-      completion = ap (λ (k : ℕ). readAnswer k (c .choose-transaction .result)) (sym all) ∙ c .choose-transaction .ensures .completion
-          ∙ start-completes D (start .args .n) (c .before .before .before .bit .result - 1) (start .pre) (ap (λ (k : ℕ). k - 1) (c .before .before .before .bit .ensures));
-      room = rw all at (c .choose-transaction .ensures .room);
-    }
+    let all = c .before .before .before .bit in
+    let a = start .args in
+    let D = constraints (a .starts .now) (a .predecessors .now) (a .allowed .now) (a .reads .now) (a .required .now) (a .written .now) in
+    start-answers D (a .n) (all .result - 1) (c .choose-transaction .result) (start .pre) (ap (λ (k : ℕ). k - 1) (all .ensures)) (c .choose-transaction .ensures)
+
+registers-written-requires : tie.Need-registers-written-requires
+registers-written-requires c κs = search needs
+
+reads-asked-requires : tie.Need-reads-asked-requires
+reads-asked-requires c κs = search needs
+
+choose-transaction-requires-2 : tie.Need-choose-transaction-requires-2
+choose-transaction-requires-2 c κs =
+    let start = c .before .before .before .before .before .before .before in
+    let all = c .before .before .before .before .before .before .bit in
+    (start-sound (start .args .n) (all .result - 1) (start .pre) (ap (λ (k : ℕ). k - 1) (all .ensures)), (within-self _, c .before .before .before .before .registers-written .ensures))
+
+-- the tree in which fewer registers are asked about is the same
+returns-2 : tie.Need-returns-2
+unfolding codesOf
+returns-2 c =
+    let start = c .before .before .before .before .before .before .before .before in
+    let all = c .before .before .before .before .before .before .before .bit in
+    let asked = c .before .before .before .reads-asked in
+    let a = start .args in
+    let D = constraints (a .starts .now) (a .predecessors .now) (a .allowed .now) (asked .result) (a .required .now) (a .written .now) in
+    answers-as (a .n) (c .choose-transaction2 .result)
+    (start-answers D (a .n) (all .result - 1) (c .choose-transaction2 .result) (start .pre) (ap (λ (k : ℕ). k - 1) (all .ensures)) (c .choose-transaction2 .ensures))
+    (asked-completion (a .starts .now) (a .predecessors .now) (a .allowed .now) (a .reads .now) (asked .result) (a .required .now) (a .written .now) (asked .ensures) (a .n) (start .pre))
 
 pub find-spec : {M : Type 1} → statement M
-find-spec = tie.close (tie.spec bit-requires sub-t11 registers-for-requires choose-transaction-requires returns)
+find-spec =
+    tie.close
+    (tie.spec
+    bit-requires
+    sub-t13
+    choose-transaction-requires
+    returns
+    registers-written-requires
+    reads-asked-requires
+    choose-transaction-requires-2
+    returns-2)
