@@ -8,7 +8,7 @@ use mathlib.Core.Bool.{Bool, true, false, cond}
 use mathlib.Core.Option.{Option, none, some, Option·getD}
 use lib.ListN.{length, getD, set, replicate, getD-replicate}
 use lib.Seq.{getD-set-same, getD-set-other}
-use lib.Bits.{bitAnd, bitOr, and-le-l, and-le-r, or-add-and}
+use lib.Bits.{bitAnd, bitOr, and-le-l, and-le-r, or-add-and, or-mod}
 use lib.Dec.{eqb}
 use borrow.Author.Tests.{eqb-true, eqb-false, ne-eqb}
 use Rattle.events.specs.Lists.{all}
@@ -18,8 +18,8 @@ use Rattle.opacity.proofs.Contents.{contents-more}
 use Rattle.search.specs.Bits.{bitAt, members}
 use Rattle.search.specs.Places.{coded, decode, plus, writesIn, writeOf}
 use Rattle.search.specs.Tree.{legalAt}
-use Rattle.search.specs.Runs.{legalFor, Effect, Writes, Written, Renewed, Stays}
-use Rattle.search.proofs.BitLaws.{member-lt, member-and, bit-with, bit-all}
+use Rattle.search.specs.Runs.{legalFor, Effect, Effects, Writes, Written, Renewed, Stays}
+use Rattle.search.proofs.BitLaws.{member-lt, member-and, bit-with}
 use Rattle.search.proofs.SetLaws.{member-passes, members-pass, fewer-pass}
 use Rattle.search.proofs.LookupLaws.{committed-wrote, decode-snoc}
 
@@ -60,25 +60,19 @@ module _ (w v : List ℕ) (x t r : ℕ) (low : r < 32) where
 
   pub writes-nothing : getD v (x * 32 + r) 0 ≡ 0 → Effect legal-read x 0
   unfolding legalAt
-  writes-nothing e =
-      record {
-        small = omega arith;
-        untouched = λ z o p h. rw (as-before (startOf o) v p x r low e) at h;
-        spoilt = λ z o p h. omega arith;
-      }
+  writes-nothing e = record { untouched = λ z o p h. rw (as-before (startOf o) v p x r low e) at h; spoilt = λ z o p h. absurd (z refl) }
 
   pub reads-nothing : getD w (t * 32 + r) 0 ≡ 0 → Effect legal-read x 0
   unfolding legalAt
-  reads-nothing e = record { small = omega arith; untouched = λ z o p h. rw e; spoilt = λ z o p h. omega arith }
+  reads-nothing e = record { untouched = λ z o p h. rw e; spoilt = λ z o p h. absurd (z refl) }
 
-  pub helps : Effect legal-read x 1
-  helps = record { small = omega arith; untouched = λ z o p h. absurd (omega arith); spoilt = λ z o p h. omega arith }
+  pub helps : Effect legal-read x 4294967296
+  helps = record { untouched = λ z o p h. absurd (omega arith); spoilt = λ z o p h. absurd (z refl) }
 
-  pub spoils : (getD v (x * 32 + r) 0 ≡ 0 → ⊥) → (getD w (t * 32 + r) 0 ≡ 0 → ⊥) → (getD v (x * 32 + r) 0 ≡ getD w (t * 32 + r) 0 → ⊥) → Effect legal-read x 2
+  pub spoils : (e : ℕ) → 0 < e → (getD v (x * 32 + r) 0 ≡ 0 → ⊥) → (getD w (t * 32 + r) 0 ≡ 0 → ⊥) → (getD v (x * 32 + r) 0 ≡ getD w (t * 32 + r) 0 → ⊥) → Effect legal-read x e
   unfolding legalAt
-  spoils f g n =
+  spoils e positive f g n =
       record {
-        small = omega arith;
         untouched = λ z o p h. absurd (omega arith);
         spoilt = λ z o p h.
             let k : eqb (getD w (t * 32 + r) 0) 0 ≡ false = ne-eqb _ _ g in
@@ -91,6 +85,10 @@ module _ (w v : List ℕ) (x t r : ℕ) (low : r < 32) where
 pub or-none : (a b : ℕ) → bitOr a b ≡ 0 → (a ≡ 0) × (b ≡ 0)
 or-none a b e = (omega (arith, or-add-and a b, and-le-r a b), omega (arith, or-add-and a b, and-le-l a b))
 
+-- what has registers has them from one of the two
+pub or-registers : (a b : ℕ) → a % 4294967296 ≡ 0 → b % 4294967296 ≡ 0 → bitOr a b % 4294967296 ≡ 0
+or-registers a b f g = or-mod a b 32 ∙ (rw (f, g))
+
 pub all-members : (f g : ℕ → Bool) (set : ℕ) → set < 2 ^ 32 → ((k : ℕ) → bitAt k set ≡ 1 → f k ≡ true → g k ≡ true) → all f (members set) ≡ true → all g (members set) ≡ true
 all-members f g set low h t = members-pass g set (λ k b. h k b (member-passes f set t k (omega (arith, member-lt k set 32 b low)) b))
 
@@ -100,7 +98,6 @@ pub effect-among : (w v : List ℕ) (x t reads registers e : ℕ) → reads < 2 
     → Effect (λ (o p : List ℕ). all (legalAt o w (writesIn v) p t) (members reads)) x e
 effect-among w v x t reads registers e low writes f =
     record {
-      small = f .small;
       untouched = λ z o p h. all-members (λ k. legalAt o w (writesIn v) (p ++ ((x * 2 + 1) ∷ [])) t k) (λ k. legalAt o w (writesIn v) p t k) reads low
           (λ k b g. go o p k b (member-lt k reads 32 b low) g (f .untouched z o p (part o p h)) (eqb (getD v (x * 32 + k) 0) 0) refl) h;
       spoilt = λ z o p h. f .spoilt z o p (part o p h);
@@ -120,7 +117,11 @@ pub stays : (o reads w v p : List ℕ) (x ready t e : ℕ) → Effect (λ (q l :
     → Stays (legalFor o reads w v p t) ready t e
 stays o reads w v p x ready t e f h =
     let after : legalFor o reads w v (h .before ++ ((x * 2 + 1) ∷ [])) t ≡ true = subst (λ (l : List ℕ). legalFor o reads w v l t ≡ true) (h .grown) (h .is) in
-    record { is = h .is; unspoilt = λ z. f .spoilt z o (h .before) after; was = λ z. h .was (f .untouched z o (h .before) after) }
+    record { is = h .is; unspoilt = go (eqb (e % 4294967296) 0) refl after; was = λ z. h .was (f .untouched z o (h .before) after) }
+  where
+    go : (b : Bool) → eqb (e % 4294967296) 0 ≡ b → legalFor o reads w v (h .before ++ ((x * 2 + 1) ∷ [])) t ≡ true → e % 4294967296 ≡ 0
+    go true q k = eqb-true _ _ q
+    go false q k = absurd (f .spoilt (eqb-false _ _ q) o (h .before) k)
 
 -- ---- the registers that each writes
 
@@ -173,6 +174,27 @@ noted-all v m n =
       };
     }
 
--- all registers are, whatever is written
-pub all-written : (v : List ℕ) → Written v (replicate 10 4294967295)
-all-written v = record { at = λ t low. record { has = λ r l f. ap (bitAt r) (getD-replicate 10 t 4294967295 0 low) ∙ bit-all r 32 l } }
+-- ---- the table of effects
+
+-- where all may help nothing is known
+pub nothing-known : (reads w v : List ℕ) → Effects reads w v (replicate 100 4294967296)
+nothing-known reads w v =
+    record {
+      at = λ x t low ten.
+          let all : List ℕ = replicate 100 4294967296 in
+          let e : getD all (x * 10 + t) 0 ≡ 4294967296 = getD-replicate 100 (x * 10 + t) 4294967296 0 (omega arith) in
+          record { untouched = λ z o p h. absurd (omega arith); spoilt = λ z o p h. absurd (z (ap (λ (k : ℕ). k % 4294967296) e)) };
+    }
+
+-- one more is known
+pub known-on : (reads w v m : List ℕ) (i e : ℕ) → length m ≡ 100 → i < 100 → Effects reads w v m
+    → Effect (λ (o p : List ℕ). legalFor o reads w v p (i % 10)) (i / 10) e → Effects reads w v (set m i e)
+known-on reads w v m i e long low f g = record { at = λ x t a b. go x t a b (eqb (x * 10 + t) i) refl }
+  where
+    go : (x t : ℕ) → x < 10 → t < 10 → (d : Bool) → eqb (x * 10 + t) i ≡ d → Effect (λ (o p : List ℕ). legalFor o reads w v p t) x (getD (set m i e) (x * 10 + t) 0)
+    go x t a b true q =
+        let same : x * 10 + t ≡ i = eqb-true _ _ q in
+        let tens : i / 10 ≡ x = omega arith in
+        let ones : i % 10 ≡ t = omega arith in
+        rw (same, getD-set-same m i e 0 (omega arith)) (rw (tens, ones) at g)
+    go x t a b false q = rw (getD-set-other m i (x * 10 + t) e 0 (eqb-false _ _ q)) (f .at x t a b)

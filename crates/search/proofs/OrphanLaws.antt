@@ -40,7 +40,7 @@ module _ (o b a x w v : List ℕ) (t r set : ℕ) (low : r < 32) (isRead : bitAt
       go true d e q k s = writes-nothing w v y t r low (eqb-true _ _ d) .untouched refl o p h
       go false d true q k s = reads-nothing w v y t r low (eqb-true _ _ q) .untouched refl o p h
       go false d false q true s = absurd (none y isIn f g (eqb-true _ _ s))
-      go false d false q false s = absurd (spoils w v y t r low (eqb-false _ _ d) (eqb-false _ _ q) (eqb-false _ _ s) .spoilt refl o p h)
+      go false d false q false s = absurd (spoils w v y t r low 1 (omega arith) (eqb-false _ _ d) (eqb-false _ _ q) (eqb-false _ _ s) .spoilt (λ z. omega arith) o p h)
 
   lost-run : (l : List ℕ) (u : ℕ) (p : List ℕ) → u < 1024 → bitAt t u ≡ 1 → ((k : ℕ) → bitAt k u ≡ 1 → bitAt k set ≡ 1) → (legal-after p ≡ true → ⊥)
       → runs (constraints o b a x w v) p u l ≡ true → ⊥

@@ -54,11 +54,15 @@ pub record Keeps (Passes : ℕ → Type 0) (set r : ℕ) : Type 0 where
 abbrev pub Ready : List ℕ → List ℕ → List ℕ → List ℕ → Search → ℕ → Type 0
 Ready starts reads required written s ready = Keeps (λ k. legalFor starts reads required written (placedOf s) k ≡ true) (s .unplaced) ready
 
--- e is what the commit of x does to a read that is legal over these start values after these places: 0 nothing, 2 it is legal no more
+-- e is what the commit of x does to reads that are legal over these start values after these places: 0 nothing, and if it has registers below
+-- 2 ^ 32 they are legal no more
 pub record Effect (legal : List ℕ → List ℕ → Bool) (x e : ℕ) : Type 0 where
-  pub small : e < 3
   pub untouched : e ≡ 0 → (o p : List ℕ) → legal o (p ++ ((x * 2 + 1) ∷ [])) ≡ true → legal o p ≡ true
-  pub spoilt : e ≡ 2 → (o p : List ℕ) → legal o (p ++ ((x * 2 + 1) ∷ [])) ≡ true → ⊥
+  pub spoilt : (e % 4294967296 ≡ 0 → ⊥) → (o p : List ℕ) → legal o (p ++ ((x * 2 + 1) ∷ [])) ≡ true → ⊥
+
+-- the table has at 10 * x + t what that of x does to those of t
+pub record Effects (reads required written effects : List ℕ) : Type 0 where
+  pub at : (x t : ℕ) → x < 10 → t < 10 → Effect (λ (o p : List ℕ). legalFor o reads required written p t) x (getD effects (x * 10 + t) 0)
 
 -- k is not one, other than t, that may commit and writes this to r
 abbrev pub NoSource : List ℕ → List ℕ → ℕ → ℕ → ℕ → ℕ → Type 0
@@ -116,7 +120,7 @@ pub record Renewed (legal : List ℕ → ℕ → Bool) (p : List ℕ) (x ready t
 -- t is legal, a commit with the effect e has not spoilt it, and it was ready if that has not touched it
 pub record Stays (legal : Bool) (ready t e : ℕ) : Type 0 where
   pub is : legal ≡ true
-  pub unspoilt : e ≡ 2 → ⊥
+  pub unspoilt : e % 4294967296 ≡ 0
   pub was : e ≡ 0 → bitAt t ready ≡ 1
 
 -- may t come next with another outcome than o, where no one counts but those that are needed

@@ -2,7 +2,7 @@
 ghost use mathlib.Core.Path.{_≡_};
 ghost use mathlib.Core.Bool.{true, false, cond};
 ghost use mathlib.Core.List.{List};
-ghost use Prim.Native.Nat.{ℕ, _*_, _+_, _^_, _<_};
+ghost use Prim.Native.Nat.{ℕ, _*_, _+_, _%_, _^_, _<_};
 ghost use lib.Bits.{bitOr};
 ghost use lib.Dec.{eqb};
 ghost use lib.ListN.{getD};
@@ -11,7 +11,7 @@ ghost use Rattle.search.specs.Bits.{bitAt, members};
 ghost use Rattle.search.specs.Places.{writesIn};
 ghost use Rattle.search.specs.State.{Sound};
 ghost use Rattle.search.specs.Tree.{legalAt};
-ghost use Rattle.search.specs.Runs.{Effect, Writes, Written, NoSource, Lost, Orphan, Orphaned};
+ghost use Rattle.search.specs.Runs.{Effect, Effects, Writes, Written, NoSource, Lost, Orphan, Orphaned};
 use crate::ABORTED;
 use crate::lookup::legal_at;
 use crate::lookup::value_of;
@@ -20,12 +20,11 @@ use crate::state::Search;
 
 const REGISTERS: usize = 32;
 
-// What a commit does to a store read: nothing, or it writes the value, or another one.
-pub const UNTOUCHED: u8 = 0;
+const TRANSACTIONS: usize = 10;
 
-const HELPED: u8 = 1;
-
-pub const SPOILT: u8 = 2;
+// What a commit does to the store reads of a transaction is one number. Below this stand the registers that it overwrites with another value
+// than was read, one bit each; this itself stands in it where a value that was read is written. So 0 is nothing at all.
+pub const HELPED: u64 = 4294967296;
 
 // The set of registers, and r in it if a table holds something at it.
 fn noted(set: u32, r: usize, entry: u64) -> u32
@@ -53,7 +52,13 @@ pub fn registers_written(written: &[u64; 320]) -> [u32; 10]
 }
 
 // What the commit of x does to the store read of register by t.
-fn effect_at(required: &[u64; 320], written: &[u64; 320], x: usize, t: usize, register: usize) -> u8
+fn effect_at(
+    required: &[u64; 320],
+    written: &[u64; 320],
+    x: usize,
+    t: usize,
+    register: usize,
+) -> u64
     requires { ⌜ x < 10 ⌝ }
     requires { ⌜ t < 10 ⌝ }
     requires { ⌜ register < 32 ⌝ }
@@ -62,45 +67,62 @@ fn effect_at(required: &[u64; 320], written: &[u64; 320], x: usize, t: usize, re
 {
     let w = written[x * REGISTERS + register];
     if w == 0 {
-        return UNTOUCHED;
+        return 0;
     }
     let v = required[t * REGISTERS + register];
     if v == 0 {
-        return UNTOUCHED;
+        return 0;
     }
     if w == v {
         return HELPED;
     }
-    SPOILT
+    sets::bit(register)
 }
 
 // What it does to the store reads of t, which are those of these registers, where x writes those of `writes`.
-pub fn effect(
+fn effect(
     required: &[u64; 320],
     written: &[u64; 320],
     x: usize,
     t: usize,
     registers: u32,
     writes: u32,
-) -> u8
+) -> u64
     requires { ⌜ x < 10 ⌝ }
     requires { ⌜ t < 10 ⌝ }
     requires { ⌜ Writes (now written) x writes ⌝ }
     ensures { λ r. ⌜ Effect
         (λ (o p : List ℕ). all (legalAt o (now (required .entry)) (writesIn (now (written .entry))) p t) (members registers)) x r ⌝ }
 {
-    let mut done = UNTOUCHED;
+    let mut done = 0u64;
     let mut left = value_of(registers & writes);
     while left != 0 {
         let r = sets::lowest(left);
-        let e = effect_at(required, written, x, t, r);
-        if e == SPOILT {
-            return SPOILT;
-        }
-        done = done | e;
+        done = done | effect_at(required, written, x, t, r);
         left = sets::without(left, r);
     }
     done
+}
+
+// What each commit does to each transaction: that of x to t stands at 10 * x + t.
+pub fn effects_among(
+    reads: &[u32; 10],
+    required: &[u64; 320],
+    written: &[u64; 320],
+    writes: &[u32; 10],
+) -> [u64; 100]
+    requires { ⌜ Written (now written) (now writes) ⌝ }
+    ensures { λ r. ⌜ Effects (now (reads .entry)) (now (required .entry)) (now (written .entry)) r ⌝ }
+{
+    let mut effects = [HELPED; 100];
+    let mut i: usize = 0;
+    while i < 100 {
+        let x = i / TRANSACTIONS;
+        let t = i % TRANSACTIONS;
+        effects[i] = effect(required, written, x, t, reads[t], writes[x]);
+        i += 1;
+    }
+    effects
 }
 
 // Could w, which is not t itself, write the value to register?
@@ -148,6 +170,13 @@ fn sourced(
         left = sets::without(left, w);
     }
     false
+}
+
+// The registers that are overwritten with another value.
+fn overwritten(effect: u64) -> u32
+    ensures { λ r. ⌜ r ≡ effect % 4294967296 ⌝ }
+{
+    (effect % HELPED) as u32
 }
 
 // Is the store read of register by t not legal after the places filled, with nobody unplaced who could make it so?
@@ -199,25 +228,28 @@ fn orphan(
     false
 }
 
-// Is one of a transaction that is needed? Only these registers are asked about.
+// Is one of a transaction that is needed? Of each those registers are asked about that the commit of x overwrites.
 pub fn orphaned(
     starts: &[u32; 32],
     allowed: &[u8; 10],
     reads: &[u32; 10],
     required: &[u64; 320],
     written: &[u64; 320],
+    effects: &[u64; 100],
     s: Search,
     need: u64,
-    registers: u32,
+    x: usize,
 ) -> bool
     requires { ⌜ Sound s ⌝ }
     requires { ⌜ need < 1024 ⌝ }
+    requires { ⌜ x < 10 ⌝ }
     ensures { λ r. ⌜ (r ≡ true → Orphaned
         (now (starts .entry)) (now (allowed .entry)) (now (reads .entry)) (now (required .entry)) (now (written .entry)) s need) ⌝ }
 {
     let mut left = need;
     while left != 0 {
         let t = sets::lowest(left);
+        let registers = overwritten(effects[x * TRANSACTIONS + t]);
         if orphan(
             starts,
             allowed,

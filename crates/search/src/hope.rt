@@ -9,12 +9,10 @@ ghost use Rattle.search.specs.Bits.{bitAt, members};
 ghost use Rattle.search.specs.State.{placedOf, Sound, Placeable};
 ghost use Rattle.search.specs.Tree.{constraints};
 ghost use Rattle.search.specs.Choice.{among};
-ghost use Rattle.search.specs.Runs.{Hope, HopeBy, legalFor, Keeps, Ready, Renewed, Stays, Writes, Written, otherThan, Settled};
+ghost use Rattle.search.specs.Runs.{Hope, HopeBy, legalFor, Keeps, Ready, Renewed, Stays, Effects, otherThan, Settled};
 use crate::ABORTED;
 use crate::COMMITTED;
-use crate::effects::SPOILT;
-use crate::effects::UNTOUCHED;
-use crate::effects::effect;
+use crate::effects::HELPED;
 use crate::effects::orphaned;
 use crate::lookup::legal;
 use crate::sets;
@@ -24,7 +22,9 @@ use crate::state::Search;
 pub const FEW: usize = 5;
 
 // All registers.
-pub const ALL: u32 = 4294967295;
+const ALL: u64 = 4294967295;
+
+const TRANSACTIONS: usize = 10;
 
 // The set, and t in it only if it passes.
 fn kept(set: u64, t: usize, passes: bool) -> u64
@@ -69,7 +69,7 @@ fn still_ready(
     s: Search,
     ready: u64,
     t: usize,
-    effect: u8,
+    effect: u64,
 ) -> bool
     requires { ⌜ Sound s ⌝ }
     requires { ⌜ t < 10 ⌝ }
@@ -77,33 +77,32 @@ fn still_ready(
         (legalFor (now (starts .entry)) (now (reads .entry)) (now (required .entry)) (now (written .entry)) (placedOf s) t)
         ready t effect → r ≡ true) ⌝ }
 {
-    if effect == SPOILT {
+    if effect % HELPED != 0 {
         return false;
     }
     if sets::has(ready, t) {
         return true;
     }
-    if effect == UNTOUCHED {
+    if effect == 0 {
         return false;
     }
     legal(starts, required, written, s.placed, s.filled, t, reads[t])
 }
 
-// The unplaced whose store reads may be legal after the places filled, from those before the last, which is x committed; x writes these
-// registers.
+// The unplaced whose store reads may be legal after the places filled, from those before the last, which is x committed.
 fn ready_after(
     starts: &[u32; 32],
     reads: &[u32; 10],
     required: &[u64; 320],
     written: &[u64; 320],
+    effects: &[u64; 100],
     s: Search,
     x: usize,
-    registers: u32,
     ready: u64,
 ) -> u64
     requires { ⌜ Sound s ⌝ }
     requires { ⌜ x < 10 ⌝ }
-    requires { ⌜ Writes (now written) x registers ⌝ }
+    requires { ⌜ Effects (now reads) (now required) (now written) (now effects) ⌝ }
     ensures { λ r. ⌜ Keeps (Renewed
         (legalFor (now (starts .entry)) (now (reads .entry)) (now (required .entry)) (now (written .entry)))
         (placedOf s) x ready) (s .unplaced) r ⌝ }
@@ -112,8 +111,8 @@ fn ready_after(
     let mut left = s.unplaced;
     while left != 0 {
         let t = sets::lowest(left);
-        let e = effect(required, written, x, t, reads[t], registers);
-        let passes = still_ready(starts, reads, required, written, s, ready, t, e);
+        let effect = effects[x * TRANSACTIONS + t];
+        let passes = still_ready(starts, reads, required, written, s, ready, t, effect);
         after = kept(after, t, passes);
         left = sets::without(left, t);
     }
@@ -161,14 +160,14 @@ fn possible(
     reads: &[u32; 10],
     required: &[u64; 320],
     written: &[u64; 320],
-    writes: &[u32; 10],
+    effects: &[u64; 100],
     s: Search,
     need: u64,
     ready: u64,
 ) -> bool
     requires { ⌜ Sound s ⌝ }
     requires { ⌜ Ready (now starts) (now reads) (now required) (now written) s ready ⌝ }
-    requires { ⌜ Written (now written) (now writes) ⌝ }
+    requires { ⌜ Effects (now reads) (now required) (now written) (now effects) ⌝ }
     ensures { λ r. ⌜ Hope
         (constraints (now (starts .entry)) (now (predecessors .entry)) (now (allowed .entry))
         (now (reads .entry)) (now (required .entry)) (now (written .entry))) s need r ⌝ }
@@ -187,7 +186,7 @@ fn possible(
             reads,
             required,
             written,
-            writes,
+            effects,
             s,
             rest,
             ready,
@@ -208,7 +207,7 @@ fn leads(
     reads: &[u32; 10],
     required: &[u64; 320],
     written: &[u64; 320],
-    writes: &[u32; 10],
+    effects: &[u64; 100],
     s: Search,
     need: u64,
     ready: u64,
@@ -216,7 +215,7 @@ fn leads(
 ) -> bool
     requires { ⌜ Placeable s t ⌝ }
     requires { ⌜ Ready (now starts) (now reads) (now required) (now written) s ready ⌝ }
-    requires { ⌜ Written (now written) (now writes) ⌝ }
+    requires { ⌜ Effects (now reads) (now required) (now written) (now effects) ⌝ }
     ensures { λ r. ⌜ HopeBy
         (constraints (now (starts .entry)) (now (predecessors .entry)) (now (allowed .entry))
         (now (reads .entry)) (now (required .entry)) (now (written .entry))) s need t r ⌝ }
@@ -226,20 +225,20 @@ fn leads(
     }
     let next = s.place(t, COMMITTED);
     let rest = need & next.unplaced;
-    let registers = writes[t];
     if orphaned(
         starts,
         allowed,
         reads,
         required,
         written,
+        effects,
         next,
         rest,
-        registers,
+        t,
     ) {
         return false;
     }
-    let after = ready_after(starts, reads, required, written, next, t, registers, ready);
+    let after = ready_after(starts, reads, required, written, effects, next, t, ready);
     possible(
         starts,
         predecessors,
@@ -247,7 +246,7 @@ fn leads(
         reads,
         required,
         written,
-        writes,
+        effects,
         next,
         rest,
         after,
@@ -262,12 +261,12 @@ pub fn hopeful(
     reads: &[u32; 10],
     required: &[u64; 320],
     written: &[u64; 320],
-    writes: &[u32; 10],
+    effects: &[u64; 100],
     s: Search,
     candidates: u64,
 ) -> bool
     requires { ⌜ Sound s ⌝ }
-    requires { ⌜ Written (now written) (now writes) ⌝ }
+    requires { ⌜ Effects (now reads) (now required) (now written) (now effects) ⌝ }
     ensures { λ r. ⌜ (r ≡ false → among
         (constraints (now (starts .entry)) (now (predecessors .entry)) (now (allowed .entry))
         (now (reads .entry)) (now (required .entry)) (now (written .entry))) s candidates ≡ none) ⌝ }
@@ -280,7 +279,18 @@ pub fn hopeful(
     }
     let ready = ready_among(starts, reads, required, written, s);
     let waiting = s.unplaced ^ ready;
-    if orphaned(starts, allowed, reads, required, written, s, waiting, ALL) {
+    let all = [ALL; 100];
+    if orphaned(
+        starts,
+        allowed,
+        reads,
+        required,
+        written,
+        &all,
+        s,
+        waiting,
+        0,
+    ) {
         return false;
     }
     possible(
@@ -290,7 +300,7 @@ pub fn hopeful(
         reads,
         required,
         written,
-        writes,
+        effects,
         s,
         candidates,
         ready,

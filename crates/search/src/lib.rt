@@ -7,7 +7,7 @@ ghost use Rattle.search.specs.Bits.{bitAt, members};
 ghost use Rattle.search.specs.State.{placedOf, whole, Sound, Placeable, Within};
 ghost use Rattle.search.specs.Tree.{constraints, allowsOutcome, ruleNext, firstCompletion, Answers};
 ghost use Rattle.search.specs.Choice.{among, from};
-ghost use Rattle.search.specs.Runs.{Written};
+ghost use Rattle.search.specs.Runs.{Effects};
 
 mod effects;
 mod hope;
@@ -16,8 +16,9 @@ pub mod sets;
 pub mod state;
 mod unwritten;
 
+use effects::HELPED;
+use effects::effects_among;
 use effects::registers_written;
-use hope::ALL;
 use hope::FEW;
 use hope::hopeful;
 use lookup::legal;
@@ -79,13 +80,13 @@ fn choose_transaction(
     reads: &[u32; 10],
     required: &[u64; 320],
     written: &[u64; 320],
-    writes: &[u32; 10],
+    effects: &[u64; 100],
     s: Search,
     candidates: u64,
 ) -> u64
     requires { ⌜ Sound s ⌝ }
     requires { ⌜ Within (s .unplaced) candidates ⌝ }
-    requires { ⌜ Written (now written) (now writes) ⌝ }
+    requires { ⌜ Effects (now reads) (now required) (now written) (now effects) ⌝ }
     ensures { λ r. ⌜ Answers (whole s) r
         (among (constraints (now (starts .entry)) (now (predecessors .entry)) (now (allowed .entry))
         (now (reads .entry)) (now (required .entry)) (now (written .entry))) s candidates) ⌝ }
@@ -103,7 +104,7 @@ fn choose_transaction(
         reads,
         required,
         written,
-        writes,
+        effects,
         s,
         candidates,
     ) {
@@ -117,7 +118,7 @@ fn choose_transaction(
         reads,
         required,
         written,
-        writes,
+        effects,
         s,
         candidates,
         t,
@@ -132,7 +133,7 @@ fn choose_outcome(
     reads: &[u32; 10],
     required: &[u64; 320],
     written: &[u64; 320],
-    writes: &[u32; 10],
+    effects: &[u64; 100],
     s: Search,
     candidates: u64,
     t: usize,
@@ -140,7 +141,7 @@ fn choose_outcome(
     requires { ⌜ Placeable s t ⌝ }
     requires { ⌜ Within (s .unplaced) candidates ⌝ }
     requires { ⌜ bitAt t candidates ≡ 1 ⌝ }
-    requires { ⌜ Written (now written) (now writes) ⌝ }
+    requires { ⌜ Effects (now reads) (now required) (now written) (now effects) ⌝ }
     ensures { λ r. ⌜ Answers (whole s) r
         (from (constraints (now (starts .entry)) (now (predecessors .entry)) (now (allowed .entry))
         (now (reads .entry)) (now (required .entry)) (now (written .entry))) s candidates t) ⌝ }
@@ -164,7 +165,7 @@ fn choose_outcome(
             reads,
             required,
             written,
-            writes,
+            effects,
             next,
             next.unplaced,
         );
@@ -181,7 +182,7 @@ fn choose_outcome(
             reads,
             required,
             written,
-            writes,
+            effects,
             next,
             next.unplaced,
         );
@@ -196,7 +197,7 @@ fn choose_outcome(
         reads,
         required,
         written,
-        writes,
+        effects,
         s,
         sets::without(candidates, t),
     )
@@ -223,7 +224,7 @@ pub fn find(
         placed: 1,
     };
     if n < FEW {
-        let writes = [ALL; 10];
+        let effects = [HELPED; 100];
         return choose_transaction(
             starts,
             predecessors,
@@ -231,13 +232,14 @@ pub fn find(
             reads,
             required,
             written,
-            &writes,
+            &effects,
             s,
             s.unplaced,
         );
     }
     let writes = registers_written(written);
     let asked = reads_asked(starts, reads, required, written, &writes);
+    let effects = effects_among(&asked, required, written, &writes);
     choose_transaction(
         starts,
         predecessors,
@@ -245,7 +247,7 @@ pub fn find(
         &asked,
         required,
         written,
-        &writes,
+        &effects,
         s,
         s.unplaced,
     )

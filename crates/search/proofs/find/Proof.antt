@@ -9,7 +9,7 @@ use Rattle.search.specs.Places.{codesOf}
 use Rattle.search.specs.Tree.{constraints}
 use Rattle.search.proofs.TreeLaws.{start-sound, start-answers, answers-as}
 use Rattle.search.proofs.SetLaws.{within-self}
-use Rattle.search.proofs.EffectLaws.{all-written}
+use Rattle.search.proofs.EffectLaws.{nothing-known}
 use Rattle.search.proofs.UnwrittenLaws.{asked-completion}
 use Rattle.search.proofs.find.Statement.{statement}
 use Rattle.search.proofs.find.Tie as tie
@@ -17,14 +17,14 @@ use Rattle.search.proofs.find.Tie as tie
 bit-requires : tie.Need-bit-requires
 bit-requires c κs = search needs
 
-sub-t13 : tie.Need-sub-t13
-sub-t13 c = omega (arith, c .bit .ensures, pow-pos (c .before .args .n))
+sub-t14 : tie.Need-sub-t14
+sub-t14 c = omega (arith, c .bit .ensures, pow-pos (c .before .args .n))
 
 choose-transaction-requires : tie.Need-choose-transaction-requires
 choose-transaction-requires c κs =
     let start = c .before .before .before in
     let all = c .before .before .bit in
-    (start-sound (start .args .n) (all .result - 1) (start .pre) (ap (λ (k : ℕ). k - 1) (all .ensures)), (within-self _, all-written _))
+    (start-sound (start .args .n) (all .result - 1) (start .pre) (ap (λ (k : ℕ). k - 1) (all .ensures)), (within-self _, nothing-known (start .args .reads .now) (start .args .required .now) (start .args .written .now)))
 
 returns : tie.Need-returns
 unfolding codesOf
@@ -41,19 +41,22 @@ registers-written-requires c κs = search needs
 reads-asked-requires : tie.Need-reads-asked-requires
 reads-asked-requires c κs = search needs
 
+effects-among-requires : tie.Need-effects-among-requires
+effects-among-requires c κs = search needs
+
 choose-transaction-requires-2 : tie.Need-choose-transaction-requires-2
 choose-transaction-requires-2 c κs =
-    let start = c .before .before .before .before .before .before .before in
-    let all = c .before .before .before .before .before .before .bit in
-    (start-sound (start .args .n) (all .result - 1) (start .pre) (ap (λ (k : ℕ). k - 1) (all .ensures)), (within-self _, c .before .before .before .before .registers-written .ensures))
+    let start = c .before .before .before .before .before .before .before .before .before .before in
+    let all = c .before .before .before .before .before .before .before .before .before .bit in
+    (start-sound (start .args .n) (all .result - 1) (start .pre) (ap (λ (k : ℕ). k - 1) (all .ensures)), (within-self _, c .before .before .effects-among .ensures))
 
 -- the tree in which fewer registers are asked about is the same
 returns-2 : tie.Need-returns-2
 unfolding codesOf
 returns-2 c =
-    let start = c .before .before .before .before .before .before .before .before in
-    let all = c .before .before .before .before .before .before .before .bit in
-    let asked = c .before .before .before .reads-asked in
+    let start = c .before .before .before .before .before .before .before .before .before .before .before in
+    let all = c .before .before .before .before .before .before .before .before .before .before .bit in
+    let asked = c .before .before .before .before .before .before .reads-asked in
     let a = start .args in
     let D = constraints (a .starts .now) (a .predecessors .now) (a .allowed .now) (asked .result) (a .required .now) (a .written .now) in
     answers-as (a .n) (c .choose-transaction2 .result)
@@ -65,10 +68,11 @@ find-spec =
     tie.close
     (tie.spec
     bit-requires
-    sub-t13
+    sub-t14
     choose-transaction-requires
     returns
     registers-written-requires
     reads-asked-requires
+    effects-among-requires
     choose-transaction-requires-2
     returns-2)

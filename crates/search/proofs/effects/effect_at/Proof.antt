@@ -1,6 +1,8 @@
 -- `search::effects::effect_at` meets its contract.
 -- Assumes nothing.
 use borrow.Author.Needs.{needs}
+use native.Mathlib.Omega.{arith}
+use lib.Pow.{pow-pos}
 use Rattle.search.proofs.EffectLaws.{writes-nothing, reads-nothing, helps, spoils}
 use Rattle.search.proofs.effects.effect_at.Statement.{statement}
 use Rattle.search.proofs.effects.effect_at.Tie as tie
@@ -47,11 +49,15 @@ returns-3 c =
     let a = start .args in
     helps (a .required .now) (a .written .now) (a .x) (a .t) (a .register) (start .pre .1 .1)
 
+bit-requires : tie.Need-bit-requires
+bit-requires c κs = search needs
+
 returns-4 : tie.Need-returns-4
 returns-4 c =
-    let start = c .before .before .before .before .before in
+    let start = c .before .before .before .before .before .before in
     let a = start .args in
-    spoils (a .required .now) (a .written .now) (a .x) (a .t) (a .register) (start .pre .1 .1) (c .before .before .before .if1 .left) (c .before .if2 .left) (c .if3 .left)
+    spoils (a .required .now) (a .written .now) (a .x) (a .t) (a .register) (start .pre .1 .1) (c .bit .result) (omega (arith, c .bit .ensures, pow-pos (a .register)))
+    (c .before .before .before .before .if1 .left) (c .before .before .if2 .left) (c .before .if3 .left)
 
 pub effect-at-spec : {M : Type 1} → statement M
 effect-at-spec =
@@ -68,4 +74,5 @@ effect-at-spec =
     element-copy-out-v
     returns-2
     returns-3
+    bit-requires
     returns-4)

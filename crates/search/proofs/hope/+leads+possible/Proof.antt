@@ -97,39 +97,30 @@ leads-place-requires : (t : ℕ) → leads-lts.Need-place-requires (leads-claims
 leads-place-requires t c κs =
     (c .before .before .pre .1 .0, search needs)
 
-leads-mul-registers : (t : ℕ) → leads-lts.Need-mul-registers (leads-claims t) (leads-at t) leads.Post
-leads-mul-registers t c =
-    let ten = room-lt (c .before .before .before .before .pre .1 .0) in search needs
-
-leads-element-copy-out-registers : (t : ℕ) → leads-lts.Need-element-copy-out-registers (leads-claims t) (leads-at t) leads.Post
-leads-element-copy-out-registers t c =
-    room-lt (c .before .before .before .before .pre .1 .0)
-
 leads-orphaned-requires : (t : ℕ) → leads-lts.Need-orphaned-requires (leads-claims t) (leads-at t) leads.Post
 leads-orphaned-requires t c κs =
-    let start = c .before .before .before .before .before in
-    let place = c .before .before .place in
-    (place .ensures .sound, omega (arith, and-le-r (start .args .need) (place .result .unplaced), place .ensures .sound .few))
+    let start = c .before .before .before .before in
+    let place = c .before .place in
+    (place .ensures .sound, (omega (arith, and-le-r (start .args .need) (place .result .unplaced), place .ensures .sound .few), room-lt (start .pre .1 .0)))
 
 leads-returns-2 : (t : ℕ) → leads-lts.Need-returns-2 (leads-claims t) (leads-at t) leads.Post
 leads-returns-2 t c =
-    let a = c .before .before .before .before .before .before .before .args in
-    let place = c .before .before .before .before .place in
+    let a = c .before .before .before .before .before .before .args in
+    let place = c .before .before .before .place in
     let D = constraints (a .starts .now) (a .predecessors .now) (a .allowed .now) (a .reads .now) (a .required .now) (a .written .now) in
     λ u p l run. absurd (orphaned-run (a .starts .now) (a .predecessors .now) (a .allowed .now) (a .reads .now) (a .required .now) (a .written .now)
     (place .result) _ _ _ l (c .before .orphaned .ensures (c .if2 .taken)) (committed-next D (a .s) (a .need) u p l (a .t) (place .result) (place .ensures) run))
 
 leads-ready-after-requires : (t : ℕ) → leads-lts.Need-ready-after-requires (leads-claims t) (leads-at t) leads.Post
 leads-ready-after-requires t c κs =
-    let start = c .before .before .before .before .before .before .before in
-    let ten = room-lt (start .pre .1 .0) in
-    (c .before .before .before .before .place .ensures .sound, (ten, start .pre .1 .1 .1 .at (start .args .t) ten))
+    let start = c .before .before .before .before .before .before in
+    (c .before .before .before .place .ensures .sound, (room-lt (start .pre .1 .0), start .pre .1 .1 .1))
 
 leads-possible-requires : (t : ℕ) → leads-lts.Need-possible-requires (leads-claims t) (leads-at t) leads.Post
 leads-possible-requires t c κs =
-    let start = c .before .before .before .before .before .before .before .before in
+    let start = c .before .before .before .before .before .before .before in
     let a = start .args in
-    let place = c .before .before .before .before .before .place in (
+    let place = c .before .before .before .before .place in (
       subst (λ (n : ℕ). ones (place .result .unplaced) * 2 + 1 < n) (start .pre .0)
           (omega (arith, fewer (a .s) (place .result) (a .t) 1 (start .pre .1 .0) (place .ensures))),
       (
@@ -144,17 +135,17 @@ leads-possible-requires t c κs =
 
 leads-returns-3 : (t : ℕ) → leads-lts.Need-returns-3 (leads-claims t) (leads-at t) leads.Post
 leads-returns-3 t c =
-    let a = c .before .before .before .before .before .before .before .before .before .args in
+    let a = c .before .before .before .before .before .before .before .before .args in
     let D = constraints (a .starts .now) (a .predecessors .now) (a .allowed .now) (a .reads .now) (a .required .now) (a .written .now) in
-    let place = c .before .before .before .before .before .before .place in
+    let place = c .before .before .before .before .before .place in
     λ u p l run. c .possible .ensures _ _ l (committed-next D (a .s) (a .need) u p l (a .t) (place .result) (place .ensures) run)
 
 abbrev possible-Inv-loop : possible-lts.InvT-loop
-possible-Inv-loop starts predecessors allowed reads required written writes s need ready rest left₀ left =
+possible-Inv-loop starts predecessors allowed reads required written effects s need ready rest left₀ left =
     Within (s .unplaced) left × ((k : ℕ) → (bitAt k left ≡ 1 → ⊥) → Missed (constraints starts predecessors allowed reads required written) s rest k)
 
 abbrev possible-μ-loop : possible-lts.MeasureT-loop
-possible-μ-loop starts predecessors allowed reads required written writes s need ready rest left₀ left = left
+possible-μ-loop starts predecessors allowed reads required written effects s need ready rest left₀ left = left
 
 possible-settle-requires : (t : ℕ) → possible-lts.Need-settle-requires (possible-claims t) (possible-at t) possible.Post possible-Inv-loop possible-μ-loop
 possible-settle-requires t c κs =
@@ -236,8 +227,6 @@ pub +leads+possible-spec : {M : Type 1} → statement M
     (leads-other-than-requires t)
     (leads-returns t)
     (leads-place-requires t)
-    (leads-mul-registers t)
-    (leads-element-copy-out-registers t)
     (leads-orphaned-requires t)
     (leads-returns-2 t)
     (leads-ready-after-requires t)

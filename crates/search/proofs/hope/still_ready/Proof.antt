@@ -7,7 +7,7 @@ use Rattle.search.proofs.hope.still_ready.Statement.{statement}
 use Rattle.search.proofs.hope.still_ready.Tie as tie
 
 returns : tie.Need-returns
-returns c = λ h. absurd (h .unspoilt (c .if1 .taken))
+returns c = λ h. absurd (c .if1 .taken (h .unspoilt))
 
 has-requires : tie.Need-has-requires
 has-requires c κs = search needs
