@@ -21,6 +21,7 @@ use effects::effects_among;
 use effects::registers_written;
 use hope::FEW;
 use hope::hopeful;
+use hope::stranded;
 use lookup::legal;
 use state::Search;
 use unwritten::reads_asked;
@@ -236,6 +237,9 @@ pub fn find(
             s,
             s.unplaced,
         );
+    }
+    if stranded(starts, allowed, reads, required, written, s, s.unplaced) {
+        return 0;
     }
     let writes = registers_written(written);
     let asked = reads_asked(starts, reads, required, written, &writes);
