@@ -1,4 +1,5 @@
-//! Which codes each entry has answered with, which transactions were tallied, what was read of start values, and how often.
+//! Which codes each entry has answered with, which transactions were tallied, what was read of start values, what became of
+//! searches, and how often.
 
 use std::collections::BTreeMap;
 use std::fmt;
@@ -46,79 +47,107 @@ pub enum Started {
     ZeroInVain,
 }
 
+/// What a finder can make of a history.
+#[derive(Clone, Copy, Debug, PartialEq, Eq, PartialOrd, Ord)]
+pub enum Searched {
+    /// The lowest order takes the transactions as they are numbered.
+    Rising,
+    /// The lowest order goes back: some that begin with a lower transaction were tried before it, in vain.
+    NotRising,
+    /// Every order was tried in vain.
+    InVain,
+}
+
+/// Everything that is noted.
+#[derive(Clone, Copy, Debug, PartialEq, Eq, PartialOrd, Ord)]
+enum Met {
+    Answered(Entry, u32),
+    Tallied(Tallied),
+    Started(Started),
+    Searched(Searched),
+}
+
 #[derive(Clone, Debug, Default)]
 pub struct Coverage {
-    met: BTreeMap<(Entry, u32), u64>,
-    tallied: BTreeMap<Tallied, u64>,
-    started: BTreeMap<Started, u64>,
+    met: BTreeMap<Met, u64>,
 }
 
 impl Coverage {
     pub fn note(&mut self, entry: Entry, code: u32) {
-        *self.met.entry((entry, code)).or_default() += 1;
+        self.note_met(Met::Answered(entry, code));
     }
 
     pub fn note_tallied(&mut self, what: Tallied) {
-        *self.tallied.entry(what).or_default() += 1;
+        self.note_met(Met::Tallied(what));
     }
 
     pub fn note_started(&mut self, what: Started) {
-        *self.started.entry(what).or_default() += 1;
+        self.note_met(Met::Started(what));
+    }
+
+    pub fn note_searched(&mut self, what: Searched) {
+        self.note_met(Met::Searched(what));
+    }
+
+    fn note_met(&mut self, met: Met) {
+        *self.met.entry(met).or_default() += 1;
     }
 
     pub fn add(&mut self, other: &Coverage) {
-        for (&key, count) in &other.met {
-            *self.met.entry(key).or_default() += count;
-        }
-        for (&what, count) in &other.tallied {
-            *self.tallied.entry(what).or_default() += count;
-        }
-        for (&what, count) in &other.started {
-            *self.started.entry(what).or_default() += count;
+        for (&met, count) in &other.met {
+            *self.met.entry(met).or_default() += count;
         }
     }
 
     pub fn count(&self, entry: Entry, code: u32) -> u64 {
-        self.met.get(&(entry, code)).copied().unwrap_or(0)
+        self.met.get(&Met::Answered(entry, code)).copied().unwrap_or(0)
     }
 
     /// Fails if an entry has never answered with one of these codes.
     pub fn require(&self, entry: Entry, codes: &[u32]) {
-        let missing: Vec<u32> = codes.iter().copied().filter(|&code| self.count(entry, code) == 0).collect();
-        assert!(missing.is_empty(), "{entry:?} never answered with {missing:?}; it answered\n{self}");
+        self.require_met(codes.iter().map(|&code| Met::Answered(entry, code)));
     }
 
     /// Fails if something that a history can have was in none that was tallied.
     pub fn require_every_tallied(&self) {
-        let missing: Vec<Tallied> = TALLIED.into_iter().filter(|what| !self.tallied.contains_key(what)).collect();
-        assert!(missing.is_empty(), "{missing:?} was never tallied\n{self}");
+        self.require_met(TALLIED.into_iter().map(Met::Tallied));
     }
 
     /// Fails if one of these was the case of no history that was scanned.
     pub fn require_started(&self, all: &[Started]) {
-        let missing: Vec<Started> = all.iter().copied().filter(|what| !self.started.contains_key(what)).collect();
-        assert!(missing.is_empty(), "{missing:?} was never scanned\n{self}");
+        self.require_met(all.iter().copied().map(Met::Started));
+    }
+
+    /// Fails if something that can become of a search never did.
+    pub fn require_every_searched(&self) {
+        self.require_met(SEARCHED.into_iter().map(Met::Searched));
+    }
+
+    fn require_met(&self, all: impl Iterator<Item = Met>) {
+        let missing: Vec<Met> = all.filter(|met| !self.met.contains_key(met)).collect();
+        assert!(missing.is_empty(), "{missing:?} was never met, but\n{self}");
     }
 
     /// Fails if an entry has answered with a code that it has not: the scan with cause 4, say, or the straightener with rule D.
     pub fn allow(&self) {
-        for &(entry, code) in self.met.keys() {
-            let known = judgements(entry).contains(&code) || refusals(entry).contains(&code);
-            assert!(known, "{entry:?} answered with {code}");
+        for met in self.met.keys() {
+            if let &Met::Answered(entry, code) = met {
+                let known = judgements(entry).contains(&code) || refusals(entry).contains(&code);
+                assert!(known, "{entry:?} answered with {code}");
+            }
         }
     }
 }
 
 impl fmt::Display for Coverage {
     fn fmt(&self, f: &mut fmt::Formatter) -> fmt::Result {
-        for ((entry, code), count) in &self.met {
-            writeln!(f, "{entry:?} {code}: {count}")?;
-        }
-        for (what, count) in &self.tallied {
-            writeln!(f, "tallied {what:?}: {count}")?;
-        }
-        for (what, count) in &self.started {
-            writeln!(f, "start values {what:?}: {count}")?;
+        for (met, count) in &self.met {
+            match met {
+                Met::Answered(entry, code) => writeln!(f, "{entry:?} {code}: {count}")?,
+                Met::Tallied(what) => writeln!(f, "tallied {what:?}: {count}")?,
+                Met::Started(what) => writeln!(f, "start values {what:?}: {count}")?,
+                Met::Searched(what) => writeln!(f, "searched {what:?}: {count}")?,
+            }
         }
         Ok(())
     }
@@ -144,8 +173,8 @@ pub fn refusals(entry: Entry) -> Vec<u32> {
     [&COLUMNS[..], &own].concat()
 }
 
-/// The other codes that an entry can answer with. The scan's cause 4 is not among them: no readable history has it. Nor is rule D among
-/// those of a straightened marking: nothing lies between a reader and a point at its place.
+/// The other codes that an entry can answer with. The scan's cause 4 is not among them: no readable history has it. Nor is rule D
+/// among those of a straightened marking: nothing lies between a reader and a point at its place.
 pub fn judgements(entry: Entry) -> &'static [u32] {
     match entry {
         Entry::Find => &[0, 100],
@@ -181,3 +210,5 @@ pub const TALLIED: [Tallied; 8] = [
 
 pub const STARTED: [Started; 6] =
     [Started::EditionOne, Started::NoStart, Started::Read, Started::Hidden, Started::ReadInVain, Started::ZeroInVain];
+
+pub const SEARCHED: [Searched; 3] = [Searched::Rising, Searched::NotRising, Searched::InVain];

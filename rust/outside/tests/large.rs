@@ -1,5 +1,5 @@
-//! Captures of up to 2,048 events, with 10 transactions to judge or 64 to tally and to straighten, too large for the brute force: the
-//! library against plain Rust.
+//! Captures of up to 2,048 events, with 10 transactions to judge or 64 to tally and to straighten, too large for the brute force:
+//! the library against plain Rust, which judges them by trying alone, and against plain Rust that searches in the library's way.
 
 use outside::coverage::{Coverage, Entry};
 use outside::marks::{careless, changed, in_effect, random_marking};
@@ -8,30 +8,31 @@ use outside::rounds;
 use outside::simulate::{simulate, Faults, Plan};
 use outside::stores::random_store;
 use outside::straight;
-use plain::{Scanned, Straightened, Verdict};
-use reference::event::{Columns as Held, Event};
+use outside::views::Views;
+use plain::{Straightened, Verdict};
+use reference::event::Columns as Held;
 use reference::log::Log;
 use reference::marking_file::Marking;
 use reference::{history_file, reads};
-use sendoshi::{calls, Cause, Columns, History, Rule, Scan, Store};
+use sendoshi::{calls, Answer, Cause, History, Rule, Scan};
 
 #[test]
 fn the_library_says_what_plain_rust_says() {
     rounds::run((rounds::rounds() / 500).max(1), |random, _| {
         let log = capture(random);
-        let (history, events) = (readable(&log), &log.events);
-        let held = Held::of(events);
-        assert_eq!(history.columns(), view(&held));
-        assert_eq!(history.store(), library_store(&log));
+        let (history, events, views) = (readable(&log), &log.events, Views::of(&log));
+        assert_eq!(history.columns(), views.library());
+        assert_eq!(history.store(), views.library_store());
         assert_eq!(history.transactions(), reads::transactions(events));
-        assert_eq!(history.store_reads(), plain::store_reads(plain_view(&held), events.len()).unwrap());
-        tallied(&history, events);
-        assert_eq!(history.scan().unwrap(), scanned(&log, &held));
+        assert_eq!(history.store_reads(), plain::store_reads(views.plain(), events.len()).unwrap());
+        tallied(&history, &log);
+        let by_trying = views.scan_by(plain::scan_by_trying);
+        assert_eq!(history.scan().unwrap(), scan_of(by_trying));
+        assert_eq!(views.scan_by(plain::scan), by_trying, "plain Rust in the library's way");
         for prefix in [events.len(), random.below(events.len() + 1)] {
-            let mut output = vec![0; 32_768];
-            let found = plain::find(plain_store(&log), plain_view(&held), events.len(), prefix, &mut output).unwrap();
-            let found = found.map(|length| output[..length].to_vec());
+            let found = views.find_by(plain::find_by_trying, prefix);
             assert_eq!(history.lowest_marking(prefix).unwrap(), found, "prefix {prefix}");
+            assert_eq!(views.find_by(plain::find, prefix), found, "prefix {prefix}, plain Rust in the library's way");
             let guess = match found {
                 Some(file) => Marking::read(&events[..prefix], &file).unwrap(),
                 None => random_marking(random, &events[..prefix]),
@@ -48,13 +49,14 @@ fn large_histories_are_tallied_as_in_plain_rust() {
         let log = full_capture(random);
         let (history, events) = (readable(&log), &log.events);
         let earlier = random.below(events.len());
-        tallied(&history, events);
-        tallied(&history.prefix(earlier).expect("a prefix"), &events[..earlier]);
+        let before = Log { store: log.store, events: events[..earlier].to_vec() };
+        tallied(&history, &log);
+        tallied(&history.prefix(earlier).expect("a prefix"), &before);
     });
 }
 
-/// As many transactions as a history may have, and often as many events: the order in which they took effect, or nearly that, with
-/// careless read points.
+/// As many transactions as a history may have, and often as many events: the order in which they took effect, or nearly that,
+/// with careless read points.
 #[test]
 fn large_markings_are_straightened_as_in_plain_rust() {
     let met = rounds::run((rounds::rounds() / 500).max(1), |random, coverage| {
@@ -79,7 +81,8 @@ fn readable(log: &Log) -> History {
     assert_eq!((read, starts), (Ok((log.store.edition, count)), log.store.starts));
     assert_eq!(Held { kinds, transactions, registers, values }, Held::of(&log.events));
     let mut output = vec![0; file.len()];
-    let written = plain::write(plain_store(log), plain_view(&Held::of(&log.events)), count, &mut output);
+    let views = Views::of(log);
+    let written = plain::write(views.plain_store(), views.plain(), count, &mut output);
     assert_eq!((written, &output), (Ok(file.len()), &file));
     let history = History::read(&file).expect("a simulated log is readable");
     assert_eq!(history.to_bytes(), file);
@@ -87,11 +90,11 @@ fn readable(log: &Log) -> History {
 }
 
 /// A tally against plain Rust and against the definition, which is quick enough for any history that is known to be readable.
-fn tallied(history: &History, events: &[Event]) {
+fn tallied(history: &History, log: &Log) {
     let sendoshi::Tally { committed, aborted, pending, live } = history.tally();
-    let by_plain = plain::tally(plain_view(&Held::of(events)), events.len());
+    let by_plain = plain::tally(Views::of(log).plain(), log.events.len());
     assert_eq!(by_plain, Ok(plain::Tally { committed, aborted, pending, live }));
-    let by_definition = reference::tally::tally(events);
+    let by_definition = reference::tally::tally(&log.events);
     assert_eq!(by_definition, reference::tally::Tally { committed, aborted, pending, live });
     assert_eq!(committed + aborted + pending + live, history.transactions());
 }
@@ -111,18 +114,18 @@ fn full_capture(random: &mut Random) -> Log {
 }
 
 fn straightened(log: &Log, marking: &Marking, coverage: &mut Coverage) {
-    let (held, file, count) = (Held::of(&log.events), marking.to_bytes(), log.events.len());
+    let (views, file, count) = (Views::of(log), marking.to_bytes(), log.events.len());
     let (mut output, mut list) = (vec![0xee; file.len() + 10], vec![0xeeee; marking.points.len() + 1]);
     let (mut other_output, mut other_list) = (output.clone(), list.clone());
-    let answer = calls::straighten(library_store(log), view(&held), count, &file, &mut output, &mut list);
-    let other = plain::straighten(plain_store(log), plain_view(&held), count, &file, &mut other_output, &mut other_list);
+    let answer = calls::straighten(views.library_store(), views.library(), count, &file, &mut output, &mut list);
+    let other = plain::straighten(views.plain_store(), views.plain(), count, &file, &mut other_output, &mut other_list);
     let expected = match other.unwrap() {
         Straightened::Done { length, moved } => (0, moved * 65_536 + length),
         Straightened::Broken(rule, event, transaction) => (201 + rule as u32 - 'A' as u32, event * 65_536 + transaction),
     };
     assert_eq!((answer.code, answer.place as usize), expected);
     assert_eq!((&output, &list), (&other_output, &other_list));
-    straight::keeps_its_promises(&held, log, marking, answer, &output, &list);
+    straight::keeps_its_promises(views.held(), log, marking, answer, &output, &list);
     coverage.note(Entry::Straighten, answer.code);
 }
 
@@ -142,12 +145,11 @@ fn capture(random: &mut Random) -> Log {
 
 /// The verdicts on a marking and on some that differ from it.
 fn verdicts(random: &mut Random, history: &History, log: &Log, prefix: usize, marking: Marking) {
-    let held = Held::of(&log.events);
-    let judged = history.prefix(prefix).expect("a prefix");
+    let (views, judged) = (Views::of(log), history.prefix(prefix).expect("a prefix"));
     let mut marking = marking;
     for _ in 0..4 {
         let file = marking.to_bytes();
-        let verdict = match plain::check(plain_store(log), plain_view(&held), prefix, &file).unwrap() {
+        let verdict = match plain::check(views.plain_store(), views.plain(), prefix, &file).unwrap() {
             Verdict::Accepted => sendoshi::Verdict::Accepted,
             Verdict::Broken(rule, event, transaction) => {
                 let rules = [Rule::A, Rule::B, Rule::C, Rule::D, Rule::E];
@@ -160,28 +162,12 @@ fn verdicts(random: &mut Random, history: &History, log: &Log, prefix: usize, ma
     }
 }
 
-fn scanned(log: &Log, held: &Held) -> Scan {
-    match plain::scan(plain_store(log), plain_view(held), log.events.len()).unwrap() {
-        Scanned::Opaque => Scan::Opaque,
-        Scanned::Faulted(event, cause) => {
+fn scan_of(answer: Answer) -> Scan {
+    match answer.code {
+        0 => Scan::Opaque,
+        code => {
             let causes = [Cause::ReadReturned, Cause::Committed, Cause::Aborted, Cause::Other];
-            Scan::Faulted { event, cause: causes[usize::from(cause) - 1] }
+            Scan::Faulted { event: answer.place as usize, cause: causes[code as usize - 101] }
         }
     }
-}
-
-fn library_store(log: &Log) -> Store<'_> {
-    Store { edition: log.store.edition, starts: &log.store.starts }
-}
-
-fn plain_store(log: &Log) -> plain::Store<'_> {
-    plain::Store { edition: log.store.edition, starts: &log.store.starts }
-}
-
-fn view(held: &Held) -> Columns<'_> {
-    Columns { kinds: &held.kinds, transactions: &held.transactions, registers: &held.registers, values: &held.values }
-}
-
-fn plain_view(held: &Held) -> plain::Columns<'_> {
-    plain::Columns { kinds: &held.kinds, transactions: &held.transactions, registers: &held.registers, values: &held.values }
 }

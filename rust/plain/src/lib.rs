@@ -1,6 +1,7 @@
-//! The library's job in plain safe Rust, as one would write it without proofs: one pass with small tables for the files, the tally, the
-//! checker and the straightening, a depth-first search with early ends for the finder and the scan. The benchmarks compare the library
-//! with it, and the tests use it where histories are too large for the brute force of `reference`.
+//! The library's job in plain safe Rust, as one would write it without proofs: one pass with small tables for the files, the
+//! tally, the checker and the straightening; for the finder and the scan the library's way of searching, a witness that is
+//! carried and a question before each walk, and beside it the plainest depth-first search (`.._by_trying`). The benchmarks
+//! compare the library with both, and the tests use the second where histories are too large for the brute force of `reference`.
 //!
 //! Answers, refusals and what happens to lent buffers are the library's.
 
@@ -20,9 +21,9 @@ mod tally;
 
 pub use check::{check, Verdict};
 pub use columns::{Columns, Refusal};
-pub use find::find;
+pub use find::{find, find_by_trying, find_placements, find_placements_by_trying};
 pub use history_file::{read, write};
-pub use scan::{scan, Scanned};
+pub use scan::{scan, scan_by_trying, scan_by_trying_counting, scan_counting, Counted, Scanned};
 pub use store::Store;
 pub use straighten::{straighten, Straightened};
 pub use tally::{tally, Tally};

@@ -1,72 +1,184 @@
-//! The search for the lowest justification.
+//! The search for the lowest justification: depth first, lower transactions first and aborted before committed, and before it
+//! walks on it asks whether it can still arrive.
 
 use crate::columns::REGISTERS;
-use crate::tables::{Tables, Transaction};
+use crate::tables::{Tables, Transaction, MOST};
 
 /// A transaction and whether it is taken as committed.
 pub type Place = (usize, bool);
 
+/// What stands in the registers.
+pub type Contents = [u32; REGISTERS];
+
+/// The order that was found, if there is one, and how many transactions were placed on the way, those of the questions among
+/// them.
+pub struct Found {
+    pub order: Option<Vec<Place>>,
+    pub placements: u64,
+}
+
 /// The lowest justification of the prefix that the tables describe, in a store that starts with these values.
-pub fn lowest(starts: &[u32; REGISTERS], tables: &Tables) -> Option<Vec<Place>> {
+pub fn lowest(starts: &Contents, tables: &Tables) -> Found {
+    search(starts, tables, FEW, u64::MAX)
+}
+
+/// The same by trying alone: no question is asked.
+pub fn lowest_by_trying(starts: &Contents, tables: &Tables) -> Found {
+    lowest_by_trying_so_often(starts, tables, u64::MAX)
+}
+
+/// The same, given up once so many have been placed.
+pub fn lowest_by_trying_so_often(starts: &Contents, tables: &Tables, most: u64) -> Found {
+    search(starts, tables, MOST as u32 + 1, most)
+}
+
+fn search(starts: &Contents, tables: &Tables, few: u32, most: u64) -> Found {
     if tables.hopeless {
-        return None;
+        return Found { order: None, placements: 0 };
     }
-    let mut order = Vec::with_capacity(tables.transactions.len());
-    let all = (1 << tables.transactions.len()) - 1;
-    place_rest(&tables.transactions, all, starts, &mut order).then_some(order)
+    let transactions = &tables.transactions;
+    let mut search = Search { transactions, few, most, order: Vec::with_capacity(transactions.len()), placements: 0 };
+    let found = search.place_rest((1 << transactions.len()) - 1, starts);
+    Found { placements: search.placements, order: found.then_some(search.order) }
 }
 
-/// Places the transactions that are left, lower ones first and aborted before committed.
-fn place_rest(transactions: &[Transaction], left: u64, store: &[u32; REGISTERS], order: &mut Vec<Place>) -> bool {
-    if left == 0 {
-        return true;
-    }
-    let mut untried = left;
-    while untried != 0 {
-        let next = untried.trailing_zeros() as usize;
-        untried &= untried - 1;
-        let transaction = &transactions[next];
-        if transaction.after & left != 0 || !reads_fit(transaction, store) {
-            continue;
-        }
-        let rest = left & !(1 << next);
-        if transaction.may_abort {
-            order.push((next, false));
-            if place_rest(transactions, rest, store, order) {
-                return true;
-            }
-            order.pop();
-        }
-        if transaction.may_commit {
-            order.push((next, true));
-            if place_rest(transactions, rest, &after(transaction, store), order) {
-                return true;
-            }
-            order.pop();
-        }
-    }
-    false
+/// Fewer unplaced than this are tried without asking.
+const FEW: u32 = 5;
+
+/// A search under way. Sets of transactions have one bit each.
+struct Search<'a> {
+    transactions: &'a [Transaction],
+    few: u32,
+    most: u64,
+    order: Vec<Place>,
+    placements: u64,
 }
 
-fn reads_fit(transaction: &Transaction, store: &[u32; REGISTERS]) -> bool {
-    let mut registers = transaction.has_read;
-    while registers != 0 {
-        let register = registers.trailing_zeros() as usize;
-        if transaction.read[register] != store[register] {
+impl Search<'_> {
+    /// Places the transactions that are left.
+    fn place_rest(&mut self, left: u64, store: &Contents) -> bool {
+        if left == 0 {
+            return true;
+        }
+        if left.count_ones() >= self.few && !self.hopeful(left, store) {
             return false;
         }
-        registers &= registers - 1;
+        members(left).any(|next| {
+            let transaction = &self.transactions[next];
+            if transaction.after & left != 0 || !reads_fit(transaction, store) {
+                return false;
+            }
+            let rest = left & !(1 << next);
+            (transaction.may_abort && self.place((next, false), rest, store))
+                || (transaction.may_commit && self.place((next, true), rest, &after(transaction, store)))
+        })
     }
-    true
+
+    fn place(&mut self, place: Place, rest: u64, store: &Contents) -> bool {
+        if self.placements == self.most {
+            return false;
+        }
+        self.placements += 1;
+        self.order.push(place);
+        if self.place_rest(rest, store) {
+            return true;
+        }
+        self.order.pop();
+        false
+    }
+
+    /// May those that are left be placed in some order? No is certain, yes is not.
+    fn hopeful(&mut self, left: u64, store: &Contents) -> bool {
+        let ready = members(left).filter(|&t| reads_fit(&self.transactions[t], store)).fold(0, |set, t| set | 1 << t);
+        !members(left & !ready).any(|t| self.stranded(left, store, t)) && self.possible(left, left, ready, store)
+    }
+
+    /// May all that are needed be placed, with commits of open ones in between? `ready` are the open ones whose reads fit.
+    fn possible(&mut self, open: u64, need: u64, ready: u64, store: &Contents) -> bool {
+        let need = self.settle(need, ready);
+        need == 0 || members(ready).any(|t| self.leads(open, need, ready, store, t))
+    }
+
+    /// What is still needed when each that is ready and may abort is taken as placed: it leaves the store as it is.
+    fn settle(&self, mut need: u64, ready: u64) -> u64 {
+        let may_go = |need: u64, t: usize| self.transactions[t].may_abort && self.transactions[t].after & need == 0;
+        while let Some(t) = members(need & ready).find(|&t| may_go(need, t)) {
+            need &= !(1 << t);
+        }
+        need
+    }
+
+    /// May they, if t commits next?
+    fn leads(&mut self, open: u64, need: u64, ready: u64, store: &Contents, t: usize) -> bool {
+        let transaction = &self.transactions[t];
+        if !transaction.may_commit || transaction.after & need != 0 {
+            return false;
+        }
+        self.placements += 1;
+        let open = open & !(1 << t);
+        let need = need & open;
+        if members(need).any(|reader| self.orphaned(open, t, reader)) {
+            return false;
+        }
+        let store = after(transaction, store);
+        let ready = members(open).filter(|&other| self.still_ready(t, ready, &store, other)).fold(0, |set, t| set | 1 << t);
+        self.possible(open, need, ready, &store)
+    }
+
+    /// Do the reads of t fit, now that the last commit was that of `writer`?
+    fn still_ready(&self, writer: usize, ready: u64, store: &Contents, t: usize) -> bool {
+        let (writer, reader) = (&self.transactions[writer], &self.transactions[t]);
+        let touched = writer.has_written & reader.has_read;
+        if registers(touched).any(|register| writer.written[register] != reader.read[register]) {
+            return false;
+        }
+        ready >> t & 1 == 1 || (touched != 0 && reads_fit(reader, store))
+    }
+
+    /// Has the commit of `writer` overwritten a value that `reader` needs and no other open one writes?
+    fn orphaned(&self, open: u64, writer: usize, reader: usize) -> bool {
+        let (writer, needed) = (&self.transactions[writer], &self.transactions[reader]);
+        registers(writer.has_written & needed.has_read).any(|register| {
+            let value = needed.read[register];
+            writer.written[register] != value && !self.sourced(open & !(1 << reader), register, value)
+        })
+    }
+
+    /// Does t need a value that is not there and that no other open one writes?
+    fn stranded(&self, open: u64, store: &Contents, t: usize) -> bool {
+        let needed = &self.transactions[t];
+        registers(needed.has_read).any(|register| {
+            let value = needed.read[register];
+            store[register] != value && !self.sourced(open & !(1 << t), register, value)
+        })
+    }
+
+    /// May one of the set write the value?
+    fn sourced(&self, set: u64, register: usize, value: u32) -> bool {
+        members(set).map(|t| &self.transactions[t]).any(|transaction| {
+            transaction.may_commit && transaction.has_written >> register & 1 == 1 && transaction.written[register] == value
+        })
+    }
 }
 
-fn after(transaction: &Transaction, store: &[u32; REGISTERS]) -> [u32; REGISTERS] {
-    let mut next = *store;
-    let mut registers = transaction.has_written;
-    while registers != 0 {
-        let register = registers.trailing_zeros() as usize;
-        next[register] = transaction.written[register];
-        registers &= registers - 1;
-    }
-    next
+/// The members of a set, lowest first.
+fn members(mut set: u64) -> impl Iterator<Item = usize> {
+    std::iter::from_fn(move || {
+        let lowest = (set != 0).then(|| set.trailing_zeros() as usize)?;
+        set &= set - 1;
+        Some(lowest)
+    })
+}
+
+fn registers(set: u32) -> impl Iterator<Item = usize> {
+    members(u64::from(set))
+}
+
+fn reads_fit(transaction: &Transaction, store: &Contents) -> bool {
+    registers(transaction.has_read).all(|register| transaction.read[register] == store[register])
+}
+
+/// What stands in the registers after a commit.
+fn after(transaction: &Transaction, store: &Contents) -> Contents {
+    std::array::from_fn(|register| transaction.written[register] | (store[register] & transaction.unwritten[register]))
 }

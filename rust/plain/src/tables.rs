@@ -15,6 +15,8 @@ pub struct Transaction {
     pub read: [u32; REGISTERS],
     pub has_written: u32,
     pub written: [u32; REGISTERS],
+    /// All ones where nothing is written and zero where something is, so that a commit takes a few wide steps.
+    pub unwritten: [u32; REGISTERS],
 }
 
 pub struct Tables {
@@ -41,6 +43,7 @@ impl Tables {
                 read: [0; REGISTERS],
                 has_written: 0,
                 written: [0; REGISTERS],
+                unwritten: [u32::MAX; REGISTERS],
             });
             return;
         }
@@ -50,6 +53,7 @@ impl Tables {
             WRITE_CALLED => {
                 transaction.has_written |= 1 << event.register;
                 transaction.written[usize::from(event.register)] = event.value;
+                transaction.unwritten[usize::from(event.register)] = 0;
             }
             COMMIT_CALLED => transaction.may_commit = true,
             COMMITTED | ABORTED => {

@@ -1,8 +1,10 @@
-//! The scan and the finder beside those of an earlier version in the same run. SENDOSHI_EARLIER names its static library made into a
-//! shared one: `cc -shared -o earlier.so -Wl,--whole-archive libexports.a`.
+//! The scan and the finder beside those of an earlier version in the same run. SENDOSHI_EARLIER names its static library made
+//! into a shared one: `cc -shared -o earlier.so -Wl,--whole-archive libexports.a -Wl,--no-whole-archive`.
 
-use crate::inputs::{cycle, late_fault, pending_writers, simulated};
-use crate::sides::Capture;
+use crate::growth::captures;
+use crate::hard::{finds, patience, scans};
+use crate::inputs::{late_fault, simulated};
+use crate::sides::{scan_all_beside, Capture};
 use crate::table;
 use sendoshi::{Answer, Columns, Store};
 use std::ffi::{c_char, c_int, c_void, CStr, CString, OsStr};
@@ -101,24 +103,44 @@ unsafe fn symbol(library: *mut c_void, name: &CStr) -> *mut c_void {
 
 pub fn print(path: &OsStr, quick: bool) {
     let earlier = Earlier::load(path);
-    table::head_beside("Beside the earlier version: the scan and the finder", "job", "earlier");
+    print_captures(&earlier);
+    print_hard(&earlier, patience(quick) / 2); // it places more slowly than plain Rust
+}
+
+fn print_captures(earlier: &Earlier) {
+    table::head_beside("Beside the earlier version: captures", "job", "earlier");
     for seed in 1..=3 {
         let log = simulated(10, 2_048, seed);
-        table::row(&format!("scan, opaque, capture {seed}"), &Capture::new(&log).scan_beside(&earlier));
+        table::row(&format!("scan, opaque, capture {seed}"), &Capture::new(&log).scan_beside(earlier));
         let fault = Capture::new(&late_fault(log.clone()));
-        table::row(&format!("scan, fault at the last read, capture {seed}"), &fault.scan_beside(&earlier));
-        table::row(&format!("find the lowest marking, capture {seed}"), &Capture::new(&log).find_beside(&earlier));
+        table::row(&format!("scan, fault at the last read, capture {seed}"), &fault.scan_beside(earlier));
+        table::row(&format!("find the lowest marking, capture {seed}"), &Capture::new(&log).find_beside(earlier));
     }
     for begins in [2, 4, 6, 8] {
-        let capture = Capture::new(&simulated(begins, 2_048, 1));
-        table::row(&format!("scan, opaque, {begins} transactions"), &capture.scan_beside(&earlier));
+        let measured = scan_all_beside(&captures(begins, 2_048), earlier);
+        table::row(&format!("scan, {begins} transactions, 2048 events, the mean of 8 captures"), &measured);
     }
-    for writers in 4..=if quick { 7 } else { 9 } {
-        let capture = Capture::new(&pending_writers(writers));
-        table::row(&format!("find, {writers} pending writers and a read of another value"), &capture.find_beside(&earlier));
+    for events in [256, 512, 1_024, 2_048] {
+        let measured = scan_all_beside(&captures(10, events), earlier);
+        table::row(&format!("scan, 10 transactions, {events} events, the mean of 8 captures"), &measured);
     }
-    for length in 4..=10 {
-        table::row(&format!("find, {length} reads in a cycle"), &Capture::new(&cycle(length)).find_beside(&earlier));
+    table::end();
+}
+
+/// An earlier version may be one that only tries: hard inputs are put to it where trying alone comes to an end.
+fn print_hard(earlier: &Earlier, most: u64) {
+    let dash = table::thousands(most);
+    let title = format!("Beside the earlier version: hard inputs (a dash: {dash} placements and more by trying alone)");
+    table::head_beside(&title, "job", "earlier");
+    for (name, events) in finds() {
+        let capture = Capture::new(&events);
+        let measured = capture.find_placements_by_trying(most).map(|_| capture.find_beside(earlier));
+        table::row_if(&format!("find, {name}"), measured.as_ref());
+    }
+    for (name, events) in scans() {
+        let capture = Capture::new(&events);
+        let measured = capture.scan_placements_by_trying(most).map(|_| capture.scan_beside(earlier));
+        table::row_if(&format!("scan, {name}"), measured.as_ref());
     }
     table::end();
 }

@@ -29,8 +29,11 @@ pub fn print() {
     table::end();
 }
 
-/// One capture differs much from the next, so that growth shows only in several.
 fn scans(begins: usize, events: usize) -> Measured {
-    let captures: Vec<Capture> = (1..=8).map(|seed| Capture::new(&simulated(begins, events, seed))).collect();
-    scan_all(&captures)
+    scan_all(&captures(begins, events))
+}
+
+/// One capture differs much from the next, so that growth shows only in several.
+pub fn captures(begins: usize, events: usize) -> Vec<Capture> {
+    (1..=8).map(|seed| Capture::new(&simulated(begins, events, seed))).collect()
 }

@@ -2,11 +2,12 @@
 
 use crate::earlier::Earlier;
 use crate::measure::{measure, Measured};
+use outside::views::{find_answer, scan_answer};
 use plain::{Scanned, Straightened, Tally, Verdict};
 use reference::event::{Columns as Held, Event};
 use reference::history_file;
 use reference::store::Store as HeldStore;
-use sendoshi::{calls, Columns, ColumnsMut, Store};
+use sendoshi::{calls, Answer, Columns, ColumnsMut, Store};
 use std::hint::black_box;
 
 /// All captures are of edition 1.
@@ -76,48 +77,74 @@ impl Capture {
     }
 
     pub fn scan(&self) -> Measured {
-        let library = || calls::scan(STORE, black_box(self.library()), self.count);
-        let plain = || plain::scan(PLAIN_STORE, black_box(self.plain()), self.count);
-        let expected = match plain().expect("a capture that is judged") {
-            Scanned::Opaque => (0, 0),
-            Scanned::Faulted(event, cause) => (100 + u32::from(cause), event as u32),
-        };
-        assert_eq!((library().code, library().place), expected);
-        measure(library, plain)
+        self.scan_with(|| scan_answer(plain::scan(PLAIN_STORE, black_box(self.plain()), self.count)))
     }
 
-    /// The finder on the whole capture.
-    pub fn find(&self) -> Measured {
-        let mut output = self.output.clone();
-        let mut other = self.output.clone();
-        let library = |output: &mut [u8]| {
-            let answer = calls::find(STORE, black_box(self.library()), self.count, self.count, output);
-            (answer.code == 0).then_some(answer.place as usize)
-        };
-        let plain =
-            |output: &mut [u8]| plain::find(PLAIN_STORE, black_box(self.plain()), self.count, self.count, output).ok().flatten();
-        assert_eq!(library(&mut output), plain(&mut other));
-        assert_eq!(output, other);
-        measure(|| library(&mut output), || plain(&mut other))
+    /// The scan beside plain Rust that searches for every prefix and only tries, unless that places so many.
+    pub fn scan_by_trying(&self, most: u64) -> Option<Measured> {
+        self.scan_placements_by_trying(most)?;
+        Some(self.scan_with(|| scan_answer(plain::scan_by_trying(PLAIN_STORE, black_box(self.plain()), self.count))))
     }
 
     /// The scan by the library and by an earlier version of it.
     pub fn scan_beside(&self, earlier: &Earlier) -> Measured {
+        self.scan_with(|| earlier.scan(STORE, black_box(self.library()), self.count))
+    }
+
+    fn scan_with(&self, other: impl Fn() -> Answer) -> Measured {
         let library = || calls::scan(STORE, black_box(self.library()), self.count);
-        let other = || earlier.scan(STORE, black_box(self.library()), self.count);
         assert_eq!(library(), other());
         measure(library, other)
     }
 
-    /// The finder on the whole capture, by both.
+    /// How many searches plain Rust needs for a scan, and how many transactions it places in them.
+    pub fn scan_counts(&self) -> [u64; 2] {
+        let counted = plain::scan_counting(PLAIN_STORE, self.plain(), self.count).expect("a capture that is judged");
+        [counted.searches, counted.placements]
+    }
+
+    /// How many it places by trying alone, if those are fewer than `most`.
+    pub fn scan_placements_by_trying(&self, most: u64) -> Option<u64> {
+        let counted = plain::scan_by_trying_counting(PLAIN_STORE, self.plain(), self.count, most);
+        Some(counted.expect("a capture that is judged")?.placements)
+    }
+
+    /// The finder on the whole capture.
+    pub fn find(&self) -> Measured {
+        self.find_with(|output| find_answer(plain::find(PLAIN_STORE, black_box(self.plain()), self.count, self.count, output)))
+    }
+
+    /// The finder beside plain Rust that only tries, unless that places so many.
+    pub fn find_by_trying(&self, most: u64) -> Option<Measured> {
+        self.find_placements_by_trying(most)?;
+        let other = |output: &mut [u8]| {
+            find_answer(plain::find_by_trying(PLAIN_STORE, black_box(self.plain()), self.count, self.count, output))
+        };
+        Some(self.find_with(other))
+    }
+
+    /// The finder by the library and by an earlier version of it.
     pub fn find_beside(&self, earlier: &Earlier) -> Measured {
+        self.find_with(|output| earlier.find(STORE, black_box(self.library()), self.count, output))
+    }
+
+    fn find_with(&self, other: impl Fn(&mut [u8]) -> Answer) -> Measured {
         let mut output = self.output.clone();
         let mut other_output = self.output.clone();
         let library = |output: &mut [u8]| calls::find(STORE, black_box(self.library()), self.count, self.count, output);
-        let other = |output: &mut [u8]| earlier.find(STORE, black_box(self.library()), self.count, output);
         assert_eq!(library(&mut output), other(&mut other_output));
         assert_eq!(output, other_output);
         measure(|| library(&mut output), || other(&mut other_output))
+    }
+
+    /// How many transactions plain Rust places on the way to the finder's answer.
+    pub fn find_placements(&self) -> u64 {
+        plain::find_placements(PLAIN_STORE, self.plain(), self.count)
+    }
+
+    /// How many it places by trying alone, if those are fewer than `most`.
+    pub fn find_placements_by_trying(&self, most: u64) -> Option<u64> {
+        plain::find_placements_by_trying(PLAIN_STORE, self.plain(), self.count, most)
     }
 
     /// The checker on a marking that is accepted.
@@ -151,13 +178,21 @@ impl Capture {
     }
 }
 
-/// The scan of several captures, for the mean of one.
+/// The scan of several opaque captures, for the mean of one.
 pub fn scan_all(captures: &[Capture]) -> Measured {
-    let library = || captures.iter().map(|c| calls::scan(STORE, black_box(c.library()), c.count).code).max();
-    let plain =
-        || captures.iter().filter(|c| plain::scan(PLAIN_STORE, black_box(c.plain()), c.count) != Ok(Scanned::Opaque)).count();
-    assert_eq!((library(), plain()), (Some(0), 0), "all captures are opaque");
-    let Measured { library, plain, ratio, samples } = measure(library, plain);
+    all_with(captures, |c| plain::scan(PLAIN_STORE, black_box(c.plain()), c.count) == Ok(Scanned::Opaque))
+}
+
+/// The same beside an earlier version.
+pub fn scan_all_beside(captures: &[Capture], earlier: &Earlier) -> Measured {
+    all_with(captures, |c| earlier.scan(STORE, black_box(c.library()), c.count).code == 0)
+}
+
+fn all_with(captures: &[Capture], is_opaque: impl Fn(&Capture) -> bool) -> Measured {
+    let library = || captures.iter().filter(|c| calls::scan(STORE, black_box(c.library()), c.count).code == 0).count();
+    let other = || captures.iter().filter(|c| is_opaque(c)).count();
+    assert_eq!((library(), other()), (captures.len(), captures.len()), "all captures are opaque");
+    let Measured { library, plain, ratio, samples } = measure(library, other);
     let each = captures.len() as f64;
     Measured { library: library / each, plain: plain / each, ratio, samples }
 }

@@ -17,7 +17,30 @@ pub fn head_beside(title: &str, first: &str, other: &str) {
 /// Prints a row of times.
 pub fn row(what: &str, measured: &Measured) {
     let Measured { library, plain, ratio, samples } = measured;
-    println!("| {what} | {} | {} | {ratio:.2} | {samples} |", time(*library), time(*plain));
+    println!("| {what} | {} | {} | {} | {samples} |", time(*library), time(*plain), fraction(*ratio));
+}
+
+/// Prints the head of a table with counts before the times.
+pub fn counted_head(title: &str, first: &str, counts: &[&str]) {
+    let counted: String = counts.iter().map(|count| format!(" {count} |")).collect();
+    println!("## {title}\n");
+    println!("| {first} |{counted} library | plain Rust | library / plain Rust | samples |");
+    println!("|---|{}---:|---:|---:|---:|", "---:|".repeat(counts.len()));
+}
+
+/// Prints a row of counts and times.
+pub fn counted_row(what: &str, counts: &[u64], measured: &Measured) {
+    let counted: String = counts.iter().map(|&count| format!(" {} |", thousands(count))).collect();
+    let Measured { library, plain, ratio, samples } = measured;
+    println!("| {what} |{counted} {} | {} | {} | {samples} |", time(*library), time(*plain), fraction(*ratio));
+}
+
+/// Prints a row of times, or of dashes where nothing was measured.
+pub fn row_if(what: &str, measured: Option<&Measured>) {
+    match measured {
+        Some(measured) => row(what, measured),
+        None => println!("| {what} | – | – | – | – |"),
+    }
 }
 
 /// Prints a row of rates, for so many bytes a call.
@@ -45,4 +68,20 @@ fn time(seconds: f64) -> String {
         2
     };
     format!("{value:.digits$} {name}")
+}
+
+/// A ratio with two decimals, or as one of so many where they would be zeros.
+fn fraction(ratio: f64) -> String {
+    match ratio {
+        0.01.. => format!("{ratio:.2}"),
+        _ => format!("1/{}", thousands((1.0 / ratio).round() as u64)),
+    }
+}
+
+/// A count in groups of three figures.
+pub fn thousands(count: u64) -> String {
+    match count / 1_000 {
+        0 => count.to_string(),
+        more => format!("{},{:03}", thousands(more), count % 1_000),
+    }
 }
