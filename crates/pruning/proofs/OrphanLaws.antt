@@ -5,6 +5,7 @@ use Prim.Native.Nat.{ℕ, zero, suc, _+_, _*_, _-_, _/_, _%_, _^_, _<_}
 use native.Mathlib.Omega.{arith}
 use mathlib.Core.List.{List, [], _∷_, _++_}
 use mathlib.Core.Bool.{Bool, true, false}
+use mathlib.Core.Option.{none}
 use lib.ListN.{getD}
 use lib.Dec.{eqb}
 use borrow.Author.Tests.{eqb-true, eqb-false, eq-eqb}
@@ -12,16 +13,18 @@ use Rattle.events.proofs.ListLaws.{not-true, clash}
 use Rattle.places.specs.declared.state.Search.{Search}
 use Rattle.places.specs.Bits.{bitAt}
 use Rattle.places.specs.Places.{writesIn}
+use Rattle.places.specs.State.{Sound}
+use Rattle.places.specs.Choice.{among}
 use Rattle.places.specs.Tree.{constraints, legalAt, legalReads}
 use Rattle.pruning.specs.Runs.{runs, holds, Awaited, NoSource, Orphaned}
 use Rattle.places.proofs.BitLaws.{member-off, member-kept, no-member}
 use Rattle.places.proofs.SetLaws.{member-passes}
 use Rattle.pruning.proofs.EffectLaws.{writes-nothing, reads-nothing, spoils}
 use Rattle.pruning.proofs.RunLaws.{Step, step-of, runs-empty}
-use Rattle.pruning.proofs.HopeLaws.{Fits, fits-parts, not-other, aborted-place}
+use Rattle.pruning.proofs.HopeLaws.{Fits, fits-parts, not-other, aborted-place, awaited-less, hopeless}
 
 module _ (o b a x w v : List ℕ) (t r set : ℕ) (low : r < 32) (isRead : bitAt r (getD x t 0) ≡ 1)
-    (none : (k : ℕ) → bitAt k set ≡ 1 → NoSource a v t r (getD w (t * 32 + r) 0) k) where
+    (unsourced : (k : ℕ) → bitAt k set ≡ 1 → NoSource a v t r (getD w (t * 32 + r) 0) k) where
   -- the read is legal after these places
   abbrev legal-after : List ℕ → Bool
   legal-after p = legalAt o w (writesIn v) p t r
@@ -39,7 +42,7 @@ module _ (o b a x w v : List ℕ) (t r set : ℕ) (low : r < 32) (isRead : bitAt
           → legal-after p ≡ true
       go true d e q k s = writes-nothing w v y t r low (eqb-true _ _ d) .untouched refl o p h
       go false d true q k s = reads-nothing w v y t r low (eqb-true _ _ q) .untouched refl o p h
-      go false d false q true s = absurd (none y isIn f g (eqb-true _ _ s))
+      go false d false q true s = absurd (unsourced y isIn f g (eqb-true _ _ s))
       go false d false q false s = absurd (spoils w v y t r low 1 (omega arith) (eqb-false _ _ d) (eqb-false _ _ q) (eqb-false _ _ s) .spoilt (λ z. omega arith) o p h)
 
   lost-run : (l : List ℕ) (u : ℕ) (p : List ℕ) → u < 1024 → bitAt t u ≡ 1 → ((k : ℕ) → bitAt k u ≡ 1 → bitAt k set ≡ 1) → (legal-after p ≡ true → ⊥)
@@ -75,3 +78,10 @@ orphaned-run o b a x w v s need u p l g h =
     let k = g .orphan in
     lost-run o b a x w v (g .t) (k .register) (s .unplaced) (k .low) (k .isRead) (k .lost .none) l u p (h .few) (h .needed (g .t) (g .needed)) (h .unplaced)
     (λ e. clash (rw (h .alike (k .register)) at e) (k .lost .wrong)) (h .run)
+
+-- and nothing completes it
+pub orphaned-none : (o b a x w v : List ℕ) (s : Search) (c need : ℕ) → Sound s → c ≡ s .unplaced → ((k : ℕ) → bitAt k need ≡ 1 → bitAt k c ≡ 1)
+    → Orphaned o a x w v s need → among (constraints o b a x w v) s c ≡ none
+orphaned-none o b a x w v s c need h q sub g =
+    hopeless (constraints o b a x w v) s c false h q
+    (λ u p l run. absurd (orphaned-run o b a x w v s need u p l g (awaited-less (constraints o b a x w v) s c need u p l sub run))) refl

@@ -9,7 +9,7 @@ ghost use Rattle.places.specs.Bits.{bitAt};
 ghost use Rattle.places.specs.State.{placedOf, Sound, Placeable, Keeps};
 ghost use Rattle.places.specs.Tree.{constraints};
 ghost use Rattle.places.specs.Choice.{among};
-ghost use Rattle.pruning.specs.Runs.{Hope, HopeBy, legalFor, Ready, Renewed, Stays, Effects, otherThan, Settled};
+ghost use Rattle.pruning.specs.Runs.{Hope, HopeBy, legalFor, Ready, Renewed, Stays, Effects, Orphaned, otherThan, Settled};
 use crate::effects::HELPED;
 use crate::effects::orphaned;
 use places::lookup::legal;
@@ -253,7 +253,27 @@ fn leads(
     )
 }
 
-// Is there hope? It is asked once for a state, before its first candidate is tried, and only where there is much to try.
+// Is there one of these that needs a value which is not there, and which nobody unplaced could write?
+pub fn stranded(
+    starts: &[u32; 32],
+    allowed: &[u8; 10],
+    reads: &[u32; 10],
+    required: &[u64; 320],
+    written: &[u64; 320],
+    s: Search,
+    need: u64,
+) -> bool
+    requires { ⌜ Sound s ⌝ }
+    requires { ⌜ need < 1024 ⌝ }
+    ensures { λ r. ⌜ (r ≡ true → Orphaned
+        (now (starts .entry)) (now (allowed .entry)) (now (reads .entry)) (now (required .entry)) (now (written .entry)) s need) ⌝ }
+{
+    let all = [ALL; 100];
+    orphaned(starts, allowed, reads, required, written, &all, s, need, 0)
+}
+
+// Is there hope? It is asked once for a state, before its first candidate is tried, and only where there is much to try. Who is stranded before
+// any place is filled has been asked already.
 pub fn hopeful(
     starts: &[u32; 32],
     predecessors: &[u64; 10],
@@ -278,20 +298,18 @@ pub fn hopeful(
         return true;
     }
     let ready = ready_among(starts, reads, required, written, s);
-    let waiting = s.unplaced ^ ready;
-    let all = [ALL; 100];
-    if orphaned(
-        starts,
-        allowed,
-        reads,
-        required,
-        written,
-        &all,
-        s,
-        waiting,
-        0,
-    ) {
-        return false;
+    if s.filled != 0 {
+        if stranded(
+            starts,
+            allowed,
+            reads,
+            required,
+            written,
+            s,
+            s.unplaced ^ ready,
+        ) {
+            return false;
+        }
     }
     possible(
         starts,

@@ -17,6 +17,7 @@ use pruning::effects::effects_among;
 use pruning::effects::registers_written;
 use pruning::hope::FEW;
 use pruning::hope::hopeful;
+use pruning::hope::stranded;
 use pruning::unwritten::reads_asked;
 
 // Rules beside the outcomes: a transaction may have either, or none.
@@ -226,6 +227,9 @@ pub fn find(
             s,
             s.unplaced,
         );
+    }
+    if stranded(starts, allowed, reads, required, written, s, s.unplaced) {
+        return 0;
     }
     let writes = registers_written(written);
     let asked = reads_asked(starts, reads, required, written, &writes);

@@ -1,16 +1,17 @@
 -- `search::find` meets its contract: the search starts with all transactions unplaced, as both the unplaced and the candidates.
 -- Assumes nothing.
 use borrow.Author.Needs.{needs}
-use mathlib.Core.Path.{_≡_, ap}
+use mathlib.Core.Path.{_≡_, refl, sym, ap}
 use Prim.Native.Nat.{ℕ, _-_}
 use native.Mathlib.Omega.{arith}
 use lib.Pow.{pow-pos}
 use Rattle.places.specs.Places.{codesOf}
 use Rattle.places.specs.Tree.{constraints}
-use Rattle.search.proofs.TreeLaws.{start-sound, start-answers, answers-as}
+use Rattle.search.proofs.TreeLaws.{start-sound, start-answers, answers-as, answers-none}
 use Rattle.places.proofs.SetLaws.{within-self}
 use Rattle.pruning.proofs.EffectLaws.{nothing-known}
 use Rattle.pruning.proofs.UnwrittenLaws.{asked-completion}
+use Rattle.pruning.proofs.OrphanLaws.{orphaned-none}
 use Rattle.search.proofs.find.Statement.{statement}
 use Rattle.search.proofs.find.Tie as tie
 
@@ -35,6 +36,25 @@ returns c =
     let D = constraints (a .starts .now) (a .predecessors .now) (a .allowed .now) (a .reads .now) (a .required .now) (a .written .now) in
     start-answers D (a .n) (all .result - 1) (c .choose-transaction .result) (start .pre) (ap (λ (k : ℕ). k - 1) (all .ensures)) (c .choose-transaction .ensures)
 
+stranded-requires : tie.Need-stranded-requires
+stranded-requires c κs =
+    let start = c .before .before in
+    let all = c .before .bit in
+    let sound = start-sound (start .args .n) (all .result - 1) (start .pre) (ap (λ (k : ℕ). k - 1) (all .ensures)) in
+    (sound, sound .few)
+
+returns-2 : tie.Need-returns-2
+unfolding codesOf
+returns-2 c =
+    let start = c .before .before .before .before in
+    let all = c .before .before .before .bit in
+    let a = start .args in
+    let D = constraints (a .starts .now) (a .predecessors .now) (a .allowed .now) (a .reads .now) (a .required .now) (a .written .now) in
+    let sound = start-sound (a .n) (all .result - 1) (start .pre) (ap (λ (k : ℕ). k - 1) (all .ensures)) in
+    start-answers D (a .n) (all .result - 1) 0 (start .pre) (ap (λ (k : ℕ). k - 1) (all .ensures))
+    (answers-none _ (sym (orphaned-none (a .starts .now) (a .predecessors .now) (a .allowed .now) (a .reads .now) (a .required .now) (a .written .now) _ _ _ sound refl (λ k h. h)
+    (c .before .stranded .ensures (c .if2 .taken)))))
+
 registers-written-requires : tie.Need-registers-written-requires
 registers-written-requires c κs = search needs
 
@@ -46,16 +66,16 @@ effects-among-requires c κs = search needs
 
 choose-transaction-requires-2 : tie.Need-choose-transaction-requires-2
 choose-transaction-requires-2 c κs =
-    let start = c .before .before .before .before .before .before .before .before .before .before in
-    let all = c .before .before .before .before .before .before .before .before .before .bit in
+    let start = c .before .before .before .before .before .before .before .before .before .before .before .before in
+    let all = c .before .before .before .before .before .before .before .before .before .before .before .bit in
     (start-sound (start .args .n) (all .result - 1) (start .pre) (ap (λ (k : ℕ). k - 1) (all .ensures)), (within-self _, c .before .before .effects-among .ensures))
 
 -- the tree in which fewer registers are asked about is the same
-returns-2 : tie.Need-returns-2
+returns-3 : tie.Need-returns-3
 unfolding codesOf
-returns-2 c =
-    let start = c .before .before .before .before .before .before .before .before .before .before .before in
-    let all = c .before .before .before .before .before .before .before .before .before .before .bit in
+returns-3 c =
+    let start = c .before .before .before .before .before .before .before .before .before .before .before .before .before in
+    let all = c .before .before .before .before .before .before .before .before .before .before .before .before .bit in
     let asked = c .before .before .before .before .before .before .reads-asked in
     let a = start .args in
     let D = constraints (a .starts .now) (a .predecessors .now) (a .allowed .now) (asked .result) (a .required .now) (a .written .now) in
@@ -71,8 +91,10 @@ find-spec =
     sub-t14
     choose-transaction-requires
     returns
+    stranded-requires
+    returns-2
     registers-written-requires
     reads-asked-requires
     effects-among-requires
     choose-transaction-requires-2
-    returns-2)
+    returns-3)
