@@ -15,11 +15,11 @@ use Rattle.opacity.specs.Marking.{placeOf}
 use Rattle.events.proofs.ListLaws.{nor-l, nor-r, nor-i}
 use Rattle.opacity.proofs.MarkingBytes.{outcome-back, flat-append, flat-length}
 use Rattle.opacity.proofs.Orders.{before-here}
-use Rattle.search.specs.Places.{coded, decode}
+use Rattle.places.specs.Places.{coded, decode}
 use Rattle.events.specs.Bytes as bytes
 use Rattle.events.specs.Bytes.{u16Bytes}
 use Rattle.opacity.specs.Marking.{placeBytes, flat}
-use Rattle.search.proofs.LookupLaws.{decode-append, decode-snoc}
+use Rattle.places.proofs.LookupLaws.{decode-append, decode-snoc}
 use Rattle.tables.proofs.TreeLink.{placed-snoc}
 use Rattle.marking_writer.proofs.RunLaws.{placed-then}
 

@@ -22,7 +22,7 @@ use Rattle.opacity.specs.Marking.{placeOf, marked}
 use Rattle.events.proofs.ColumnLaws.{history-length, history-at, history-take}
 use Rattle.opacity.proofs.Prefixes.{store-read-at}
 use Rattle.tables.specs.Tables.{slotOf, empty, goThrough, tablesOf}
-use Rattle.search.specs.Places.{decode}
+use Rattle.places.specs.Places.{decode}
 use Rattle.tables.specs.Order.{Judged}
 use Rattle.events.specs.Bytes as bytes
 use Rattle.events.specs.Bytes.{over}
@@ -32,7 +32,7 @@ use Rattle.marking_writer.proofs.RunLaws.{Put, put-none, put-room, put-more}
 use Rattle.marking_writer.proofs.PointLaws.{points-are, points-none, points-more, marking-put}
 use Rattle.finder.specs.Points.{pointsOf}
 use Rattle.tables.proofs.NextLaws.{writes-more}
-use Rattle.search.specs.Places.{plus}
+use Rattle.places.specs.Places.{plus}
 use Rattle.tables.proofs.Meaning.{Fine, written-holds}
 use Rattle.tables.proofs.GoodHistory.{good}
 use Rattle.finder.proofs.MarkLaws.{places-length}

@@ -42,7 +42,7 @@ fn find_lowest(
         return Found::None;
     }
     let count = opacity::counts::transactions_begun(kinds, transactions, registers, values, n);
-    let places = search::state::codes_of(order, count);
+    let places = places::state::codes_of(order, count);
     let length = writer::write_marking(
         kinds,
         transactions,

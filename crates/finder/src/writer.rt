@@ -9,7 +9,7 @@ ghost use Rattle.events.specs.Events.{isRead};
 ghost use Rattle.events.specs.Columns.{columns, history};
 ghost use Rattle.opacity.specs.Counts.{ofKind};
 ghost use Rattle.opacity.specs.Marking.{flat, placeBytes, placeOf, marked, markingBytes};
-ghost use Rattle.search.specs.Places.{decode};
+ghost use Rattle.places.specs.Places.{decode};
 ghost use Rattle.tables.specs.Order.{Judged};
 ghost use Rattle.finder.specs.Points.{pointsOf};
 use events::record::Record;

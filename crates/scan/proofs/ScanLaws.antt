@@ -25,8 +25,8 @@ use Rattle.events.proofs.ColumnLaws.{history-length, history-at, history-take, 
 use Rattle.opacity.proofs.Bounds.{transaction-known}
 use Rattle.opacity.proofs.Least.{lowest-justifies, lowest-least}
 use Rattle.opacity.proofs.Opacity.{empty-justified}
-use Rattle.search.specs.Places.{codesOf, decode}
-use Rattle.search.specs.Tree.{firstCompletion, readAnswer}
+use Rattle.places.specs.Places.{codesOf, decode}
+use Rattle.places.specs.Tree.{firstCompletion, readAnswer}
 use Rattle.opacity.specs.Counts.{ofKind}
 use Rattle.tables.specs.Tables.{Tables, empty, goThrough, next, tablesOf}
 use Rattle.tables.specs.Order.{constraintsOf, decoded, Judged}

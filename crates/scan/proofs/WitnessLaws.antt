@@ -26,9 +26,9 @@ use Rattle.opacity.specs.Carry.{seen, carries, carried}
 use Rattle.opacity.specs.Counts.{ofKind}
 use Rattle.opacity.proofs.Bounds.{transaction-known}
 use Rattle.opacity.proofs.Carry.{carried-justified}
-use Rattle.search.specs.Places.{codesOf, decode, plus, writesIn}
-use Rattle.search.proofs.StateLaws.{one-more}
-use Rattle.search.proofs.LookupLaws.{held, decode-snoc}
+use Rattle.places.specs.Places.{codesOf, decode, plus, writesIn}
+use Rattle.places.proofs.StateLaws.{one-more}
+use Rattle.places.proofs.LookupLaws.{held, decode-snoc}
 use Rattle.tables.specs.Tables.{event, tablesOf}
 use Rattle.tables.specs.Order.{Judged}
 use Rattle.tables.proofs.Meaning.{Good}

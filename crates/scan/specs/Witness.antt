@@ -8,9 +8,9 @@ use Rattle.events.specs.declared.event.Event.{Event}
 use Rattle.events.specs.Events.{isBegin}
 use Rattle.events.specs.Starts.{startOf}
 use Rattle.opacity.specs.Carry.{carries}
-use Rattle.search.specs.Places.{codesOf, decode, writesIn}
-use Rattle.search.specs.State.{Ordered}
-use Rattle.search.specs.Tree.{Completion, Answers}
+use Rattle.places.specs.Places.{codesOf, decode, writesIn}
+use Rattle.places.specs.State.{Ordered}
+use Rattle.places.specs.Tree.{Completion, Answers}
 
 -- with a begin the new transaction comes last, aborted
 unfoldable pub carriedCode : ℕ → Event → ℕ

@@ -6,9 +6,9 @@ ghost use Prim.Native.Nat.{_≤_, _<_};
 ghost use Rattle.events.specs.Starts.{startOf};
 ghost use Rattle.opacity.specs.Justification.{outcome};
 ghost use Rattle.opacity.specs.Carry.{seen};
-ghost use Rattle.search.specs.Places.{codesOf, decode, writesIn};
-ghost use Rattle.search.specs.State.{Ordered};
-ghost use Rattle.search.specs.Tree.{firstCompletion};
+ghost use Rattle.places.specs.Places.{codesOf, decode, writesIn};
+ghost use Rattle.places.specs.State.{Ordered};
+ghost use Rattle.places.specs.Tree.{firstCompletion};
 ghost use Rattle.tables.specs.Order.{constraintsOf};
 ghost use Rattle.tables.specs.Tables.{event, tablesBy};
 ghost use Rattle.scan.specs.Witness.{kept, Carryable, Judges};
@@ -42,8 +42,8 @@ fn seen_by(
     if own != 0 {
         return own - 1;
     }
-    let p = search::state::place_of(order, count, t as usize);
-    search::lookup::content(starts, written, p.placed, p.filled, r as usize)
+    let p = places::state::place_of(order, count, t as usize);
+    places::lookup::content(starts, written, p.placed, p.filled, r as usize)
 }
 
 // Is t committed in the order?
@@ -52,7 +52,7 @@ fn is_committed(order: u64, count: usize, t: u16) -> bool
     requires { ⌜ t < count ⌝ }
     ensures { λ r. ⌜ r ≡ outcome t (decode (codesOf count order)) ⌝ }
 {
-    let p = search::state::place_of(order, count, t as usize);
+    let p = places::state::place_of(order, count, t as usize);
     p.committed
 }
 

@@ -11,13 +11,14 @@ use native.Mathlib.Omega.{arith}
 use lib.Dec.{eqb}
 use lib.Pow.{pow-mono, pow-pos}
 use lib.Count.{ones, ones-ones, trailingZeros}
-use Rattle.search.specs.declared.state.Search.{Search}
-use Rattle.search.specs.Bits.{bitAt, membersIn, members}
-use Rattle.search.specs.State.{placedOf, whole, Sound, Placeable, Within, Extends}
-use Rattle.search.specs.Tree.{Constraints, Completion, orElse, remove, ruleNext, allowsOutcome, fitsAt, firstOf, tryOne, tryBoth, fromCandidates, atTransaction, firstCompletion, readAnswer, Answers}
-use Rattle.search.specs.Choice.{among, withNext, from}
-use Rattle.search.proofs.BitLaws.{member-lt, ones-off, members-off, members-all}
-use Rattle.search.proofs.SetLaws.{members-first, lowest-member}
+use Rattle.places.specs.declared.state.Search.{Search}
+use Rattle.places.specs.Bits.{bitAt, membersIn, members}
+use Rattle.places.specs.State.{placedOf, whole, Sound, Placeable, Within, Extends}
+use Rattle.places.specs.Tree.{Constraints, Completion, orElse, ruleNext, allowsOutcome, fitsAt, firstOf, tryOne, tryBoth, fromCandidates, atTransaction, firstCompletion, readAnswer, Answers}
+use Rattle.places.specs.Choice.{among, withNext, from}
+use Rattle.places.proofs.BitLaws.{ones-off, members-all}
+use Rattle.places.proofs.StateLaws.{fewer}
+use Rattle.places.proofs.SetLaws.{members-first, members-remove, lowest-member}
 
 -- ---- answers
 
@@ -35,12 +36,6 @@ first-none e f = rw e f
 -- the first completion of a state with t next at outcome o
 pub attempt : Constraints → Search → ℕ → ℕ → Completion
 attempt D s t o = tryOne D (λ p′ u′. fromCandidates D (ones (s .unplaced - 2 ^ t)) p′ u′ u′) (placedOf s) (members (s .unplaced)) t o
-
-pub members-remove : (t n : ℕ) → n < 1024 → bitAt t n ≡ 1 → members (n - 2 ^ t) ≡ remove t (members n)
-unfolding members
-members-remove t n l h =
-    let few : t < 64 = omega (arith, member-lt t n 10 h l) in
-    members-off 64 0 t n few h ∙ ap (λ (k : ℕ). remove k (membersIn 64 0 n)) (zero-add t)
 
 -- an outcome fits if the rule by which t may come next allows it
 pub fits-by : {b : Bool} (D : Constraints) (s : Search) (t o rule : ℕ) → rule ≡ ruleNext D (placedOf s) (members (s .unplaced)) t → b ≡ allowsOutcome rule o
@@ -129,9 +124,6 @@ pub falls-to-rest : (s : Search) (c t r : ℕ) → bitAt t c ≡ 1 → r ≡ c -
 falls-to-rest s c t r h e = rw e (omega (arith, ones-off t c h))
 
 -- a transaction has been placed
-pub fewer : (s next : Search) (t o : ℕ) → Placeable s t → Extends s t o next → ones (s .unplaced) ≡ suc (ones (next .unplaced))
-fewer s next t o r x = ones-off t (s .unplaced) (r .isIn) ∙ ap (λ (n : ℕ). suc (ones n)) (sym (x .rest))
-
 pub falls-to-next : (s next : Search) (c t o : ℕ) → Placeable s t → Extends s t o next → size next (next .unplaced) + 1 < size s c
 falls-to-next s next c t o r x = omega (arith, fewer s next t o r x, r .sound .fit)
 

@@ -8,9 +8,9 @@ use Rattle.events.specs.Starts.{startOf}
 use Rattle.events.specs.Events.{isWrite, by}
 use Rattle.opacity.specs.Transactions.{lastWrite}
 use Rattle.opacity.specs.Justification.{written, contents}
-use Rattle.search.specs.Bits.{bitAt, membersIn, members}
-use Rattle.search.specs.Places.{decode, writesFrom, writesIn}
-use Rattle.search.specs.Tree.{Constraints, constraints, firstCompletion, fromCandidates, firstOf, tryBoth, tryOne, fitsAt, ruleNext, allowsOutcome, noneIn, legalReads, legalAt, remove, upFrom}
+use Rattle.places.specs.Bits.{bitAt, membersIn, members}
+use Rattle.places.specs.Places.{decode, writesFrom, writesIn}
+use Rattle.places.specs.Tree.{Constraints, constraints, firstCompletion, fromCandidates, firstOf, tryBoth, tryOne, fitsAt, ruleNext, allowsOutcome, noneIn, legalReads, legalAt, remove, upFrom}
 
 h0 : Constraints
 h0 = constraints (replicate 32 0) (replicate 10 0) (1 ∷ 0 ∷ replicate 8 0) (0 ∷ 8 ∷ replicate 8 0) (set (replicate 320 0) 35 1) (set (replicate 320 0) 3 8)

@@ -1,36 +1,26 @@
-// The lowest completion: a search over the orders and outcomes of at most ten transactions. `state` has the places filled, `lookup` what
-// they leave in a register, `hope` the test that leaves a state which nothing completes, `effects` what a commit does to the reads of others,
-// and here transactions and outcomes are chosen.
+// The lowest completion: a search over the orders and outcomes of at most ten transactions. `places` has the places filled and what
+// they leave in a register, `pruning` the test that leaves a state which nothing completes, and here transactions and outcomes are chosen.
 ghost use mathlib.Core.Path.{_≡_};
 ghost use Prim.Native.Nat.{_≤_, _<_};
-ghost use Rattle.search.specs.Bits.{bitAt, members};
-ghost use Rattle.search.specs.State.{placedOf, whole, Sound, Placeable, Within};
-ghost use Rattle.search.specs.Tree.{constraints, allowsOutcome, ruleNext, firstCompletion, Answers};
-ghost use Rattle.search.specs.Choice.{among, from};
-ghost use Rattle.search.specs.Runs.{Effects};
+ghost use Rattle.places.specs.Bits.{bitAt, members};
+ghost use Rattle.places.specs.State.{placedOf, whole, Sound, Placeable, Within};
+ghost use Rattle.places.specs.Tree.{constraints, allowsOutcome, ruleNext, firstCompletion, Answers};
+ghost use Rattle.places.specs.Choice.{among, from};
+ghost use Rattle.pruning.specs.Runs.{Effects};
+use places::lookup::legal;
+use places::sets;
+use places::state::ABORTED;
+use places::state::COMMITTED;
+use places::state::Search;
+use pruning::effects::HELPED;
+use pruning::effects::effects_among;
+use pruning::effects::registers_written;
+use pruning::hope::FEW;
+use pruning::hope::hopeful;
+use pruning::hope::stranded;
+use pruning::unwritten::reads_asked;
 
-mod effects;
-mod hope;
-pub mod lookup;
-pub mod sets;
-pub mod state;
-mod unwritten;
-
-use effects::HELPED;
-use effects::effects_among;
-use effects::registers_written;
-use hope::FEW;
-use hope::hopeful;
-use hope::stranded;
-use lookup::legal;
-use state::Search;
-use unwritten::reads_asked;
-
-// Outcomes, and as rules the outcomes that a transaction may have.
-const ABORTED: u8 = 0;
-
-const COMMITTED: u8 = 1;
-
+// Rules beside the outcomes: a transaction may have either, or none.
 const EITHER: u8 = 2;
 
 const NONE: u8 = 3;

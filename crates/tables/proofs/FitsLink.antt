@@ -19,10 +19,10 @@ use Rattle.opacity.specs.Transactions.{precedes, Status, status, allows, isStor
 use Rattle.opacity.specs.Justification.{Place, placed, contents, preceded, legalOver}
 use Rattle.opacity.specs.Lowest.{place, fits}
 use Rattle.events.proofs.ListLaws.{and-false-r, imp-e, imp-i, not-true, clash, every-e, every-i, both-ways}
-use Rattle.search.specs.Bits.{bitAt, members}
-use Rattle.search.specs.Places.{decode, writesIn}
-use Rattle.search.specs.Tree.{upFrom, legalAt, legalReads, noneIn, ruleNext, allowsOutcome, fitsAt}
-use Rattle.search.proofs.SetLaws.{member-passes, members-pass}
+use Rattle.places.specs.Bits.{bitAt, members}
+use Rattle.places.specs.Places.{decode, writesIn}
+use Rattle.places.specs.Tree.{upFrom, legalAt, legalReads, noneIn, ruleNext, allowsOutcome, fitsAt}
+use Rattle.places.proofs.SetLaws.{member-passes, members-pass}
 use Rattle.tables.specs.Tables.{tablesOf}
 use Rattle.tables.specs.Order.{constraintsOf}
 use Rattle.tables.proofs.Meaning.{digit, Good, rule, predecessors-holds, allowed-holds}

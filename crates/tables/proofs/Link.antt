@@ -17,8 +17,8 @@ use Rattle.opacity.specs.Justification.{Place, placed, before, contents, legalO
 use Rattle.opacity.specs.Lowest.{fits, lowestOf}
 use Rattle.events.proofs.ListLaws.{and-false-l, and-false-r, imp-e, clash, every-i}
 use Rattle.opacity.proofs.Least.{none-iff}
-use Rattle.search.specs.Places.{decode}
-use Rattle.search.specs.Tree.{Completion, upFrom, firstCompletion}
+use Rattle.places.specs.Places.{decode}
+use Rattle.places.specs.Tree.{Completion, upFrom, firstCompletion}
 use Rattle.events.specs.Columns.{Columns, history}
 use Rattle.events.specs.Starts.{startOf}
 use Rattle.tables.specs.Tables.{Tables, tablesOf}

@@ -22,10 +22,10 @@ use Rattle.opacity.specs.Store.{applied}
 use Rattle.opacity.specs.Serial.{serialStore}
 use Rattle.opacity.proofs.Serial.{serial-contents}
 use Rattle.opacity.proofs.Contents.{contents-applied}
-use Rattle.search.specs.Places.{codesOf, decode, plus, writesIn}
-use Rattle.search.specs.State.{Coded}
-use Rattle.search.proofs.StateLaws.{length-codes}
-use Rattle.search.proofs.LookupLaws.{held}
+use Rattle.places.specs.Places.{codesOf, decode, plus, writesIn}
+use Rattle.places.specs.State.{Coded}
+use Rattle.places.proofs.StateLaws.{length-codes}
+use Rattle.places.proofs.LookupLaws.{held}
 use Rattle.events.specs.Columns.{Columns, history}
 use Rattle.tables.specs.Order.{Judged}
 use Rattle.tables.proofs.GoodHistory.{good}

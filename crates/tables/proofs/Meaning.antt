@@ -19,9 +19,9 @@ use Rattle.opacity.specs.Transactions.{precedes, Status, status, lastWrite}
 use Rattle.events.proofs.ListLaws.{and-l, and-r, and-i, or-l, or-r, or-false, any-weaken, latest-snoc}
 use Rattle.events.proofs.StateLaws.{has-snoc}
 use Rattle.opacity.proofs.Snoc.{precedes-more}
-use Rattle.search.specs.Bits.{bitAt}
-use Rattle.search.specs.Places.{plus}
-use Rattle.search.proofs.BitLaws.{bit-none, bit-with}
+use Rattle.places.specs.Bits.{bitAt}
+use Rattle.places.specs.Places.{plus}
+use Rattle.places.proofs.BitLaws.{bit-none, bit-with}
 use Rattle.tables.specs.Tables.{Tables, slotOf, next, empty, goThrough, tablesOf}
 use Rattle.tables.proofs.TableLaws.{tables-snoc}
 use Rattle.tables.proofs.NextLaws.{Sort, begin, read, write, ask, commit, abort, other, sort, ended-next, predecessors-next, written-next, allowed-next, required-next}

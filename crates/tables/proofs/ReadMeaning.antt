@@ -17,7 +17,7 @@ use Rattle.events.specs.declared.event.Event.{Event}
 use Rattle.events.specs.Events.{eventAt, isRead}
 use Rattle.opacity.specs.Transactions.{ownWrite, isOwnRead, isStoreRead, ownRight}
 use Rattle.events.proofs.ListLaws.{or-cases, nor-l, nor-r, clash, below-cases}
-use Rattle.search.specs.Places.{plus}
+use Rattle.places.specs.Places.{plus}
 use Rattle.tables.specs.Tables.{Tables, slotOf, clashes, empty, goThrough, tablesOf}
 use Rattle.tables.proofs.NextLaws.{required-next, contradictory-next}
 use Rattle.tables.proofs.Meaning.{Fine, Good, tab, tab-suc, lengths, written-holds, required-zero}

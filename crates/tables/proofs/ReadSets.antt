@@ -18,11 +18,11 @@ use Rattle.events.specs.declared.event.Event.{Event}
 use Rattle.events.specs.Events.{eventAt, isRead}
 use Rattle.opacity.specs.Transactions.{ownWrite, isStoreRead}
 use Rattle.events.proofs.ListLaws.{and-false-r, clash, below-cases}
-use Rattle.search.specs.Bits.{bitAt}
-use Rattle.search.specs.Places.{plus}
+use Rattle.places.specs.Bits.{bitAt}
+use Rattle.places.specs.Places.{plus}
 use Rattle.tables.specs.Tables.{Tables, slotOf, withRegister, empty, goThrough, tablesOf}
 use Rattle.tables.proofs.NextLaws.{reads-next}
-use Rattle.search.proofs.BitLaws.{bit-none, bit-with}
+use Rattle.places.proofs.BitLaws.{bit-none, bit-with}
 use Rattle.tables.proofs.Meaning.{Fine, Good, tab, tab-suc, written-holds}
 
 -- ---- what is no store read

@@ -16,10 +16,10 @@ use Rattle.events.specs.Lists.{_and_, _or_, orElse, any, push, keep, lowestFrom
 use Rattle.opacity.specs.Justification.{Place, isOf, placed}
 use Rattle.opacity.specs.Lowest.{place, lowestPlace, goOn}
 use Rattle.events.proofs.ListLaws.{or-false, not-true, not-false, below-cases, any-append, lowest-upwards}
-use Rattle.search.specs.Tree as tree
-use Rattle.search.specs.Tree.{Constraints, Completion, remove, upFrom, fitsAt, firstOf, tryOne, tryBoth, fromCandidates}
-use Rattle.search.specs.Places.{coded, decode}
-use Rattle.search.proofs.LookupLaws.{decode-snoc}
+use Rattle.places.specs.Tree as tree
+use Rattle.places.specs.Tree.{Constraints, Completion, remove, upFrom, fitsAt, firstOf, tryOne, tryBoth, fromCandidates}
+use Rattle.places.specs.Places.{coded, decode}
+use Rattle.places.proofs.LookupLaws.{decode-snoc}
 use Rattle.tables.specs.Order.{decoded}
 use Rattle.tables.proofs.Meaning.{digit}
 

@@ -11,8 +11,8 @@ use Rattle.events.specs.Questions.{readable}
 use Rattle.events.specs.declared.event.Event.{Event}
 use Rattle.events.specs.Events.{begins}
 use Rattle.opacity.specs.Justification.{Place}
-use Rattle.search.specs.Places.{decode}
-use Rattle.search.specs.Tree.{Constraints, constraints, Completion, firstCompletion, readAnswer}
+use Rattle.places.specs.Places.{decode}
+use Rattle.places.specs.Tree.{Constraints, constraints, Completion, firstCompletion, readAnswer}
 use Rattle.tables.specs.Tables.{Tables, tablesOf}
 
 -- a completion as an order of places

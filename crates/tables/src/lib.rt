@@ -10,7 +10,7 @@ ghost use Rattle.events.specs.Events.{isWrite};
 ghost use Rattle.events.specs.Columns.{columns, history};
 ghost use Rattle.events.specs.Starts.{startOf};
 ghost use Rattle.opacity.specs.Lowest.{lowestOf};
-ghost use Rattle.search.specs.Tree.{firstCompletion, Answers};
+ghost use Rattle.places.specs.Tree.{firstCompletion, Answers};
 ghost use Rattle.tables.specs.Order.{constraintsOf, Judged, orderOf};
 ghost use Rattle.tables.specs.Tables.{tablesBy, Becomes, event, clashes, readAt, next, empty};
 use events::record::Record;
@@ -95,7 +95,7 @@ impl Standing {
             };
         }
         let t = at / REGISTERS;
-        reads[t] = search::sets::with_register(reads[t], at % REGISTERS);
+        reads[t] = places::sets::with_register(reads[t], at % REGISTERS);
         required[at] = v;
         Standing {
             ended: self.ended,
@@ -109,7 +109,7 @@ impl Standing {
         ensures { λ s. ⌜ (s .ended ≡ bitOr (self .ended) (2 ^ t)) × (s .contradictory ≡ self .contradictory) ⌝ }
     {
         Standing {
-            ended: search::sets::with(self.ended, t as usize),
+            ended: places::sets::with(self.ended, t as usize),
             contradictory: self.contradictory,
         }
     }

@@ -6,24 +6,24 @@ use borrow.Author.Tests.{not-true}
 use mathlib.Core.Path.{_≡_, sym, _∙_, subst}
 use mathlib.Core.Logic.{⊎-elim}
 use mathlib.Core.Option.{none}
-use Rattle.search.specs.State.{whole}
-use Rattle.search.specs.Tree.{constraints}
-use Rattle.search.proofs.StateLaws.{room-lt}
+use Rattle.places.specs.State.{whole}
+use Rattle.places.specs.Tree.{constraints}
+use Rattle.places.proofs.StateLaws.{room-lt}
 use Rattle.search.proofs.TreeLaws.{attempt, attempt-none, fits-by, attempt-next, answer-none, answers-next, answers-none, answers-as, outcome-first, outcome-second, outcome-neither, all-placed, none-among, next-candidate, size, falls-to-rest, falls-to-next}
-use Rattle.search.proofs.SetLaws.{lowest-member, within-self, within-rest}
+use Rattle.places.proofs.SetLaws.{lowest-member, within-self, within-rest}
 use Prim.Native.Nat.{ℕ, _<_, _+_}
 use native.Mathlib.Omega.{arith}
 use borrow.Fn.Kinds.{In}
 use borrow.Fn.PlainCycle.{Measures, is, falls, and}
 use Rattle.search.proofs.choose_outcome.Reads as choose-outcome
 use Rattle.search.proofs.choose_outcome.Kinds as choose-outcome-kinds
-use Rattle.search.proofs.state.Search.place.Reads as place-reads
-use Rattle.search.proofs.sets.count.Reads as count-reads
-use Rattle.search.proofs.hope.hopeful.Reads as hopeful-reads
+use Rattle.places.proofs.state.Search.place.Reads as place-reads
+use Rattle.places.proofs.sets.count.Reads as count-reads
+use Rattle.pruning.proofs.hope.hopeful.Reads as hopeful-reads
 use Rattle.search.proofs.rule_next.Reads as rule-next-reads
 use Rattle.search.proofs.allows.Reads as allows-reads
-use Rattle.search.proofs.sets.lowest.Reads as lowest-reads
-use Rattle.search.proofs.sets.without.Reads as without-reads
+use Rattle.places.proofs.sets.lowest.Reads as lowest-reads
+use Rattle.places.proofs.sets.without.Reads as without-reads
 use Rattle.search.proofs.+choose_outcome+choose_transaction.Lts-choose_outcome as choose-outcome-lts
 use Rattle.search.proofs.choose_transaction.Reads as choose-transaction
 use Rattle.search.proofs.choose_transaction.Kinds as choose-transaction-kinds

@@ -1,7 +1,7 @@
 -- `search::allows` meets its contract.
 -- Assumes nothing.
 use borrow.Author.Tests.{eq-eqb, ne-eqb}
-use Rattle.search.specs.Tree.{allowsOutcome}
+use Rattle.places.specs.Tree.{allowsOutcome}
 use Rattle.search.proofs.allows.Statement.{statement}
 use Rattle.search.proofs.allows.Tie as tie
 

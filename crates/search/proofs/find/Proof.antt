@@ -5,13 +5,13 @@ use mathlib.Core.Path.{_≡_, refl, sym, ap}
 use Prim.Native.Nat.{ℕ, _-_}
 use native.Mathlib.Omega.{arith}
 use lib.Pow.{pow-pos}
-use Rattle.search.specs.Places.{codesOf}
-use Rattle.search.specs.Tree.{constraints}
+use Rattle.places.specs.Places.{codesOf}
+use Rattle.places.specs.Tree.{constraints}
 use Rattle.search.proofs.TreeLaws.{start-sound, start-answers, answers-as, answers-none}
-use Rattle.search.proofs.SetLaws.{within-self}
-use Rattle.search.proofs.EffectLaws.{nothing-known}
-use Rattle.search.proofs.UnwrittenLaws.{asked-completion}
-use Rattle.search.proofs.OrphanLaws.{orphaned-none}
+use Rattle.places.proofs.SetLaws.{within-self}
+use Rattle.pruning.proofs.EffectLaws.{nothing-known}
+use Rattle.pruning.proofs.UnwrittenLaws.{asked-completion}
+use Rattle.pruning.proofs.OrphanLaws.{orphaned-none}
 use Rattle.search.proofs.find.Statement.{statement}
 use Rattle.search.proofs.find.Tie as tie
 

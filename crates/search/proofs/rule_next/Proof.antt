@@ -6,9 +6,9 @@ use mathlib.Core.Path.{_≡_, sym, _∙_}
 use mathlib.Core.Bool.{true, false}
 use native.Mathlib.Omega.{arith}
 use lib.ListN.{getD}
-use Rattle.search.specs.Bits.{members}
-use Rattle.search.specs.Tree.{ruleNext, legalReads, noneIn}
-use Rattle.search.proofs.BitLaws.{none-in-members}
+use Rattle.places.specs.Bits.{members}
+use Rattle.places.specs.Tree.{ruleNext, legalReads, noneIn}
+use Rattle.places.proofs.BitLaws.{none-in-members}
 use Rattle.search.proofs.rule_next.Statement.{statement}
 use Rattle.search.proofs.rule_next.Tie as tie
 

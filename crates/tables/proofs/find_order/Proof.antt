@@ -5,7 +5,7 @@ use Prim.Native.Nat.{ℕ, _≤_, _-_}
 use native.Mathlib.Omega.{arith}
 use denote.Ref.{now}
 use Rattle.events.specs.Columns.{columns, history}
-use Rattle.search.specs.Tree.{readAnswer}
+use Rattle.places.specs.Tree.{readAnswer}
 use Rattle.tables.specs.Order.{decoded}
 use Rattle.tables.specs.Tables.{tablesBy, tablesOf, goThrough}
 use Rattle.tables.proofs.TableLaws.{tables-more}

@@ -5,7 +5,7 @@ use mathlib.Core.Path.{_≡_, refl, _∙_}
 use Prim.Native.Nat.{_-_, _≤_}
 use native.Mathlib.Omega.{arith}
 use lib.ListN.{length, take}
-use Rattle.search.specs.Places.{decode}
+use Rattle.places.specs.Places.{decode}
 use mathlib.Core.Bool.{false}
 use Rattle.events.specs.Lists.{any}
 use Rattle.opacity.specs.Justification.{placed}

@@ -6,7 +6,7 @@ use Prim.Native.Nat.{_-_, _≤_}
 use native.Mathlib.Omega.{arith}
 use lib.ListN.{length, take}
 use denote.Ref.{now}
-use Rattle.search.specs.Places.{decode}
+use Rattle.places.specs.Places.{decode}
 use Rattle.events.specs.Bytes as bytes
 use Rattle.opacity.specs.Marking.{flat, placeBytes}
 use Rattle.marking_writer.proofs.RunLaws.{placed-nothing}

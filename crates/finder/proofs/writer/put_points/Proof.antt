@@ -6,7 +6,7 @@ use Prim.Native.Nat.{_-_}
 use native.Mathlib.Omega.{arith}
 use lib.ListN.{take}
 use denote.Ref.{now}
-use Rattle.search.specs.Places.{decode}
+use Rattle.places.specs.Places.{decode}
 use Rattle.events.specs.Columns.{columns, history}
 use Rattle.tables.proofs.GoodHistory.{in-tables}
 use Rattle.finder.proofs.PointLaws.{Pointing, pointing-none, pointing-room, pointing-more}

@@ -7,7 +7,7 @@ use Prim.Native.Nat.{ℕ}
 use lib.ListN.{getD}
 use Rattle.events.specs.Starts.{startOf}
 use Rattle.opacity.specs.Justification.{Place, contents}
-use Rattle.search.specs.Places.{codesOf, decode, writesIn}
+use Rattle.places.specs.Places.{codesOf, decode, writesIn}
 use Rattle.scan.proofs.WitnessLaws.{seen-own, seen-store}
 use Rattle.scan.proofs.witness.seen_by.Statement.{statement}
 use Rattle.scan.proofs.witness.seen_by.Tie as tie

@@ -1,0 +1,6 @@
+-- What the proofs of several functions use.
+pub mod BitLaws
+pub mod SetLaws
+pub mod StateLaws
+pub mod LookupLaws
+pub mod PlaceLaws

@@ -1,0 +1,5 @@
+pub mod Bits
+pub mod Places
+pub mod State
+pub mod Tree
+pub mod Choice

@@ -1,0 +1,81 @@
+-- `pruning::effects::effects_among` meets its contract: what the table says is right from the beginning, where it says nothing.
+-- Assumes nothing.
+use borrow.Author.Needs.{needs}
+use mathlib.Core.Path.{_≡_, _∙_}
+use Prim.Native.Nat.{_-_, _/_, _≤_, _<_}
+use native.Mathlib.Omega.{arith}
+use lib.ListN.{length, length-set}
+use Rattle.pruning.specs.Runs.{Effects}
+use Rattle.pruning.proofs.EffectLaws.{nothing-known, known-on}
+use Rattle.pruning.proofs.effects.effects_among.Statement.{statement}
+use Rattle.pruning.proofs.effects.effects_among.Tie as tie
+
+abbrev Inv-loop : tie.InvT-loop
+Inv-loop reads required written writes effects₀ i₀ effects i = (i ≤ 100) × (length effects ≡ 100) × Effects reads required written effects
+
+abbrev μ-loop : tie.MeasureT-loop
+μ-loop reads required written writes effects₀ i₀ effects i = 100 - i
+
+loop-holds : tie.Need-loop-holds Inv-loop μ-loop
+loop-holds c = (omega arith, search needs, nothing-known (c .args .reads .now) (c .args .required .now) (c .args .written .now))
+
+mul-effect : tie.Need-mul-effect Inv-loop μ-loop
+mul-effect c = omega arith
+
+element-copy-out-effect : tie.Need-element-copy-out-effect Inv-loop μ-loop
+element-copy-out-effect c = omega arith
+
+mul-effect-2 : tie.Need-mul-effect-2 Inv-loop μ-loop
+mul-effect-2 c = omega arith
+
+element-copy-out-effect-2 : tie.Need-element-copy-out-effect-2 Inv-loop μ-loop
+element-copy-out-effect-2 c = omega arith
+
+effect-requires : tie.Need-effect-requires Inv-loop μ-loop
+effect-requires c κs =
+    let at = c .before .before .before .loop in
+    let x : at .i / 10 < 10 = omega arith in
+    (x, (omega arith, c .before .before .before .before .pre .at (at .i / 10) x))
+
+mul-effects : tie.Need-mul-effects Inv-loop μ-loop
+mul-effects c = omega arith
+
+array-write-effects : tie.Need-array-write-effects Inv-loop μ-loop
+array-write-effects c = omega arith
+
+add-i : tie.Need-add-i Inv-loop μ-loop
+add-i c = omega arith
+
+loop-less : tie.Need-loop-less Inv-loop μ-loop
+loop-less c = omega arith
+
+loop-again : tie.Need-loop-again Inv-loop μ-loop
+loop-again c =
+    let at = c .before .before .before .before .loop in
+    let a = c .before .before .before .before .before .args in (
+      omega arith,
+      length-set (at .effects) (at .i) (c .effect .result) ∙ at .inv .1,
+      known-on (a .reads .now) (a .required .now) (a .written .now) (at .effects) (at .i) (c .effect .result) (at .inv .1) (omega arith) (at .inv .2) (c .effect .ensures),
+    )
+
+returns : tie.Need-returns Inv-loop μ-loop
+returns c = c .before .loop .inv .2
+
+pub effects-among-spec : {M : Type 1} → statement M
+effects-among-spec =
+    tie.close
+    (tie.spec
+    Inv-loop
+    μ-loop
+    loop-holds
+    mul-effect
+    element-copy-out-effect
+    mul-effect-2
+    element-copy-out-effect-2
+    effect-requires
+    mul-effects
+    array-write-effects
+    add-i
+    loop-less
+    loop-again
+    returns)

@@ -1,0 +1,267 @@
+// What the commit of a transaction does to the store reads of others, and which of them nobody can make good again.
+ghost use mathlib.Core.Path.{_≡_};
+ghost use mathlib.Core.Bool.{true, false, cond};
+ghost use mathlib.Core.List.{List};
+ghost use Prim.Native.Nat.{ℕ, _*_, _+_, _%_, _^_, _<_};
+ghost use lib.Bits.{bitOr};
+ghost use lib.Dec.{eqb};
+ghost use lib.ListN.{getD};
+ghost use Rattle.events.specs.Lists.{all};
+ghost use Rattle.places.specs.Bits.{bitAt, members};
+ghost use Rattle.places.specs.Places.{writesIn};
+ghost use Rattle.places.specs.State.{Sound};
+ghost use Rattle.places.specs.Tree.{legalAt};
+ghost use Rattle.pruning.specs.Runs.{Effect, Effects, Writes, Written, NoSource, Lost, Orphan, Orphaned};
+use places::lookup::legal_at;
+use places::lookup::value_of;
+use places::sets;
+use places::state::ABORTED;
+use places::state::Search;
+
+const REGISTERS: usize = 32;
+
+const TRANSACTIONS: usize = 10;
+
+// What a commit does to the store reads of a transaction is one number. Below this stand the registers that it overwrites with another value
+// than was read, one bit each; this itself stands in it where a value that was read is written. So 0 is nothing at all.
+pub const HELPED: u64 = 4294967296;
+
+// The set of registers, and r in it if a table holds something at it.
+fn noted(set: u32, r: usize, entry: u64) -> u32
+    requires { ⌜ r < 32 ⌝ }
+    ensures { λ m. ⌜ m ≡ cond (eqb entry 0) set (bitOr set (2 ^ r)) ⌝ }
+{
+    if entry == 0 {
+        return set;
+    }
+    sets::with_register(set, r)
+}
+
+// The registers that each transaction writes.
+pub fn registers_written(written: &[u64; 320]) -> [u32; 10]
+    ensures { λ r. ⌜ Written (now (written .entry)) r ⌝ }
+{
+    let mut registers = [0u32; 10];
+    let mut i: usize = 0;
+    while i < 320 {
+        let t = i / REGISTERS;
+        registers[t] = noted(registers[t], i % REGISTERS, written[i]);
+        i += 1;
+    }
+    registers
+}
+
+// What the commit of x does to the store read of register by t.
+fn effect_at(
+    required: &[u64; 320],
+    written: &[u64; 320],
+    x: usize,
+    t: usize,
+    register: usize,
+) -> u64
+    requires { ⌜ x < 10 ⌝ }
+    requires { ⌜ t < 10 ⌝ }
+    requires { ⌜ register < 32 ⌝ }
+    ensures { λ r. ⌜ Effect
+        (λ (o p : List ℕ). legalAt o (now (required .entry)) (writesIn (now (written .entry))) p t register) x r ⌝ }
+{
+    let w = written[x * REGISTERS + register];
+    if w == 0 {
+        return 0;
+    }
+    let v = required[t * REGISTERS + register];
+    if v == 0 {
+        return 0;
+    }
+    if w == v {
+        return HELPED;
+    }
+    sets::bit(register)
+}
+
+// What it does to the store reads of t, which are those of these registers, where x writes those of `writes`.
+fn effect(
+    required: &[u64; 320],
+    written: &[u64; 320],
+    x: usize,
+    t: usize,
+    registers: u32,
+    writes: u32,
+) -> u64
+    requires { ⌜ x < 10 ⌝ }
+    requires { ⌜ t < 10 ⌝ }
+    requires { ⌜ Writes (now written) x writes ⌝ }
+    ensures { λ r. ⌜ Effect
+        (λ (o p : List ℕ). all (legalAt o (now (required .entry)) (writesIn (now (written .entry))) p t) (members registers)) x r ⌝ }
+{
+    let mut done = 0u64;
+    let mut left = value_of(registers & writes);
+    while left != 0 {
+        let r = sets::lowest(left);
+        done = done | effect_at(required, written, x, t, r);
+        left = sets::without(left, r);
+    }
+    done
+}
+
+// What each commit does to each transaction: that of x to t stands at 10 * x + t.
+pub fn effects_among(
+    reads: &[u32; 10],
+    required: &[u64; 320],
+    written: &[u64; 320],
+    writes: &[u32; 10],
+) -> [u64; 100]
+    requires { ⌜ Written (now written) (now writes) ⌝ }
+    ensures { λ r. ⌜ Effects (now (reads .entry)) (now (required .entry)) (now (written .entry)) r ⌝ }
+{
+    let mut effects = [HELPED; 100];
+    let mut i: usize = 0;
+    while i < 100 {
+        let x = i / TRANSACTIONS;
+        let t = i % TRANSACTIONS;
+        effects[i] = effect(required, written, x, t, reads[t], writes[x]);
+        i += 1;
+    }
+    effects
+}
+
+// Could w, which is not t itself, write the value to register?
+fn source(
+    allowed: &[u8; 10],
+    written: &[u64; 320],
+    w: usize,
+    t: usize,
+    register: usize,
+    value: u64,
+) -> bool
+    requires { ⌜ w < 10 ⌝ }
+    requires { ⌜ register < 32 ⌝ }
+    ensures { λ r. ⌜ (r ≡ false → NoSource (now (allowed .entry)) (now (written .entry)) t register value w) ⌝ }
+{
+    if w == t {
+        return false;
+    }
+    if allowed[w] == ABORTED {
+        return false;
+    }
+    written[w * REGISTERS + register] == value
+}
+
+// Could one of the set?
+fn sourced(
+    allowed: &[u8; 10],
+    written: &[u64; 320],
+    set: u64,
+    t: usize,
+    register: usize,
+    value: u64,
+) -> bool
+    requires { ⌜ set < 1024 ⌝ }
+    requires { ⌜ register < 32 ⌝ }
+    ensures { λ r. ⌜ (r ≡ false → (k : ℕ) → bitAt k set ≡ 1
+        → NoSource (now (allowed .entry)) (now (written .entry)) t register value k) ⌝ }
+{
+    let mut left = set;
+    while left != 0 {
+        let w = sets::lowest(left);
+        if source(allowed, written, w, t, register, value) {
+            return true;
+        }
+        left = sets::without(left, w);
+    }
+    false
+}
+
+// The registers that are overwritten with another value.
+fn overwritten(effect: u64) -> u32
+    ensures { λ r. ⌜ r ≡ effect % 4294967296 ⌝ }
+{
+    (effect % HELPED) as u32
+}
+
+// Is the store read of register by t not legal after the places filled, with nobody unplaced who could make it so?
+fn orphan_at(
+    starts: &[u32; 32],
+    allowed: &[u8; 10],
+    required: &[u64; 320],
+    written: &[u64; 320],
+    s: Search,
+    t: usize,
+    register: usize,
+) -> bool
+    requires { ⌜ Sound s ⌝ }
+    requires { ⌜ t < 10 ⌝ }
+    requires { ⌜ register < 32 ⌝ }
+    ensures { λ r. ⌜ (r ≡ true → Lost
+        (now (starts .entry)) (now (allowed .entry)) (now (required .entry)) (now (written .entry)) s t register) ⌝ }
+{
+    if legal_at(starts, required, written, s.placed, s.filled, t, register) {
+        return false;
+    }
+    let value = required[t * REGISTERS + register];
+    !sourced(allowed, written, s.unplaced, t, register, value)
+}
+
+// Is one of the store reads of t from these registers?
+fn orphan(
+    starts: &[u32; 32],
+    allowed: &[u8; 10],
+    required: &[u64; 320],
+    written: &[u64; 320],
+    s: Search,
+    t: usize,
+    registers: u32,
+) -> bool
+    requires { ⌜ Sound s ⌝ }
+    requires { ⌜ t < 10 ⌝ }
+    ensures { λ r. ⌜ (r ≡ true → Orphan
+        (now (starts .entry)) (now (allowed .entry)) (now (required .entry)) (now (written .entry)) s t registers) ⌝ }
+{
+    let mut left = value_of(registers);
+    while left != 0 {
+        let r = sets::lowest(left);
+        if orphan_at(starts, allowed, required, written, s, t, r) {
+            return true;
+        }
+        left = sets::without(left, r);
+    }
+    false
+}
+
+// Is one of a transaction that is needed? Of each those registers are asked about that the commit of x overwrites.
+pub fn orphaned(
+    starts: &[u32; 32],
+    allowed: &[u8; 10],
+    reads: &[u32; 10],
+    required: &[u64; 320],
+    written: &[u64; 320],
+    effects: &[u64; 100],
+    s: Search,
+    need: u64,
+    x: usize,
+) -> bool
+    requires { ⌜ Sound s ⌝ }
+    requires { ⌜ need < 1024 ⌝ }
+    requires { ⌜ x < 10 ⌝ }
+    ensures { λ r. ⌜ (r ≡ true → Orphaned
+        (now (starts .entry)) (now (allowed .entry)) (now (reads .entry)) (now (required .entry)) (now (written .entry)) s need) ⌝ }
+{
+    let mut left = need;
+    while left != 0 {
+        let t = sets::lowest(left);
+        let registers = overwritten(effects[x * TRANSACTIONS + t]);
+        if orphan(
+            starts,
+            allowed,
+            required,
+            written,
+            s,
+            t,
+            reads[t] & registers,
+        ) {
+            return true;
+        }
+        left = sets::without(left, t);
+    }
+    false
+}

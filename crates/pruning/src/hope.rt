@@ -1,0 +1,326 @@
+// Is there hope for a state of the search? A shorter search over the committed places alone: one that may be aborted is passed over where its
+// reads are legal, since an aborted place leaves the registers as they are. The answer false is certain: nothing completes the state.
+ghost use mathlib.Core.Path.{_≡_};
+ghost use mathlib.Core.Bool.{true, false, cond};
+ghost use mathlib.Core.Option.{none};
+ghost use Prim.Native.Nat.{_-_, _^_, _<_};
+ghost use lib.Count.{ones};
+ghost use Rattle.places.specs.Bits.{bitAt};
+ghost use Rattle.places.specs.State.{placedOf, Sound, Placeable, Keeps};
+ghost use Rattle.places.specs.Tree.{constraints};
+ghost use Rattle.places.specs.Choice.{among};
+ghost use Rattle.pruning.specs.Runs.{Hope, HopeBy, legalFor, Ready, Renewed, Stays, Effects, Orphaned, otherThan, Settled};
+use crate::effects::HELPED;
+use crate::effects::orphaned;
+use places::lookup::legal;
+use places::sets;
+use places::state::ABORTED;
+use places::state::COMMITTED;
+use places::state::Search;
+
+// Fewer unplaced than this are searched without asking.
+pub const FEW: usize = 5;
+
+// All registers.
+const ALL: u64 = 4294967295;
+
+const TRANSACTIONS: usize = 10;
+
+// The set, and t in it only if it passes.
+fn kept(set: u64, t: usize, passes: bool) -> u64
+    requires { ⌜ bitAt t set ≡ 1 ⌝ }
+    ensures { λ r. ⌜ r ≡ cond passes set (set - 2 ^ t) ⌝ }
+{
+    if passes {
+        return set;
+    }
+    sets::without(set, t)
+}
+
+// The unplaced whose store reads are legal after the places filled.
+fn ready_among(
+    starts: &[u32; 32],
+    reads: &[u32; 10],
+    required: &[u64; 320],
+    written: &[u64; 320],
+    s: Search,
+) -> u64
+    requires { ⌜ Sound s ⌝ }
+    ensures { λ r. ⌜ Ready (now (starts .entry)) (now (reads .entry)) (now (required .entry)) (now (written .entry)) s r ⌝ }
+{
+    let mut ready = s.unplaced;
+    let mut left = s.unplaced;
+    while left != 0 {
+        let t = sets::lowest(left);
+        let passes = legal(starts, required, written, s.placed, s.filled, t, reads[t]);
+        ready = kept(ready, t, passes);
+        left = sets::without(left, t);
+    }
+    ready
+}
+
+// May t be ready, now that a commit with this effect on it is the last place of s? It may if it was before, unless a read of it is spoilt; if
+// it was not, it may be only where something that it reads was written.
+fn still_ready(
+    starts: &[u32; 32],
+    reads: &[u32; 10],
+    required: &[u64; 320],
+    written: &[u64; 320],
+    s: Search,
+    ready: u64,
+    t: usize,
+    effect: u64,
+) -> bool
+    requires { ⌜ Sound s ⌝ }
+    requires { ⌜ t < 10 ⌝ }
+    ensures { λ r. ⌜ (Stays
+        (legalFor (now (starts .entry)) (now (reads .entry)) (now (required .entry)) (now (written .entry)) (placedOf s) t)
+        ready t effect → r ≡ true) ⌝ }
+{
+    if effect % HELPED != 0 {
+        return false;
+    }
+    if sets::has(ready, t) {
+        return true;
+    }
+    if effect == 0 {
+        return false;
+    }
+    legal(starts, required, written, s.placed, s.filled, t, reads[t])
+}
+
+// The unplaced whose store reads may be legal after the places filled, from those before the last, which is x committed.
+fn ready_after(
+    starts: &[u32; 32],
+    reads: &[u32; 10],
+    required: &[u64; 320],
+    written: &[u64; 320],
+    effects: &[u64; 100],
+    s: Search,
+    x: usize,
+    ready: u64,
+) -> u64
+    requires { ⌜ Sound s ⌝ }
+    requires { ⌜ x < 10 ⌝ }
+    requires { ⌜ Effects (now reads) (now required) (now written) (now effects) ⌝ }
+    ensures { λ r. ⌜ Keeps (Renewed
+        (legalFor (now (starts .entry)) (now (reads .entry)) (now (required .entry)) (now (written .entry)))
+        (placedOf s) x ready) (s .unplaced) r ⌝ }
+{
+    let mut after = s.unplaced;
+    let mut left = s.unplaced;
+    while left != 0 {
+        let t = sets::lowest(left);
+        let effect = effects[x * TRANSACTIONS + t];
+        let passes = still_ready(starts, reads, required, written, s, ready, t, effect);
+        after = kept(after, t, passes);
+        left = sets::without(left, t);
+    }
+    after
+}
+
+// May t come next with another outcome than this, where no one counts but those that are needed?
+fn other_than(
+    predecessors: &[u64; 10],
+    allowed: &[u8; 10],
+    need: u64,
+    t: usize,
+    outcome: u8,
+) -> bool
+    requires { ⌜ t < 10 ⌝ }
+    ensures { λ r. ⌜ r ≡ otherThan (now (predecessors .entry)) (now (allowed .entry)) need t outcome ⌝ }
+{
+    if predecessors[t] & need != 0 {
+        return false;
+    }
+    allowed[t] != outcome
+}
+
+// What is needed still when each that is ready and may be aborted has been passed over.
+fn settle(predecessors: &[u64; 10], allowed: &[u8; 10], need: u64, ready: u64) -> u64
+    requires { ⌜ ready < 1024 ⌝ }
+    ensures { λ r. ⌜ Settled (now (predecessors .entry)) (now (allowed .entry)) ready need r ⌝ }
+{
+    let mut left = need & ready;
+    while left != 0 {
+        let t = sets::lowest(left);
+        if other_than(predecessors, allowed, need, t, COMMITTED) {
+            return settle(predecessors, allowed, sets::without(need, t), ready);
+        }
+        left = sets::without(left, t);
+    }
+    need
+}
+
+// Can all that are needed be placed after the places of s, with commits of the unplaced in between?
+fn possible(
+    starts: &[u32; 32],
+    predecessors: &[u64; 10],
+    allowed: &[u8; 10],
+    reads: &[u32; 10],
+    required: &[u64; 320],
+    written: &[u64; 320],
+    effects: &[u64; 100],
+    s: Search,
+    need: u64,
+    ready: u64,
+) -> bool
+    requires { ⌜ Sound s ⌝ }
+    requires { ⌜ Ready (now starts) (now reads) (now required) (now written) s ready ⌝ }
+    requires { ⌜ Effects (now reads) (now required) (now written) (now effects) ⌝ }
+    ensures { λ r. ⌜ Hope
+        (constraints (now (starts .entry)) (now (predecessors .entry)) (now (allowed .entry))
+        (now (reads .entry)) (now (required .entry)) (now (written .entry))) s need r ⌝ }
+{
+    let rest = settle(predecessors, allowed, need, ready);
+    if rest == 0 {
+        return true;
+    }
+    let mut left = ready;
+    while left != 0 {
+        let t = sets::lowest(left);
+        if leads(
+            starts,
+            predecessors,
+            allowed,
+            reads,
+            required,
+            written,
+            effects,
+            s,
+            rest,
+            ready,
+            t,
+        ) {
+            return true;
+        }
+        left = sets::without(left, t);
+    }
+    false
+}
+
+// Can they, if t commits next?
+fn leads(
+    starts: &[u32; 32],
+    predecessors: &[u64; 10],
+    allowed: &[u8; 10],
+    reads: &[u32; 10],
+    required: &[u64; 320],
+    written: &[u64; 320],
+    effects: &[u64; 100],
+    s: Search,
+    need: u64,
+    ready: u64,
+    t: usize,
+) -> bool
+    requires { ⌜ Placeable s t ⌝ }
+    requires { ⌜ Ready (now starts) (now reads) (now required) (now written) s ready ⌝ }
+    requires { ⌜ Effects (now reads) (now required) (now written) (now effects) ⌝ }
+    ensures { λ r. ⌜ HopeBy
+        (constraints (now (starts .entry)) (now (predecessors .entry)) (now (allowed .entry))
+        (now (reads .entry)) (now (required .entry)) (now (written .entry))) s need t r ⌝ }
+{
+    if !other_than(predecessors, allowed, need, t, ABORTED) {
+        return false;
+    }
+    let next = s.place(t, COMMITTED);
+    let rest = need & next.unplaced;
+    if orphaned(
+        starts,
+        allowed,
+        reads,
+        required,
+        written,
+        effects,
+        next,
+        rest,
+        t,
+    ) {
+        return false;
+    }
+    let after = ready_after(starts, reads, required, written, effects, next, t, ready);
+    possible(
+        starts,
+        predecessors,
+        allowed,
+        reads,
+        required,
+        written,
+        effects,
+        next,
+        rest,
+        after,
+    )
+}
+
+// Is there one of these that needs a value which is not there, and which nobody unplaced could write?
+pub fn stranded(
+    starts: &[u32; 32],
+    allowed: &[u8; 10],
+    reads: &[u32; 10],
+    required: &[u64; 320],
+    written: &[u64; 320],
+    s: Search,
+    need: u64,
+) -> bool
+    requires { ⌜ Sound s ⌝ }
+    requires { ⌜ need < 1024 ⌝ }
+    ensures { λ r. ⌜ (r ≡ true → Orphaned
+        (now (starts .entry)) (now (allowed .entry)) (now (reads .entry)) (now (required .entry)) (now (written .entry)) s need) ⌝ }
+{
+    let all = [ALL; 100];
+    orphaned(starts, allowed, reads, required, written, &all, s, need, 0)
+}
+
+// Is there hope? It is asked once for a state, before its first candidate is tried, and only where there is much to try. Who is stranded before
+// any place is filled has been asked already.
+pub fn hopeful(
+    starts: &[u32; 32],
+    predecessors: &[u64; 10],
+    allowed: &[u8; 10],
+    reads: &[u32; 10],
+    required: &[u64; 320],
+    written: &[u64; 320],
+    effects: &[u64; 100],
+    s: Search,
+    candidates: u64,
+) -> bool
+    requires { ⌜ Sound s ⌝ }
+    requires { ⌜ Effects (now reads) (now required) (now written) (now effects) ⌝ }
+    ensures { λ r. ⌜ (r ≡ false → among
+        (constraints (now (starts .entry)) (now (predecessors .entry)) (now (allowed .entry))
+        (now (reads .entry)) (now (required .entry)) (now (written .entry))) s candidates ≡ none) ⌝ }
+{
+    if candidates != s.unplaced {
+        return true;
+    }
+    if sets::count(candidates) < FEW {
+        return true;
+    }
+    let ready = ready_among(starts, reads, required, written, s);
+    if s.filled != 0 {
+        if stranded(
+            starts,
+            allowed,
+            reads,
+            required,
+            written,
+            s,
+            s.unplaced ^ ready,
+        ) {
+            return false;
+        }
+    }
+    possible(
+        starts,
+        predecessors,
+        allowed,
+        reads,
+        required,
+        written,
+        effects,
+        s,
+        candidates,
+        ready,
+    )
+}
