@@ -5,7 +5,6 @@ ghost use mathlib.Core.List.{List};
 ghost use Prim.Native.Nat.{ℕ, _*_, _+_, _%_, _^_, _<_};
 ghost use lib.Bits.{bitOr};
 ghost use lib.Dec.{eqb};
-ghost use lib.ListN.{getD};
 ghost use Rattle.events.specs.Lists.{all};
 ghost use Rattle.places.specs.Bits.{bitAt, members};
 ghost use Rattle.places.specs.Places.{writesIn};
@@ -22,8 +21,8 @@ const REGISTERS: usize = 32;
 
 const TRANSACTIONS: usize = 10;
 
-// What a commit does to the store reads of a transaction is one number. Below this stand the registers that it overwrites with another value
-// than was read, one bit each; this itself stands in it where a value that was read is written. So 0 is nothing at all.
+// What a commit does to the store reads of a transaction is one number. Below this stand the registers that it overwrites with another
+// value than was read, one bit each; this itself stands in it where a value that was read is written. So 0 is nothing at all.
 pub const HELPED: u64 = 4294967296;
 
 // The set of registers, and r in it if a table holds something at it.

@@ -1,10 +1,10 @@
-// Is there hope for a state of the search? A shorter search over the committed places alone: one that may be aborted is passed over where its
-// reads are legal, since an aborted place leaves the registers as they are. The answer false is certain: nothing completes the state.
+// Is there hope for a state of the search? A shorter search over the committed places alone: one that may be aborted is passed over
+// where its reads are legal, since an aborted place leaves the registers as they are. The answer false is certain: nothing completes
+// the state.
 ghost use mathlib.Core.Path.{_≡_};
 ghost use mathlib.Core.Bool.{true, false, cond};
 ghost use mathlib.Core.Option.{none};
 ghost use Prim.Native.Nat.{_-_, _^_, _<_};
-ghost use lib.Count.{ones};
 ghost use Rattle.places.specs.Bits.{bitAt};
 ghost use Rattle.places.specs.State.{placedOf, Sound, Placeable, Keeps};
 ghost use Rattle.places.specs.Tree.{constraints};
@@ -20,6 +20,9 @@ use places::state::Search;
 
 // Fewer unplaced than this are searched without asking.
 pub const FEW: usize = 5;
+
+// A set of the lowest four is below this, and needs no counting.
+const LOWEST_FOUR: u64 = 16;
 
 // All registers.
 const ALL: u64 = 4294967295;
@@ -59,8 +62,8 @@ fn ready_among(
     ready
 }
 
-// May t be ready, now that a commit with this effect on it is the last place of s? It may if it was before, unless a read of it is spoilt; if
-// it was not, it may be only where something that it reads was written.
+// May t be ready, now that a commit with this effect on it is the last place of s? It may if it was before, unless a read of it is
+// spoilt; if it was not, it may be only where something that it reads was written.
 fn still_ready(
     starts: &[u32; 32],
     reads: &[u32; 10],
@@ -272,8 +275,8 @@ pub fn stranded(
     orphaned(starts, allowed, reads, required, written, &all, s, need, 0)
 }
 
-// Is there hope? It is asked once for a state, before its first candidate is tried, and only where there is much to try. Who is stranded before
-// any place is filled has been asked already.
+// Is there hope? It is asked once for a state, before its first candidate is tried, and only where there is much to try. Who is
+// stranded before any place is filled has been asked already.
 pub fn hopeful(
     starts: &[u32; 32],
     predecessors: &[u64; 10],
@@ -291,6 +294,9 @@ pub fn hopeful(
         (constraints (now (starts .entry)) (now (predecessors .entry)) (now (allowed .entry))
         (now (reads .entry)) (now (required .entry)) (now (written .entry))) s candidates ≡ none) ⌝ }
 {
+    if candidates < LOWEST_FOUR {
+        return true;
+    }
     if candidates != s.unplaced {
         return true;
     }

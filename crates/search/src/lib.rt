@@ -181,6 +181,10 @@ fn choose_outcome(
             return order;
         }
     }
+    let rest = sets::without(candidates, t);
+    if rest == 0 {
+        return 0;
+    }
     choose_transaction(
         starts,
         predecessors,
@@ -190,7 +194,7 @@ fn choose_outcome(
         written,
         effects,
         s,
-        sets::without(candidates, t),
+        rest,
     )
 }
 

@@ -11,6 +11,7 @@ use Rattle.places.specs.Tree.{constraints}
 use Rattle.places.proofs.StateLaws.{room-lt}
 use Rattle.search.proofs.TreeLaws.{attempt, attempt-none, fits-by, attempt-next, answer-none, answers-next, answers-none, answers-as, outcome-first, outcome-second, outcome-neither, all-placed, none-among, next-candidate, size, falls-to-rest, falls-to-next}
 use Rattle.places.proofs.SetLaws.{lowest-member, within-self, within-rest}
+use Rattle.places.proofs.BitLaws.{ones-off}
 use Prim.Native.Nat.{ℕ, _<_, _+_}
 use native.Mathlib.Omega.{arith}
 use borrow.Fn.Kinds.{In}
@@ -179,21 +180,30 @@ choose-outcome-without-requires : (t : ℕ) → choose-outcome-lts.Need-without-
 choose-outcome-without-requires t c κs =
     c .before .before .before .before .before .pre .1 .1 .1 .0
 
-choose-outcome-choose-transaction-requires-3 : (t : ℕ) → choose-outcome-lts.Need-choose-transaction-requires-3 (outcome-claims t) (choose-outcome-at t) choose-outcome.Post
-choose-outcome-choose-transaction-requires-3 t c κs =
-    let start = c .before .before .before .before .before .before in
-    let pre = start .pre .1 in (
-      subst (λ (n : ℕ). size (start .args .s) (c .without .result) + 1 < n) (start .pre .0)
-          (falls-to-rest (start .args .s) (start .args .candidates) (start .args .t) (c .without .result) (pre .1 .1 .0) (c .without .ensures)),
-      (pre .0 .sound, (within-rest (start .args .s .unplaced) (start .args .candidates) (start .args .t) (c .without .result) (pre .1 .0) (pre .1 .1 .0) (c .without .ensures), pre .1 .1 .1)),
-    )
-
 choose-outcome-returns-3 : (t : ℕ) → choose-outcome-lts.Need-returns-3 (outcome-claims t) (choose-outcome-at t) choose-outcome.Post
 choose-outcome-returns-3 t c =
     let start = c .before .before .before .before .before .before .before in
-    let D = constraints (start .args .starts .now) (start .args .predecessors .now) (start .args .allowed .now) (start .args .reads .now) (start .args .required .now) (start .args .written .now) in
-    answers-as (whole (start .args .s)) (c .choose-transaction3 .result) (rw (c .before .without .ensures) at (c .choose-transaction3 .ensures))
-    (outcome-neither D (start .args .s) (start .args .t) (missed t (c .before .before .before .before)) (missed-too t (c .before .before)))
+    let a = start .args in
+    let D = constraints (a .starts .now) (a .predecessors .now) (a .allowed .now) (a .reads .now) (a .required .now) (a .written .now) in
+    let rest = none-among D (a .s) (c .before .without .result) (λ e. omega (arith, ones-off (a .t) (a .s .unplaced) (start .pre .1 .0 .isIn))) (c .if5 .taken) in
+    answers-none (whole (a .s)) ((rw (c .before .without .ensures) at rest) ∙ outcome-neither D (a .s) (a .t) (missed t (c .before .before .before .before)) (missed-too t (c .before .before)))
+
+choose-outcome-choose-transaction-requires-3 : (t : ℕ) → choose-outcome-lts.Need-choose-transaction-requires-3 (outcome-claims t) (choose-outcome-at t) choose-outcome.Post
+choose-outcome-choose-transaction-requires-3 t c κs =
+    let start = c .before .before .before .before .before .before .before in
+    let a = start .args in
+    let pre = start .pre .1 in
+    let rest = c .before .without in (
+      subst (λ (n : ℕ). size (a .s) (rest .result) + 1 < n) (start .pre .0) (falls-to-rest (a .s) (a .candidates) (a .t) (rest .result) (pre .1 .1 .0) (rest .ensures)),
+      (pre .0 .sound, (within-rest (a .s .unplaced) (a .candidates) (a .t) (rest .result) (pre .1 .0) (pre .1 .1 .0) (rest .ensures), pre .1 .1 .1)),
+    )
+
+choose-outcome-returns-4 : (t : ℕ) → choose-outcome-lts.Need-returns-4 (outcome-claims t) (choose-outcome-at t) choose-outcome.Post
+choose-outcome-returns-4 t c =
+    let a = c .before .before .before .before .before .before .before .before .args in
+    let D = constraints (a .starts .now) (a .predecessors .now) (a .allowed .now) (a .reads .now) (a .required .now) (a .written .now) in
+    answers-as (whole (a .s)) (c .choose-transaction3 .result) (rw (c .before .before .without .ensures) at (c .choose-transaction3 .ensures))
+    (outcome-neither D (a .s) (a .t) (missed t (c .before .before .before .before .before)) (missed-too t (c .before .before .before)))
 
 choose-transaction-count-requires : (t : ℕ) → choose-transaction-lts.Need-count-requires (transaction-claims t) (choose-transaction-at t) choose-transaction.Post
 choose-transaction-count-requires t c κs =
@@ -252,8 +262,9 @@ pub +choose-outcome+choose-transaction-spec : {M : Type 1} → statement M
     (choose-outcome-choose-transaction-requires-2 t)
     (choose-outcome-returns-2 t)
     (choose-outcome-without-requires t)
+    (choose-outcome-returns-3 t)
     (choose-outcome-choose-transaction-requires-3 t)
-    (choose-outcome-returns-3 t))
+    (choose-outcome-returns-4 t))
     λ t. choose-transaction-lts.spec (transaction-claims t)
     (choose-transaction-at t)
     choose-transaction.Post

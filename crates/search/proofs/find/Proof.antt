@@ -1,7 +1,7 @@
 -- `search::find` meets its contract: the search starts with all transactions unplaced, as both the unplaced and the candidates.
 -- Assumes nothing.
 use borrow.Author.Needs.{needs}
-use mathlib.Core.Path.{_≡_, refl, sym, ap}
+use mathlib.Core.Path.{refl, sym, ap}
 use Prim.Native.Nat.{ℕ, _-_}
 use native.Mathlib.Omega.{arith}
 use lib.Pow.{pow-pos}

@@ -2,7 +2,7 @@
 -- Assumes nothing.
 use borrow.Author.Needs.{needs}
 use borrow.Author.Tests.{eqb-false}
-use mathlib.Core.Path.{_≡_, refl, sym, _∙_}
+use mathlib.Core.Path.{refl, sym, _∙_}
 use Rattle.pruning.proofs.hope.still_ready.Statement.{statement}
 use Rattle.pruning.proofs.hope.still_ready.Tie as tie
 

@@ -1,7 +1,6 @@
 -- `pruning::unwritten::asked_of` meets its contract.
 -- Assumes nothing.
-use borrow.Author.Needs.{needs}
-use mathlib.Core.Path.{_≡_, refl, sym, _∙_}
+use mathlib.Core.Path.{refl, sym, _∙_}
 use native.Mathlib.Omega.{arith}
 use Rattle.places.specs.Places.{codesOf}
 use Rattle.pruning.proofs.UnwrittenLaws.{asked-same}
