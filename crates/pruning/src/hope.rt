@@ -17,6 +17,7 @@ use places::sets;
 use places::state::ABORTED;
 use places::state::COMMITTED;
 use places::state::Search;
+use places::state::code_at;
 
 // Fewer unplaced than this are searched without asking.
 pub const FEW: usize = 5;
@@ -275,8 +276,48 @@ pub fn stranded(
     orphaned(starts, allowed, reads, required, written, &all, s, need, 0)
 }
 
-// Is there hope? It is asked once for a state, before its first candidate is tried, and only where there is much to try. Who is
-// stranded before any place is filled has been asked already.
+// Is there one now, by the last place? A commit has overwritten what it has, one that could have committed leaves others without its writes,
+// and any other place takes nothing away. Who is stranded before any place is filled has been asked already.
+fn bereft(
+    starts: &[u32; 32],
+    allowed: &[u8; 10],
+    reads: &[u32; 10],
+    required: &[u64; 320],
+    written: &[u64; 320],
+    effects: &[u64; 100],
+    s: Search,
+    need: u64,
+) -> bool
+    requires { ⌜ Sound s ⌝ }
+    requires { ⌜ need < 1024 ⌝ }
+    ensures { λ r. ⌜ (r ≡ true → Orphaned
+        (now (starts .entry)) (now (allowed .entry)) (now (reads .entry)) (now (required .entry)) (now (written .entry)) s need) ⌝ }
+{
+    if s.filled == 0 {
+        return false;
+    }
+    let last = code_at(s.placed, 0);
+    let x = last / 2;
+    if last % 2 == 1 {
+        return orphaned(
+            starts,
+            allowed,
+            reads,
+            required,
+            written,
+            effects,
+            s,
+            need,
+            x,
+        );
+    }
+    if allowed[x] == ABORTED {
+        return false;
+    }
+    stranded(starts, allowed, reads, required, written, s, need)
+}
+
+// Is there hope? It is asked once for a state, before its first candidate is tried, and only where there is much to try.
 pub fn hopeful(
     starts: &[u32; 32],
     predecessors: &[u64; 10],
@@ -304,18 +345,17 @@ pub fn hopeful(
         return true;
     }
     let ready = ready_among(starts, reads, required, written, s);
-    if s.filled != 0 {
-        if stranded(
-            starts,
-            allowed,
-            reads,
-            required,
-            written,
-            s,
-            s.unplaced ^ ready,
-        ) {
-            return false;
-        }
+    if bereft(
+        starts,
+        allowed,
+        reads,
+        required,
+        written,
+        effects,
+        s,
+        s.unplaced ^ ready,
+    ) {
+        return false;
     }
     possible(
         starts,

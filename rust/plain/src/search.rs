@@ -90,7 +90,17 @@ impl Search<'_> {
     /// May those that are left be placed in some order? No is certain, yes is not.
     fn hopeful(&mut self, left: u64, store: &Contents) -> bool {
         let ready = members(left).filter(|&t| reads_fit(&self.transactions[t], store)).fold(0, |set, t| set | 1 << t);
-        !members(left & !ready).any(|t| self.stranded(left, store, t)) && self.possible(left, left, ready, store)
+        !members(left & !ready).any(|t| self.bereft(left, store, t)) && self.possible(left, left, ready, store)
+    }
+
+    /// Does t need a value that no other open one writes, now that the last place is filled? A commit may have overwritten it, one that
+    /// could have committed leaves others without its writes, and any other place takes nothing away.
+    fn bereft(&self, open: u64, store: &Contents, t: usize) -> bool {
+        match self.order.last() {
+            Some(&(last, true)) => self.orphaned(open, last, t),
+            Some(&(last, false)) if !self.transactions[last].may_commit => false,
+            _ => self.stranded(open, store, t),
+        }
     }
 
     /// May all that are needed be placed, with commits of open ones in between? `ready` are the open ones whose reads fit.
@@ -136,6 +146,7 @@ impl Search<'_> {
     }
 
     /// Has the commit of `writer` overwritten a value that `reader` needs and no other open one writes?
+    #[inline]
     fn orphaned(&self, open: u64, writer: usize, reader: usize) -> bool {
         let (writer, needed) = (&self.transactions[writer], &self.transactions[reader]);
         registers(writer.has_written & needed.has_read).any(|register| {
