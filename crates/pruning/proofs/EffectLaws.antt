@@ -6,7 +6,7 @@ use native.Mathlib.Omega.{arith}
 use mathlib.Core.List.{List, [], _∷_, _++_}
 use mathlib.Core.Bool.{Bool, true, false, cond}
 use mathlib.Core.Option.{Option, none, some, Option·getD}
-use lib.ListN.{length, getD, set, replicate, getD-replicate}
+use lib.ListN.{length, length-set, getD, set, replicate, getD-replicate}
 use lib.Seq.{getD-set-same, getD-set-other}
 use lib.Bits.{bitAnd, bitOr, and-le-l, and-le-r, or-add-and, or-mod}
 use lib.Dec.{eqb}
@@ -125,54 +125,33 @@ stays o reads w v p x ready t e f h =
 
 -- ---- the registers that each writes
 
--- what the table holds below i is noted
-pub record Noted (v m : List ℕ) (i : ℕ) : Type 0 where
-  pub below : (k : ℕ) → k < i → (getD v k 0 ≡ 0 → ⊥) → bitAt (k % 32) (getD m (k / 32) 0) ≡ 1
+-- the set has what x writes below i
+pub record WritesBelow (v : List ℕ) (x m i : ℕ) : Type 0 where
+  pub has : (r : ℕ) → r < i → (getD v (x * 32 + r) 0 ≡ 0 → ⊥) → bitAt r m ≡ 1
 
-pub noted-none : (v m : List ℕ) → Noted v m 0
-noted-none v m = record { below = λ k l f. absurd (omega arith) }
+pub writes-on : (v : List ℕ) (x m i n : ℕ) → WritesBelow v x m i → n ≡ cond (eqb (getD v (x * 32 + i) 0) 0) m (bitOr m (2 ^ i)) → WritesBelow v x n (i + 1)
+writes-on v x m i n w e = record { has = λ r l f. rw e (go r l f (eqb (getD v (x * 32 + i) 0) 0) refl (eqb i r) refl) }
+  where
+    old : (r : ℕ) → r < i + 1 → (r ≡ i → ⊥) → (getD v (x * 32 + r) 0 ≡ 0 → ⊥) → bitAt r m ≡ 1
+    old r l n f = w .has r (omega arith) f
 
-module _ (v m : List ℕ) (i : ℕ) (long : length m ≡ 10) (low : i < 320) (noted : Noted v m i) where
-  -- the set at the place of i, with the register of i in it if the table holds something there
-  abbrev pub one-more : ℕ
-  one-more = cond (eqb (getD v i 0) 0) (getD m (i / 32) 0) (bitOr (getD m (i / 32) 0) (2 ^ (i % 32)))
+    go : (r : ℕ) → r < i + 1 → (getD v (x * 32 + r) 0 ≡ 0 → ⊥) → (b : Bool) → eqb (getD v (x * 32 + i) 0) 0 ≡ b → (d : Bool) → eqb i r ≡ d
+        → bitAt r (cond b m (bitOr m (2 ^ i))) ≡ 1
+    go r l f true q d p = old r l (λ z. f (ap (λ (k : ℕ). getD v (x * 32 + k) 0) z ∙ eqb-true _ _ q)) f
+    go r l f false q true p = bit-with r i m ∙ (rw p)
+    go r l f false q false p = bit-with r i m ∙ (rw p (old r l (λ z. eqb-false _ _ p (sym z)) f))
 
-  more-has : (k : ℕ) → k < i + 1 → k / 32 ≡ i / 32 → (getD v k 0 ≡ 0 → ⊥) → bitAt (k % 32) one-more ≡ 1
-  more-has k l same f = go (eqb (getD v i 0) 0) refl (eqb (i % 32) (k % 32)) refl
-    where
-      old : (k ≡ i → ⊥) → bitAt (k % 32) (getD m (i / 32) 0) ≡ 1
-      old n = rw same at (noted .below k (omega arith) f)
+-- the table has them for each below t
+pub record WrittenBelow (v m : List ℕ) (t : ℕ) : Type 0 where
+  pub long : length m ≡ 10
+  pub at : (k : ℕ) → k < t → Writes v k (getD m k 0)
 
-      go : (b : Bool) → eqb (getD v i 0) 0 ≡ b → (d : Bool) → eqb (i % 32) (k % 32) ≡ d
-          → bitAt (k % 32) (cond b (getD m (i / 32) 0) (bitOr (getD m (i / 32) 0) (2 ^ (i % 32)))) ≡ 1
-      go true e d p = old (λ q. f (ap (λ (n : ℕ). getD v n 0) q ∙ eqb-true _ _ e))
-      go false e true p = bit-with (k % 32) (i % 32) (getD m (i / 32) 0) ∙ (rw p)
-      go false e false p = bit-with (k % 32) (i % 32) (getD m (i / 32) 0) ∙ (rw p (old (λ q. eqb-false _ _ p (ap (λ (n : ℕ). n % 32) (sym q)))))
-
-  pub noted-on : (n : ℕ) → n ≡ one-more → Noted v (set m (i / 32) n) (i + 1)
-  noted-on n e = record { below = λ k l f. go k l f (eqb (k / 32) (i / 32)) refl }
-    where
-      go : (k : ℕ) → k < i + 1 → (getD v k 0 ≡ 0 → ⊥) → (b : Bool) → eqb (k / 32) (i / 32) ≡ b → bitAt (k % 32) (getD (set m (i / 32) n) (k / 32) 0) ≡ 1
-      go k l f true q =
-          let same : k / 32 ≡ i / 32 = eqb-true _ _ q in
-          rw (same, getD-set-same m (i / 32) n 0 (omega arith), e) (more-has k l same f)
-      go k l f false q =
-          let other : k / 32 ≡ i / 32 → ⊥ = eqb-false _ _ q in
-          rw (getD-set-other m (i / 32) (k / 32) n 0 other) (noted .below k (less k l (λ r. other (ap (λ (x : ℕ). x / 32) r))) f)
-        where
-          less : (x : ℕ) → x < i + 1 → (x ≡ i → ⊥) → x < i
-          less x g h = omega arith
-
-pub noted-all : (v m : List ℕ) → Noted v m 320 → Written v m
-noted-all v m n =
-    record {
-      at = λ t low. record {
-        has = λ r l f.
-            let a : (t * 32 + r) % 32 ≡ r = omega arith in
-            let b : (t * 32 + r) / 32 ≡ t = omega arith in
-            rw (a, b) at (n .below (t * 32 + r) (omega arith) f);
-      };
-    }
+pub written-on : (v m : List ℕ) (t n : ℕ) → t < 10 → WrittenBelow v m t → Writes v t n → WrittenBelow v (set m t n) (t + 1)
+written-on v m t n low w f = record { long = length-set m t n ∙ w .long; at = λ k l. go k l (eqb k t) refl }
+  where
+    go : (k : ℕ) → k < t + 1 → (b : Bool) → eqb k t ≡ b → Writes v k (getD (set m t n) k 0)
+    go k l true q = let e : k ≡ t = eqb-true _ _ q in rw (e, getD-set-same m t n 0 (omega (arith, w .long))) f
+    go k l false q = let other : k ≡ t → ⊥ = eqb-false _ _ q in rw (getD-set-other m t k n 0 other) (w .at k (omega arith))
 
 -- ---- the table of effects
 

@@ -36,16 +36,29 @@ fn noted(set: u32, r: usize, entry: u64) -> u32
     sets::with_register(set, r)
 }
 
+// The registers that t writes.
+fn registers_of(written: &[u64; 320], t: usize) -> u32
+    requires { ⌜ t < 10 ⌝ }
+    ensures { λ r. ⌜ Writes (now (written .entry)) t r ⌝ }
+{
+    let mut registers = 0u32;
+    let mut r: usize = 0;
+    while r < REGISTERS {
+        registers = noted(registers, r, written[t * REGISTERS + r]);
+        r += 1;
+    }
+    registers
+}
+
 // The registers that each transaction writes.
 pub fn registers_written(written: &[u64; 320]) -> [u32; 10]
     ensures { λ r. ⌜ Written (now (written .entry)) r ⌝ }
 {
     let mut registers = [0u32; 10];
-    let mut i: usize = 0;
-    while i < 320 {
-        let t = i / REGISTERS;
-        registers[t] = noted(registers[t], i % REGISTERS, written[i]);
-        i += 1;
+    let mut t: usize = 0;
+    while t < TRANSACTIONS {
+        registers[t] = registers_of(written, t);
+        t += 1;
     }
     registers
 }

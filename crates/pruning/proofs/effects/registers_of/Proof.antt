@@ -1,0 +1,63 @@
+-- `pruning::effects::registers_of` meets its contract.
+-- Assumes nothing.
+use native.Mathlib.Omega.{arith}
+use Prim.Native.Nat.{_-_, _≤_}
+use Rattle.pruning.proofs.EffectLaws.{WritesBelow, writes-on}
+use Rattle.pruning.proofs.effects.registers_of.Statement.{statement}
+use Rattle.pruning.proofs.effects.registers_of.Tie as tie
+
+abbrev Inv-loop : tie.InvT-loop
+Inv-loop written t registers₀ r₀ registers r = (r ≤ 32) × WritesBelow written t registers r
+
+abbrev μ-loop : tie.MeasureT-loop
+μ-loop written t registers₀ r₀ registers r = 32 - r
+
+loop-holds : tie.Need-loop-holds Inv-loop μ-loop
+loop-holds c = (omega arith, record { has = λ r l f. absurd (omega arith) })
+
+mul-noted : tie.Need-mul-noted Inv-loop μ-loop
+mul-noted c = omega (arith, c .before .before .pre)
+
+add-noted : tie.Need-add-noted Inv-loop μ-loop
+add-noted c = omega (arith, c .before .before .pre)
+
+mul-noted-2 : tie.Need-mul-noted-2 Inv-loop μ-loop
+mul-noted-2 c = omega (arith, c .before .before .pre)
+
+element-copy-out-noted : tie.Need-element-copy-out-noted Inv-loop μ-loop
+element-copy-out-noted c = omega (arith, c .before .before .pre)
+
+noted-requires : tie.Need-noted-requires Inv-loop μ-loop
+noted-requires c κs = omega arith
+
+add-r : tie.Need-add-r Inv-loop μ-loop
+add-r c = omega arith
+
+loop-less : tie.Need-loop-less Inv-loop μ-loop
+loop-less c = omega arith
+
+loop-again : tie.Need-loop-again Inv-loop μ-loop
+loop-again c =
+    let at = c .before .before .before .loop in
+    let a = c .before .before .before .before .args in
+    (omega arith, writes-on (a .written .now) (a .t) (at .registers) (at .r) (c .noted .result) (at .inv .1) (c .noted .ensures))
+
+returns : tie.Need-returns Inv-loop μ-loop
+returns c = let at = c .before .loop in record { has = λ r l f. at .inv .1 .has r (omega arith) f }
+
+pub registers-of-spec : {M : Type 1} → statement M
+registers-of-spec =
+    tie.close
+    (tie.spec
+    Inv-loop
+    μ-loop
+    loop-holds
+    mul-noted
+    add-noted
+    mul-noted-2
+    element-copy-out-noted
+    noted-requires
+    add-r
+    loop-less
+    loop-again
+    returns)
