@@ -95,6 +95,7 @@ impl Search<'_> {
 
     /// Does t need a value that no other open one writes, now that the last place is filled? A commit may have overwritten it, one that
     /// could have committed leaves others without its writes, and any other place takes nothing away.
+    #[inline(never)] // it is asked once a question, and would crowd the search out of registers
     fn bereft(&self, open: u64, store: &Contents, t: usize) -> bool {
         match self.order.last() {
             Some(&(last, true)) => self.orphaned(open, last, t),
@@ -146,7 +147,7 @@ impl Search<'_> {
     }
 
     /// Has the commit of `writer` overwritten a value that `reader` needs and no other open one writes?
-    #[inline]
+    #[inline(always)] // it is asked at every commit
     fn orphaned(&self, open: u64, writer: usize, reader: usize) -> bool {
         let (writer, needed) = (&self.transactions[writer], &self.transactions[reader]);
         registers(writer.has_written & needed.has_read).any(|register| {
