@@ -3,6 +3,7 @@ pub mod Bytes
 pub mod Starts
 pub mod Events
 pub mod Columns
+pub mod Said
 pub mod Questions
 pub mod Records
 pub mod State

@@ -6,6 +6,7 @@ pub mod columns;
 pub mod event;
 pub mod fields;
 pub mod record;
+pub mod refusal;
 pub mod starts;
 pub mod state;
 pub mod step;
