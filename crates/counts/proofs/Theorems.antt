@@ -119,4 +119,4 @@ told-adds-up c count x e = go (columnsAnswer c count) e
     go Checked.Readable d =
         let q : tally (history c count) ≡ x = cc in
         ap Counting.Counted (sym (adds-up (history c count)) ∙ ap (λ (y : Tally). y .committed + y .aborted + y .pending + y .live) q)
-    go (Checked.Refused p i) d = absurd (let z : _≡_ {A = ℕ} 0 1 = cc in omega arith)
+    go (Checked.Refused r) d = absurd (let z : _≡_ {A = ℕ} 0 1 = cc in omega arith)

@@ -1,8 +1,10 @@
 -- The answers of the counts ("Scan and report"): "transactions" counts those begun, "reads" the store reads; and of the tally.
 -- Assumes nothing.
 use Prim.Native.Nat.{ℕ}
+use mathlib.Core.List.{[], _∷_}
 use Rattle.events.specs.declared.columns.Checked.{Checked}
 use Rattle.events.specs.Columns.{Columns, history}
+use Rattle.events.specs.Said.{Said, done, eventRefused}
 use Rattle.events.specs.Questions.{columnsAnswer}
 use Rattle.opacity.specs.Counts.{counts}
 use Rattle.counts.specs.declared.Counting.{Counting}
@@ -13,7 +15,7 @@ use Rattle.counts.specs.Tally.{tally}
 -- a number of columns to which no question says no
 abbrev pub counted : Checked → ℕ → Counting
 counted Checked.Readable n = Counting.Counted n
-counted (Checked.Refused q e) n = Counting.Refused q e
+counted (Checked.Refused r) n = Counting.Refused r
 
 unfoldable pub transactionsAnswer : Columns → ℕ → Counting
 transactionsAnswer c count = counted (columnsAnswer c count) (counts (history c count) .transactions)
@@ -24,16 +26,17 @@ storeReadsAnswer c count = counted (columnsAnswer c count) (counts (history c co
 -- the same for a tally
 abbrev pub tallied : Checked → Tally → Tallying
 tallied Checked.Readable x = Tallying.Tallied x
-tallied (Checked.Refused q e) x = Tallying.Refused q e
+tallied (Checked.Refused r) x = Tallying.Refused r
 
 unfoldable pub tallyAnswer : Columns → ℕ → Tallying
 tallyAnswer c count = tallied (columnsAnswer c count) (tally (history c count))
 
--- the paper's number of an answer, 0 where it was counted, and its value: the number counted, or the event
-unfoldable pub number : Counting → ℕ
-number (Counting.Counted n) = 0
-number (Counting.Refused q e) = q
+-- what a count says: the number counted, or the question with its event
+unfoldable pub countSaid : Counting → Said
+countSaid (Counting.Counted n) = done (n ∷ [])
+countSaid (Counting.Refused r) = eventRefused r
 
-unfoldable pub value : Counting → ℕ
-value (Counting.Counted n) = n
-value (Counting.Refused q e) = e
+-- what the tally says: how many are committed, aborted, pending and live, or the question with its event
+unfoldable pub tallySaid : Tallying → Said
+tallySaid (Tallying.Tallied x) = done (x .committed ∷ x .aborted ∷ x .pending ∷ x .live ∷ [])
+tallySaid (Tallying.Refused r) = eventRefused r

@@ -10,17 +10,18 @@ use crate::tally::Tally;
 use crate::tally::tally_of;
 use events::columns::Checked;
 use events::columns::check_columns;
+use events::refusal::Refusal;
 
 // A count's answer: the number, or the question that says no with its event.
 pub enum Counting {
     Counted(usize),
-    Refused { question: u8, event: usize },
+    Refused(Refusal),
 }
 
 // The tally's answer: the four numbers, or the question that says no with its event.
 pub enum Tallying {
     Tallied(Tally),
-    Refused { question: u8, event: usize },
+    Refused(Refusal),
 }
 
 // How many transactions begin in the first `count` events.
@@ -34,8 +35,8 @@ pub fn count_transactions(
     ensures { λ r. ⌜ r ≡ transactionsAnswer (columns (now (kinds .entry)) (now (transactions .entry)) (now (registers .entry)) (now (values .entry))) count ⌝ }
 {
     let checked = check_columns(kinds, transactions, registers, values, count);
-    if let Checked::Refused { question, event } = checked {
-        return Counting::Refused { question, event };
+    if let Checked::Refused(refusal) = checked {
+        return Counting::Refused(refusal);
     }
     let begun = opacity::counts::transactions_begun(kinds, transactions, registers, values, count);
     Counting::Counted(begun)
@@ -52,8 +53,8 @@ pub fn count_store_reads(
     ensures { λ r. ⌜ r ≡ storeReadsAnswer (columns (now (kinds .entry)) (now (transactions .entry)) (now (registers .entry)) (now (values .entry))) count ⌝ }
 {
     let checked = check_columns(kinds, transactions, registers, values, count);
-    if let Checked::Refused { question, event } = checked {
-        return Counting::Refused { question, event };
+    if let Checked::Refused(refusal) = checked {
+        return Counting::Refused(refusal);
     }
     let reads = opacity::counts::store_reads(kinds, transactions, registers, values, count);
     Counting::Counted(reads)
@@ -70,8 +71,8 @@ pub fn tally_transactions(
     ensures { λ r. ⌜ r ≡ tallyAnswer (columns (now (kinds .entry)) (now (transactions .entry)) (now (registers .entry)) (now (values .entry))) count ⌝ }
 {
     let checked = check_columns(kinds, transactions, registers, values, count);
-    if let Checked::Refused { question, event } = checked {
-        return Tallying::Refused { question, event };
+    if let Checked::Refused(refusal) = checked {
+        return Tallying::Refused(refusal);
     }
     Tallying::Tallied(tally_of(kinds, transactions, registers, values, count))
 }

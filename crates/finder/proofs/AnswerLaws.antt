@@ -1,15 +1,17 @@
 -- Laws of the finder's answer.
 -- Assumes nothing.
-use mathlib.Core.Path.{_≡_, refl, sym, ap₂, _∙_}
+use mathlib.Core.Path.{_≡_, refl, sym, ap, ap₂, _∙_}
 use Prim.Native.Nat.{ℕ, _≤_, _<_}
 use native.Mathlib.Omega.{arith}
 use mathlib.Core.Bool.{true, false}
-use mathlib.Core.List.{List}
+use mathlib.Core.List.{List, [], _∷_}
 use mathlib.Core.Option.{Option, none, some, Option·none-ne-some, Option·some-ne-none, Option·some-injective}
 use lib.ListN.{length, take}
 use borrow.Author.Tests.{le-leb, lt-leb, leb-true}
 use Rattle.events.specs.declared.event.Event.{Event}
 use Rattle.events.specs.declared.columns.Checked.{Checked}
+use Rattle.events.specs.declared.refusal.Refusal.{Refusal}
+use Rattle.events.specs.Said.{done, nothing, atEvent, refuse}
 use Rattle.events.specs.Bytes.{over}
 use Rattle.events.specs.Events.{begins}
 use Rattle.events.specs.Columns.{Columns, history, hold}
@@ -24,32 +26,32 @@ use Rattle.opacity.specs.Marking.{marked, markingBytes}
 use Rattle.opacity.specs.Counts.{HoldsReadable}
 use Rattle.opacity.proofs.CountLaws.{checked-readable}
 use Rattle.tables.proofs.CallLaws.{asked-none, asked-yes, asked-no, asked-e, then-readable, then-refused, then-e}
-use Rattle.finder.specs.declared.Found.{Found}
-use Rattle.finder.specs.Answer.{markingSize, gives, decided, prefixRefusal, callRefusal, findRefusal, markingOf, lowestMarking, foundAnswer}
+use Rattle.finder.specs.declared.Finding.{Finding}
+use Rattle.finder.specs.Answer.{markingSize, Passed, said, gives, decided, prefixRefusal, callRefusal, findRefusal, markingOf, lowestMarking, foundAnswer}
 
 -- ---- what is decided
 
-pub decided-refused : {x : Checked} {q e : ℕ} (m : Option (List ℕ)) (o : List ℕ) → x ≡ Checked.Refused q e → gives (Found.Refused q e) o ≡ decided x m o
+pub decided-refused : {x : Checked} {r : Refusal} (m : Option (List ℕ)) (o : List ℕ) → x ≡ Checked.Refused r → gives (Finding.Refused r) o ≡ decided x m o
 unfolding decided
 decided-refused m o x = rw x
 
-pub decided-none : {x : Checked} {m : Option (List ℕ)} (o : List ℕ) → x ≡ Checked.Readable → m ≡ none → gives Found.None o ≡ decided x m o
+pub decided-none : {x : Checked} {m : Option (List ℕ)} (o : List ℕ) → x ≡ Checked.Readable → m ≡ none → gives Finding.None o ≡ decided x m o
 unfolding decided
 decided-none o x e = rw (x, e)
 
 pub decided-marking : {x : Checked} {m : Option (List ℕ)} {bytes : List ℕ} (n : ℕ) (o o′ : List ℕ) → x ≡ Checked.Readable → m ≡ some bytes
-    → n ≡ length bytes → o′ ≡ over bytes o → gives (Found.Marking n) o′ ≡ decided x m o
+    → n ≡ length bytes → o′ ≡ over bytes o → gives (Finding.Marking n) o′ ≡ decided x m o
 unfolding decided
-decided-marking n o o′ x e l w = rw (x, e) (ap₂ (λ (k : ℕ) (z : List ℕ). gives (Found.Marking k) z) l w)
+decided-marking n o o′ x e l w = rw (x, e) (ap₂ (λ (k : ℕ) (z : List ℕ). gives (Finding.Marking k) z) l w)
 
 -- ---- questions 31 and 32
 
 module _ (h : List Event) (count room : ℕ) where
-  pub refused-31 : 10 < begins h → prefixRefusal h count room ≡ Checked.Refused 31 count
+  pub refused-31 : 10 < begins h → prefixRefusal h count room ≡ Checked.Refused (refuse 31 count)
   unfolding prefixRefusal
   refused-31 l = asked-no count 31 _ _ (lt-leb (begins h) 10 l)
 
-  pub refused-32 : begins h ≤ 10 → room < markingSize h → prefixRefusal h count room ≡ Checked.Refused 32 count
+  pub refused-32 : begins h ≤ 10 → room < markingSize h → prefixRefusal h count room ≡ Checked.Refused (refuse 32 count)
   unfolding prefixRefusal
   refused-32 l k = asked-yes count 31 _ _ (le-leb (begins h) 10 l) ∙ asked-no count 32 _ _ (lt-leb (markingSize h) room k)
 
@@ -74,30 +76,50 @@ pub record Marked (x : Checked) (m : Option (List ℕ)) (o : List ℕ) (n : ℕ)
   pub size : n ≡ length bytes
   pub output : decided x m o .output ≡ over bytes o
 
-pub marking-e : (x : Checked) (m : Option (List ℕ)) (o : List ℕ) (n : ℕ) → decided x m o .result ≡ Found.Marking n → Marked x m o n
+pub marking-e : (x : Checked) (m : Option (List ℕ)) (o : List ℕ) (n : ℕ) → decided x m o .result ≡ Finding.Marking n → Marked x m o n
 unfolding decided
-marking-e (Checked.Refused q e) m o n w = let z : _≡_ {A = ℕ} 0 1 = cc in absurd (omega arith)
+marking-e (Checked.Refused r) m o n w = let z : _≡_ {A = ℕ} 0 1 = cc in absurd (omega arith)
 marking-e Checked.Readable none o n w = let z : _≡_ {A = ℕ} 0 1 = cc in absurd (omega arith)
 marking-e Checked.Readable (some bytes) o n w =
     let k : length bytes ≡ n = cc in
     record { passes = refl; bytes = bytes; found = refl; size = sym k; output = refl }
 
 -- none was found, and the output is as it was
-pub none-e : (x : Checked) (m : Option (List ℕ)) (o : List ℕ) → decided x m o .result ≡ Found.None → (x ≡ Checked.Readable) × (m ≡ none) × (decided x m o .output ≡ o)
+pub none-e : (x : Checked) (m : Option (List ℕ)) (o : List ℕ) → decided x m o .result ≡ Finding.None → (x ≡ Checked.Readable) × (m ≡ none) × (decided x m o .output ≡ o)
 unfolding decided
-none-e (Checked.Refused q e) m o w = let z : _≡_ {A = ℕ} 0 1 = cc in absurd (omega arith)
+none-e (Checked.Refused r) m o w = let z : _≡_ {A = ℕ} 0 1 = cc in absurd (omega arith)
 none-e Checked.Readable none o w = (refl, refl, refl)
 none-e Checked.Readable (some bytes) o w = let z : _≡_ {A = ℕ} 0 1 = cc in absurd (omega arith)
 
 -- a question said no, and the output is as it was
-pub refused-e : (x : Checked) (m : Option (List ℕ)) (o : List ℕ) (q e : ℕ) → decided x m o .result ≡ Found.Refused q e → (x ≡ Checked.Refused q e) × (decided x m o .output ≡ o)
+pub refused-e : (x : Checked) (m : Option (List ℕ)) (o : List ℕ) (r : Refusal) → decided x m o .result ≡ Finding.Refused r → (x ≡ Checked.Refused r) × (decided x m o .output ≡ o)
 unfolding decided
-refused-e (Checked.Refused p f) m o q e w =
-    let a : p ≡ q = cc in
-    let b : f ≡ e = cc in
-    (ap₂ (λ (i j : ℕ). Checked.Refused i j) a b, refl)
-refused-e Checked.Readable none o q e w = let z : _≡_ {A = ℕ} 0 1 = cc in absurd (omega arith)
-refused-e Checked.Readable (some bytes) o q e w = let z : _≡_ {A = ℕ} 0 1 = cc in absurd (omega arith)
+refused-e (Checked.Refused p) m o r w = let a : p ≡ r = cc in (ap Checked.Refused a, refl)
+refused-e Checked.Readable none o r w = let z : _≡_ {A = ℕ} 0 1 = cc in absurd (omega arith)
+refused-e Checked.Readable (some bytes) o r w = let z : _≡_ {A = ℕ} 0 1 = cc in absurd (omega arith)
+
+-- ---- what is said
+
+pub said-marking : (x : Finding) (n : ℕ) → said x ≡ done (n ∷ []) → x ≡ Finding.Marking n
+unfolding said
+said-marking (Finding.Marking m) n e = cc
+said-marking Finding.None n e = let z : _≡_ {A = ℕ} 0 1 = cc in absurd (omega arith)
+said-marking (Finding.Refused r) n e = let z : _≡_ {A = ℕ} 0 1 = cc in absurd (omega arith)
+
+pub said-none : (x : Finding) → said x ≡ nothing → x ≡ Finding.None
+unfolding said
+said-none (Finding.Marking m) e = let z : _≡_ {A = ℕ} 0 1 = cc in absurd (omega arith)
+said-none Finding.None e = refl
+said-none (Finding.Refused r) e = let z : _≡_ {A = ℕ} 0 1 = cc in absurd (omega arith)
+
+pub said-refused : (x : Finding) (q e : ℕ) → said x ≡ atEvent q e → x ≡ Finding.Refused (refuse q e)
+unfolding said
+said-refused (Finding.Marking m) q e k = let z : _≡_ {A = ℕ} 0 1 = cc in absurd (omega arith)
+said-refused Finding.None q e k = let z : _≡_ {A = ℕ} 0 1 = cc in absurd (omega arith)
+said-refused (Finding.Refused r) q e k =
+    let a : r .question ≡ q = cc in
+    let b : r .at ≡ e = cc in
+    λ i. Finding.Refused (refuse (a i) (b i))
 
 -- ---- the questions of a call and of its events
 
@@ -119,15 +141,15 @@ module _ (edition : ℕ) (starts : List ℕ) (c : Columns) (count prefix : ℕ) 
       record { held = d .0; admitted = g .0; inside = leb-true _ _ (f .0); readable = answer-readable (history c count) (a .1) }
 
   -- one after the other, as `check_call` puts them
-  pub not-held : hold c count ≡ false → Checked.Refused 17 count ≡ callRefusal edition starts c count prefix
+  pub not-held : hold c count ≡ false → Checked.Refused (refuse 17 count) ≡ callRefusal edition starts c count prefix
   unfolding callRefusal
   not-held e = sym (then-refused _ (asked-no count 17 _ _ e))
 
-  pub not-admitted : hold c count ≡ true → admits edition starts ≡ false → Checked.Refused 3 count ≡ callRefusal edition starts c count prefix
+  pub not-admitted : hold c count ≡ true → admits edition starts ≡ false → Checked.Refused (refuse 3 count) ≡ callRefusal edition starts c count prefix
   unfolding callRefusal
   not-admitted e a = sym (then-refused _ (asked-yes count 17 _ _ e ∙ asked-no count 3 _ _ a))
 
-  pub too-long : hold c count ≡ true → admits edition starts ≡ true → count < prefix → Checked.Refused 18 count ≡ callRefusal edition starts c count prefix
+  pub too-long : hold c count ≡ true → admits edition starts ≡ true → count < prefix → Checked.Refused (refuse 18 count) ≡ callRefusal edition starts c count prefix
   unfolding callRefusal
   too-long e a l =
       sym (then-refused _ (asked-yes count 17 _ _ e ∙ asked-yes count 3 _ _ a ∙ asked-no count 18 _ _ (lt-leb prefix count l)))
@@ -148,15 +170,6 @@ module _ (edition : ℕ) (starts : List ℕ) (c : Columns) (count prefix : ℕ) 
       (checked-readable c count (events-asked (p .held) (p .admitted) (p .inside) ∙ x), p .inside)
 
 -- ---- all questions
-
--- what it tells that no question refuses a call
-pub record Passed (edition : ℕ) (starts : List ℕ) (c : Columns) (count prefix room : ℕ) : Type 0 where
-  pub held : hold c count ≡ true
-  pub admitted : admits edition starts ≡ true
-  pub inside : prefix ≤ count
-  pub readable : readable (history c count) ≡ true
-  pub few : begins (take prefix (history c count)) ≤ 10
-  pub fits : markingSize (take prefix (history c count)) ≤ room
 
 module _ (edition : ℕ) (starts : List ℕ) (c : Columns) (count prefix room : ℕ) where
   pub passed : findRefusal edition starts c count prefix room ≡ Checked.Readable → Passed edition starts c count prefix room
@@ -184,7 +197,7 @@ module _ (edition : ℕ) (starts : List ℕ) (c : Columns) (count prefix room : 
 -- ---- what is decided of a call
 
 module _ (edition : ℕ) (starts : List ℕ) (c : Columns) (count prefix : ℕ) (o : List ℕ) where
-  pub call-refused : {q i : ℕ} → callRefusal edition starts c count prefix ≡ Checked.Refused q i → gives (Found.Refused q i) o ≡ foundAnswer edition starts c count prefix o
+  pub call-refused : {r : Refusal} → callRefusal edition starts c count prefix ≡ Checked.Refused r → gives (Finding.Refused r) o ≡ foundAnswer edition starts c count prefix o
   unfolding foundAnswer findRefusal
   call-refused x = decided-refused _ o (then-refused _ x)
 

@@ -1,6 +1,6 @@
 -- What the finder's answer means, in both directions. `find_marking` gives `foundAnswer`, so each theorem is one about its result and its
 -- output. Assumes nothing.
-use mathlib.Core.Path.{_≡_, refl, sym, ap, ap₂, _∙_}
+use mathlib.Core.Path.{_≡_, refl, sym, ap, ap₂, subst, _∙_}
 use mathlib.Core.Logic.{_↔_}
 use Prim.Native.Nat.{ℕ, _≤_}
 use mathlib.Core.Bool.{Bool, true, false}
@@ -10,6 +10,8 @@ use lib.ListN.{length, take, drop}
 use Rattle.events.proofs.BufferLaws.{take-over, drop-over}
 use Rattle.events.specs.declared.event.Event.{Event}
 use Rattle.events.specs.declared.columns.Checked.{Checked}
+use Rattle.events.specs.declared.refusal.Refusal.{Refusal}
+use Rattle.events.specs.Said.{done, nothing, atEvent, refuse}
 use Rattle.events.specs.Bytes.{over}
 use Rattle.events.specs.Columns.{Columns, history, hold}
 use Rattle.events.specs.Starts.{startOf, noStarts}
@@ -23,12 +25,12 @@ use Rattle.opacity.specs.Serial.{Serial, LowestSerial}
 use Rattle.opacity.specs.Marking.{ReadableFor, marked, markingBytes, verdict}
 use Rattle.opacity.specs.declared.verdict.Verdict.{Verdict}
 use Rattle.opacity.proofs.Least.{lowest-least}
-use Rattle.opacity.proofs.Theorems.{lowest-some, lowest-none, prefix-lowest-serial, prefix-none-serial, marked-is-readable, marked-is-accepted}
+use Rattle.opacity.proofs.Theorems.{lowest-unique, lowest-some, lowest-none, prefix-lowest-serial, prefix-none-serial, marked-is-readable, marked-is-accepted}
 use Rattle.tables.specs.Calls.{askedOf, thenChecked}
 use Rattle.tables.proofs.CallLaws.{asked-yes, asked-no, then-then}
-use Rattle.finder.specs.declared.Found.{Found}
-use Rattle.finder.specs.Answer.{Given, gives, decided, prefixRefusal, callRefusal, findRefusal, lowestMarking, foundAnswer, firstEditionRefusal, firstEditionAnswer}
-use Rattle.finder.proofs.AnswerLaws.{decided-refused, decided-marking, decided-none, marking-e, none-e, refused-e, passed, marking-some, some-marking, none-marking, marking-none}
+use Rattle.finder.specs.declared.Finding.{Finding}
+use Rattle.finder.specs.Answer.{Given, gives, said, Passed, decided, prefixRefusal, callRefusal, findRefusal, lowestMarking, foundAnswer, firstEditionRefusal, firstEditionAnswer}
+use Rattle.finder.proofs.AnswerLaws.{said-marking, said-none, said-refused, passes, decided-refused, decided-marking, decided-none, marking-e, none-e, refused-e, passed, marking-some, some-marking, none-marking, marking-none}
 
 -- a call: edition, start values, columns, count, prefix length, and the output as it was
 module _ (edition : ℕ) (starts : List ℕ) (c : Columns) (count prefix : ℕ) (output : List ℕ) where
@@ -47,19 +49,19 @@ module _ (edition : ℕ) (starts : List ℕ) (c : Columns) (count prefix : ℕ) 
   judged-readable x = readable-take (history c count) prefix (inside x) (passed edition starts c count prefix (length output) x .readable)
 
   -- A question refuses exactly where it is the first that says no, and then the output is as it was.
-  pub refused-exactly : (q e : ℕ) → (foundAnswer edition starts c count prefix output .result ≡ Found.Refused q e) ↔ (findRefusal edition starts c count prefix (length output) ≡ Checked.Refused q e)
+  pub refused-exactly : (r : Refusal) → (foundAnswer edition starts c count prefix output .result ≡ Finding.Refused r) ↔ (findRefusal edition starts c count prefix (length output) ≡ Checked.Refused r)
   unfolding foundAnswer
-  refused-exactly q e = (
-    λ x. refused-e _ _ output q e x .0,
+  refused-exactly r = (
+    λ x. refused-e _ _ output r x .0,
     λ x. ap (λ (g : Given). g .result) (sym (decided-refused (lowestMarking (startOf starts) judged) output x)),
   )
 
-  pub refused-unchanged : (q e : ℕ) → foundAnswer edition starts c count prefix output .result ≡ Found.Refused q e → foundAnswer edition starts c count prefix output .output ≡ output
+  pub refused-unchanged : (r : Refusal) → foundAnswer edition starts c count prefix output .result ≡ Finding.Refused r → foundAnswer edition starts c count prefix output .output ≡ output
   unfolding foundAnswer
-  refused-unchanged q e x = refused-e _ _ output q e x .1
+  refused-unchanged r x = refused-e _ _ output r x .1
 
   -- A marking is found exactly where the prefix has a justification,
-  pub marking-exactly : Passes → ((n : ℕ) × (foundAnswer edition starts c count prefix output .result ≡ Found.Marking n)) ↔ ((J : List Place) × Justified (startOf starts) judged J)
+  pub marking-exactly : Passes → ((n : ℕ) × (foundAnswer edition starts c count prefix output .result ≡ Finding.Marking n)) ↔ ((J : List Place) × Justified (startOf starts) judged J)
   unfolding foundAnswer
   marking-exactly x = (
     λ w.
@@ -73,7 +75,7 @@ module _ (edition : ℕ) (starts : List ℕ) (c : Columns) (count prefix : ℕ) 
   )
 
   -- and none exactly where it has none; with none the output is as it was.
-  pub none-exactly : Passes → (foundAnswer edition starts c count prefix output .result ≡ Found.None) ↔ ((J : List Place) → Justified (startOf starts) judged J → ⊥)
+  pub none-exactly : Passes → (foundAnswer edition starts c count prefix output .result ≡ Finding.None) ↔ ((J : List Place) → Justified (startOf starts) judged J → ⊥)
   unfolding foundAnswer
   none-exactly x =
       let e = lowest-none (startOf starts) judged (judged-readable x) in (
@@ -81,15 +83,19 @@ module _ (edition : ℕ) (starts : List ℕ) (c : Columns) (count prefix : ℕ) 
         λ f. ap (λ (v : Given). v .result) (sym (decided-none output x (none-marking (startOf starts) judged (e .1 f)))),
       )
 
-  pub none-unchanged : foundAnswer edition starts c count prefix output .result ≡ Found.None → foundAnswer edition starts c count prefix output .output ≡ output
+  pub none-unchanged : foundAnswer edition starts c count prefix output .result ≡ Finding.None → foundAnswer edition starts c count prefix output .output ≡ output
   unfolding foundAnswer
   none-unchanged x = none-e _ _ output x .2
 
   -- The lowest justification's marking is what is written, from the output's first byte, and its length is what is returned.
   pub lowest-written : Passes → (J : List Place) → LowestJustified (startOf starts) judged J
-      → foundAnswer edition starts c count prefix output ≡ gives (Found.Marking (length (markingBytes (marked judged J)))) (over (markingBytes (marked judged J)) output)
+      → foundAnswer edition starts c count prefix output ≡ gives (Finding.Marking (length (markingBytes (marked judged J)))) (over (markingBytes (marked judged J)) output)
   unfolding foundAnswer
   lowest-written x J j = sym (decided-marking _ output _ x (some-marking (startOf starts) judged (lowest-some (startOf starts) judged (judged-readable x) J .1 j)) refl refl)
+
+  -- the length of the marking of the lowest justification
+  abbrev pub Found : ℕ → Type 0
+  Found n = (J : List Place) × LowestJustified (startOf starts) judged J × (length (markingBytes (marked judged J)) ≡ n)
 
   -- What is written is the marking of the lowest justification. It is readable for the prefix, and the rules accept it.
   pub record Written (n : ℕ) : Type 0 where
@@ -101,7 +107,7 @@ module _ (edition : ℕ) (starts : List ℕ) (c : Columns) (count prefix : ℕ) 
     pub readable : ReadableFor judged (marked judged order)
     pub accepted : verdict (startOf starts) judged (marked judged order) ≡ Verdict.Accepted
 
-  pub written : (n : ℕ) → foundAnswer edition starts c count prefix output .result ≡ Found.Marking n → Written n
+  pub written : (n : ℕ) → foundAnswer edition starts c count prefix output .result ≡ Finding.Marking n → Written n
   unfolding foundAnswer
   written n x =
       let m = marking-e _ _ output n x in
@@ -122,19 +128,53 @@ module _ (edition : ℕ) (starts : List ℕ) (c : Columns) (count prefix : ℕ) 
   -- The same in the words of a machine that runs the transactions one at a time: the marking is that of the lowest order that explains
   -- the prefix, and none is found exactly where no order explains it.
   pub lowest-serial-written : Passes → (J : List Place) → LowestSerial (startOf starts) judged J
-      → foundAnswer edition starts c count prefix output ≡ gives (Found.Marking (length (markingBytes (marked judged J)))) (over (markingBytes (marked judged J)) output)
+      → foundAnswer edition starts c count prefix output ≡ gives (Finding.Marking (length (markingBytes (marked judged J)))) (over (markingBytes (marked judged J)) output)
   unfolding foundAnswer
   lowest-serial-written x J s =
       let e = prefix-lowest-serial (startOf starts) (history c count) (passed edition starts c count prefix (length output) x .readable) prefix (inside x) J .1 s in
       sym (decided-marking _ output _ x (some-marking (startOf starts) judged e) refl refl)
 
-  pub none-serial : Passes → (foundAnswer edition starts c count prefix output .result ≡ Found.None) ↔ ((K : List Place) → Serial (startOf starts) judged K → ⊥)
+  pub none-serial : Passes → (foundAnswer edition starts c count prefix output .result ≡ Finding.None) ↔ ((K : List Place) → Serial (startOf starts) judged K → ⊥)
   unfolding foundAnswer
   none-serial x =
       let e = prefix-none-serial (startOf starts) (history c count) (passed edition starts c count prefix (length output) x .readable) prefix (inside x) in (
         λ w. e .0 (marking-none (startOf starts) judged (none-e _ _ output w .1)),
         λ f. ap (λ (v : Given). v .result) (sym (decided-none output x (none-marking (startOf starts) judged (e .1 f)))),
       )
+
+  -- What the finder says, for every call: the length of the marking of the lowest justification exactly where no question says no and there
+  -- is one,
+  pub found-said : (n : ℕ) → (said (foundAnswer edition starts c count prefix output .result) ≡ done (n ∷ []))
+      ↔ (Passed edition starts c count prefix (length output) × Found n)
+  unfolding said
+  found-said n = (
+    λ x.
+        let w = written n (said-marking _ n x) in
+        let e = lowest-written (w .passes) (w .order) (w .lowest) in
+        let k : Finding.Marking (length (markingBytes (marked judged (w .order)))) ≡ Finding.Marking n = ap (λ (g : Given). g .result) (sym e) ∙ said-marking _ n x in
+        (passed edition starts c count prefix (length output) (w .passes), (w .order, w .lowest, cc)),
+    λ w. ap (λ (g : Given). said (g .result)) (lowest-written (passes edition starts c count prefix (length output) (w .0)) (w .1 .0) (w .1 .1)) ∙ ap (λ (i : ℕ). done (i ∷ [])) (w .1 .2),
+  )
+
+  -- none exactly where no question says no and there is none,
+  pub none-said : (said (foundAnswer edition starts c count prefix output .result) ≡ nothing)
+      ↔ (Passed edition starts c count prefix (length output) × ((J : List Place) → Justified (startOf starts) judged J → ⊥))
+  unfolding foundAnswer said
+  none-said = (
+    λ x.
+        let w = none-e _ _ output (said-none _ x) in
+        (passed edition starts c count prefix (length output) (w .0), none-exactly (w .0) .0 (said-none _ x)),
+    λ w. ap said (none-exactly (passes edition starts c count prefix (length output) (w .0)) .1 (w .1)),
+  )
+
+  -- and a question with its event exactly where it is the first that says no.
+  pub refused-said : (q e : ℕ) → (said (foundAnswer edition starts c count prefix output .result) ≡ atEvent q e)
+      ↔ (findRefusal edition starts c count prefix (length output) ≡ Checked.Refused (refuse q e))
+  unfolding said
+  refused-said q e = (
+    λ x. refused-exactly (refuse q e) .0 (said-refused _ q e x),
+    λ x. ap said (refused-exactly (refuse q e) .1 x),
+  )
 
 refusal-same : (edition : ℕ) (starts : List ℕ) (c d : Columns) (count prefix : ℕ) {m n : ℕ} → hold c count ≡ hold d count → history c count ≡ history d count → m ≡ n
     → findRefusal edition starts c count prefix m ≡ findRefusal edition starts d count prefix n
@@ -143,7 +183,7 @@ refusal-same edition starts c d count prefix e f g = rw (e, f, g)
 
 result-same : (x : Checked) (m : Option (List ℕ)) (o p : List ℕ) → decided x m o .result ≡ decided x m p .result
 unfolding decided
-result-same (Checked.Refused q e) m o p = refl
+result-same (Checked.Refused r) m o p = refl
 result-same Checked.Readable none o p = refl
 result-same Checked.Readable (some bytes) o p = refl
 
@@ -155,6 +195,18 @@ unfolding foundAnswer
 past-count edition starts c d count prefix output before e f g =
     ap₂ (λ (x : Checked) (m : Option (List ℕ)). decided x m output .result) (refusal-same edition starts c d count prefix e f g) (ap (λ (h : List Event). lowestMarking (startOf starts) (take prefix h)) f)
     ∙ result-same (findRefusal edition starts d count prefix (length before)) (lowestMarking (startOf starts) (take prefix (history d count))) output before
+
+-- and the same bytes, where they are a marking of length n
+pub past-count-bytes : (edition : ℕ) (starts : List ℕ) (c d : Columns) (count prefix : ℕ) (output before : List ℕ) (n : ℕ) → hold c count ≡ hold d count → history c count ≡ history d count → length output ≡ length before
+    → foundAnswer edition starts c count prefix output .result ≡ Finding.Marking n
+    → take n (foundAnswer edition starts c count prefix output .output) ≡ take n (foundAnswer edition starts d count prefix before .output)
+past-count-bytes edition starts c d count prefix output before n e f g x =
+    let v = written edition starts c count prefix output n x in
+    let w = written edition starts d count prefix before n (sym (past-count edition starts c d count prefix output before e f g) ∙ x) in
+    let h : take prefix (history c count) ≡ take prefix (history d count) = ap (take prefix) f in
+    let l : LowestJustified (startOf starts) (take prefix (history c count)) (w .order) = subst (λ (y : List Event). LowestJustified (startOf starts) y (w .order)) (sym h) (w .lowest) in
+    let o : v .order ≡ w .order = lowest-unique (startOf starts) (take prefix (history c count)) (judged-readable edition starts c count prefix output (v .passes)) (v .order) (w .order) (v .lowest) l in
+    v .bytes ∙ (ap₂ (λ (y : List Event) (J : List Place). markingBytes (marked y J)) h o ∙ sym (w .bytes))
 
 -- ---- edition 1
 

@@ -1,6 +1,8 @@
 -- The finder's answer ("Finder"): the marking of the lowest justification of a prefix, or none, or the first question that says no.
 -- Assumes nothing.
-use Prim.Native.Nat.{ℕ, _+_, _*_}
+use Prim.Native.Nat.{ℕ, _+_, _*_, _≤_}
+use mathlib.Core.Path.{_≡_}
+use mathlib.Core.Bool.{true}
 use mathlib.Core.List.{List, [], _∷_}
 use mathlib.Core.Option.{Option, none, some}
 use lib.Dec.{leb}
@@ -11,32 +13,28 @@ use Rattle.events.specs.Bytes.{over}
 use Rattle.events.specs.Events.{begins}
 use Rattle.events.specs.Columns.{Columns, history, hold}
 use Rattle.events.specs.Starts.{startOf, admits}
-use Rattle.events.specs.Questions.{ask, eventsAnswer}
+use Rattle.events.specs.Said.{Said, done, nothing, eventRefused}
+use Rattle.events.specs.Questions.{ask, readable, eventsAnswer}
 use Rattle.opacity.specs.Transactions.{storeReads}
 use Rattle.opacity.specs.Justification.{Place, zeros}
 use Rattle.opacity.specs.Lowest.{lowestOf}
 use Rattle.opacity.specs.Marking.{marked, markingBytes}
 use Rattle.tables.specs.Calls.{askedOf, thenChecked}
-use Rattle.finder.specs.declared.Found.{Found}
+use Rattle.finder.specs.declared.Finding.{Finding}
 
 -- What a call gives: its result, and the output afterwards.
 pub record Given : Type 0 where
-  pub result : Found
+  pub result : Finding
   pub output : List ℕ
 
-abbrev pub gives : Found → List ℕ → Given
+abbrev pub gives : Finding → List ℕ → Given
 gives r o = record { result = r; output = o }
 
--- the paper's number of an answer, the question that says no or 0, and its values: the length of the marking, or the event
-unfoldable pub number : Found → ℕ
-number (Found.Marking n) = 0
-number Found.None = 0
-number (Found.Refused q e) = q
-
-unfoldable pub values : Found → List ℕ
-values (Found.Marking n) = n ∷ []
-values Found.None = []
-values (Found.Refused q e) = e ∷ []
+-- what the finder says: the length of the marking, or none, or the question with its event
+unfoldable pub said : Finding → Said
+said (Finding.Marking n) = done (n ∷ [])
+said Finding.None = nothing
+said (Finding.Refused r) = eventRefused r
 
 -- the bytes of a marking: the head, its transactions and its store reads
 abbrev pub markingSize : List Event → ℕ
@@ -59,6 +57,16 @@ findRefusal edition starts c count prefix room =
     thenChecked (callRefusal edition starts c count prefix)
     (prefixRefusal (take prefix (history c count)) count room)
 
+-- no question says no to a call: the columns hold the events, edition and start values are admitted, the prefix is one of the history,
+-- which is readable, and it has at most 10 transactions and room in the output
+pub record Passed (edition : ℕ) (starts : List ℕ) (c : Columns) (count prefix room : ℕ) : Type 0 where
+  pub held : hold c count ≡ true
+  pub admitted : admits edition starts ≡ true
+  pub inside : prefix ≤ count
+  pub readable : readable (history c count) ≡ true
+  pub few : begins (take prefix (history c count)) ≤ 10
+  pub fits : markingSize (take prefix (history c count)) ≤ room
+
 abbrev pub markingOf : List Event → Option (List Place) → Option (List ℕ)
 markingOf h none = none
 markingOf h (some J) = some (markingBytes (marked h J))
@@ -69,9 +77,9 @@ lowestMarking start h = markingOf h (lowestOf start h)
 
 -- A refusal and none leave the output alone; a marking is written from its first byte, and nothing behind it changes.
 unfoldable pub decided : Checked → Option (List ℕ) → List ℕ → Given
-decided (Checked.Refused q e) m o = gives (Found.Refused q e) o
-decided Checked.Readable none o = gives Found.None o
-decided Checked.Readable (some bytes) o = gives (Found.Marking (length bytes)) (over bytes o)
+decided (Checked.Refused r) m o = gives (Finding.Refused r) o
+decided Checked.Readable none o = gives Finding.None o
+decided Checked.Readable (some bytes) o = gives (Finding.Marking (length bytes)) (over bytes o)
 
 -- a prefix keeps the edition and the start values of its history
 unfoldable pub foundAnswer : ℕ → List ℕ → Columns → ℕ → ℕ → List ℕ → Given

@@ -12,15 +12,17 @@ ghost use Rattle.finder.specs.Answer.{markingSize, lowestMarking, gives,
 pub mod writer;
 
 use events::columns::Checked;
+use events::record::Record;
+use events::refusal::Refusal;
 
 // Question 31: at most this many transactions are searched.
 const SEARCHED: usize = 10;
 
 // The finder's answer: the length of the marking written, none, or the question that says no with its event.
-pub enum Found {
+pub enum Finding {
     Marking(usize),
     None,
-    Refused { question: u8, event: usize },
+    Refused(Refusal),
 }
 
 // The lowest marking of the first n events, if they have one, put into an output that has room for any.
@@ -32,14 +34,14 @@ fn find_lowest(
     values: &[u32],
     n: usize,
     output: &mut [u8],
-) -> Found
+) -> Finding
     requires { ⌜ Judged (columns (now kinds) (now transactions) (now registers) (now values)) n ⌝ }
     requires { ⌜ markingSize (history (columns (now kinds) (now transactions) (now registers) (now values)) n) ≤ length (now output) ⌝ }
     ensures { λ r. ⌜ gives r (now (output .exit)) ≡ decided Checked.Readable (lowestMarking (startOf (now (starts .entry))) (history (columns (now (kinds .entry)) (now (transactions .entry)) (now (registers .entry)) (now (values .entry))) n)) (now (output .entry)) ⌝ }
 {
     let order = tables::find_order(starts, kinds, transactions, registers, values, n);
     if order == 0 {
-        return Found::None;
+        return Finding::None;
     }
     let count = opacity::counts::transactions_begun(kinds, transactions, registers, values, n);
     let places = places::state::codes_of(order, count);
@@ -53,7 +55,7 @@ fn find_lowest(
         count,
         output,
     );
-    Found::Marking(length)
+    Finding::Marking(length)
 }
 
 // Questions 31 and 32, with the count as their event, and then the lowest marking, of the first n events.
@@ -66,24 +68,26 @@ fn find_readable(
     count: usize,
     n: usize,
     output: &mut [u8],
-) -> Found
+) -> Finding
     requires { ⌜ HoldsReadable (columns (now kinds) (now transactions) (now registers) (now values)) count ⌝ }
     requires { ⌜ n ≤ count ⌝ }
     ensures { λ r. ⌜ gives r (now (output .exit)) ≡ decided (prefixRefusal (history (columns (now (kinds .entry)) (now (transactions .entry)) (now (registers .entry)) (now (values .entry))) n) count (length (now (output .entry)))) (lowestMarking (startOf (now (starts .entry))) (history (columns (now (kinds .entry)) (now (transactions .entry)) (now (registers .entry)) (now (values .entry))) n)) (now (output .entry)) ⌝ }
 {
     let begun = opacity::counts::transactions_begun(kinds, transactions, registers, values, n);
     if begun > SEARCHED {
-        return Found::Refused {
+        return Finding::Refused(Refusal {
             question: 31,
-            event: count,
-        };
+            at: count,
+        });
     }
     let reads = opacity::counts::store_reads(kinds, transactions, registers, values, n);
-    if output.len() < 6 + 8 * begun + 10 * reads {
-        return Found::Refused {
+    if output.len()
+        < Record::WHOLE_HEAD + Record::WHOLE_PLACE * begun + Record::WHOLE_POINT * reads
+    {
+        return Finding::Refused(Refusal {
             question: 32,
-            event: count,
-        };
+            at: count,
+        });
     }
     find_lowest(starts, kinds, transactions, registers, values, n, output)
 }
@@ -102,22 +106,22 @@ fn check_call(
     ensures { λ r. ⌜ r ≡ callRefusal edition (now (starts .entry)) (columns (now (kinds .entry)) (now (transactions .entry)) (now (registers .entry)) (now (values .entry))) count prefix ⌝ }
 {
     if !events::columns::columns_hold(kinds, transactions, registers, values, count) {
-        return Checked::Refused {
+        return Checked::Refused(Refusal {
             question: 17,
-            event: count,
-        };
+            at: count,
+        });
     }
     if !events::starts::is_admitted(edition, starts) {
-        return Checked::Refused {
+        return Checked::Refused(Refusal {
             question: 3,
-            event: count,
-        };
+            at: count,
+        });
     }
     if prefix > count {
-        return Checked::Refused {
+        return Checked::Refused(Refusal {
             question: 18,
-            event: count,
-        };
+            at: count,
+        });
     }
     events::columns::check_columns(kinds, transactions, registers, values, count)
 }
@@ -134,7 +138,7 @@ pub fn find_marking(
     count: usize,
     prefix: usize,
     output: &mut [u8],
-) -> Found
+) -> Finding
     ensures { λ r. ⌜ gives r (now (output .exit)) ≡ foundAnswer edition (now (starts .entry)) (columns (now (kinds .entry)) (now (transactions .entry)) (now (registers .entry)) (now (values .entry))) count prefix (now (output .entry)) ⌝ }
 {
     let checked = check_call(
@@ -147,8 +151,8 @@ pub fn find_marking(
         count,
         prefix,
     );
-    if let Checked::Refused { question, event } = checked {
-        return Found::Refused { question, event };
+    if let Checked::Refused(refusal) = checked {
+        return Finding::Refused(refusal);
     }
     find_readable(
         starts,

@@ -32,7 +32,12 @@ fn put_places(out: &mut [u8], places: [u8; 10], count: usize)
     let mut i: usize = 0;
     while i < count {
         let code = wide(places[i]);
-        put_place(out, 6 + 8 * i, code / 2, code % 2);
+        put_place(
+            out,
+            Record::WHOLE_HEAD + Record::WHOLE_PLACE * i,
+            code / 2,
+            code % 2,
+        );
         i += 1;
     }
 }
@@ -127,7 +132,7 @@ pub fn write_marking(
         n,
         places,
         count,
-        6 + 8 * count,
+        Record::WHOLE_HEAD + Record::WHOLE_PLACE * count,
         out,
     )
 }

@@ -9,6 +9,8 @@ use mathlib.Core.Bool.{true}
 use mathlib.Core.List.{List}
 use Rattle.events.specs.declared.columns.Checked.{Checked}
 use Rattle.events.specs.declared.columns.Checked.the-variants.{Readable, Refused}
+use Rattle.events.specs.declared.refusal.Refusal.{Refusal}
+use Rattle.events.specs.Said.{refuse}
 use Rattle.events.specs.declared.event.Event.{Event}
 use Rattle.events.specs.Bytes.{Bytes}
 use Rattle.events.specs.Columns.{Columns, history}
@@ -21,9 +23,9 @@ use Rattle.opacity.specs.declared.verdict.Rule.{Rule}
 use Rattle.opacity.specs.Justification.{Justified}
 use Rattle.opacity.specs.Marking.{Marking, ReadableFor, markingBytes, verdict, AllHold, RuleD, FirstBroken, namedEvent, namedTransaction}
 use Rattle.opacity.proofs.Theorems.{accepted-iff-rules, accepted-iff-justified, broken-iff-first}
-use Rattle.marking.specs.declared.check.Judged.the-variants.{Ruled, HistoryRefused, MarkingRefused}
+use Rattle.marking.specs.declared.check.Checking.the-variants.{Ruled, HistoryRefused, MarkingRefused}
 use Rattle.marking.specs.File.{known, FileRead, content, refused, fileRead}
-use Rattle.marking.specs.Answer.{ruled, afterColumns, verdictAnswer, firstEditionAnswer}
+use Rattle.marking.specs.Answer.{ruled, afterColumns, verdictAnswer, firstEditionAnswer, Justifying}
 use Rattle.marking.proofs.ContentLaws.{content-readable}
 use Rattle.marking.proofs.ReadBack.{bytes-content}
 use Rattle.marking.proofs.WriteBack.{content-bytes}
@@ -43,17 +45,17 @@ readable-iff-bytes h r file by m = (
 
 module _ (edition : ℕ) (starts : List ℕ) (c : Columns) (n : ℕ) (file : List ℕ) where
   -- 17, 3 of the start values or an event's own question comes before all else, with its event; for 17 and 3 that is the count.
-  pub history-refused : (q event : ℕ) → (verdictAnswer edition starts c n file ≡ HistoryRefused q event) ↔ (historyAnswer edition starts c n ≡ Refused q event)
+  pub history-refused : (r : Refusal) → (verdictAnswer edition starts c n file ≡ HistoryRefused r) ↔ (historyAnswer edition starts c n ≡ Refused r)
   unfolding verdictAnswer
-  history-refused q event = (go (historyAnswer edition starts c n), λ e. rw e)
+  history-refused r = (go (historyAnswer edition starts c n), λ e. rw e)
     where
-      not-ruled : (x : FileRead) → ruled (startOf starts) (history c n) x ≡ HistoryRefused q event → ⊥
+      not-ruled : (x : FileRead) → ruled (startOf starts) (history c n) x ≡ HistoryRefused r → ⊥
       not-ruled (content m) d = let z : _≡_ {A = ℕ} 0 1 = cc in omega arith
       not-ruled (refused a b) d = let z : _≡_ {A = ℕ} 0 1 = cc in omega arith
 
-      go : (x : Checked) → afterColumns (startOf starts) (history c n) file x ≡ HistoryRefused q event → x ≡ Refused q event
+      go : (x : Checked) → afterColumns (startOf starts) (history c n) file x ≡ HistoryRefused r → x ≡ Refused r
       go Readable d = absurd (not-ruled (fileRead (known (history c n)) file) d)
-      go (Refused a b) d = cc
+      go (Refused a) d = cc
 
   module _ (fine : historyAnswer edition starts c n ≡ Readable) where
     after : verdictAnswer edition starts c n file ≡ ruled (startOf starts) (history c n) (fileRead (known (history c n)) file)
@@ -61,12 +63,12 @@ module _ (edition : ℕ) (starts : List ℕ) (c : Columns) (n : ℕ) (file : Lis
     after = rw fine
 
     -- Then the marking's questions, with the byte.
-    pub marking-refused : (q byte : ℕ) → (verdictAnswer edition starts c n file ≡ MarkingRefused q byte) ↔ (fileRead (known (history c n)) file ≡ refused q byte)
+    pub marking-refused : (q byte : ℕ) → (verdictAnswer edition starts c n file ≡ MarkingRefused (refuse q byte)) ↔ (fileRead (known (history c n)) file ≡ refused q byte)
     marking-refused q byte = (λ e. go (fileRead (known (history c n)) file) (sym after ∙ e), λ e. after ∙ ap (ruled (startOf starts) (history c n)) e)
       where
-        go : (x : FileRead) → ruled (startOf starts) (history c n) x ≡ MarkingRefused q byte → x ≡ refused q byte
+        go : (x : FileRead) → ruled (startOf starts) (history c n) x ≡ MarkingRefused (refuse q byte) → x ≡ refused q byte
         go (content m) d = absurd (let z : _≡_ {A = ℕ} 0 1 = cc in omega arith)
-        go (refused a b) d = cc
+        go (refused a b) d = let e : refuse a b ≡ refuse q byte = cc in λ i. refused (e i .question) (e i .at)
 
     -- Then the rules, on the content m of the file.
     module _ (m : Marking) (holds : fileRead (known (history c n)) file ≡ content m) where
@@ -107,14 +109,6 @@ module _ (edition : ℕ) (starts : List ℕ) (c : Columns) (n : ℕ) (file : Lis
 
 -- ---- the whole
 
--- the file holds a marking that is readable for the readable history in the columns and justifies it, keeping rule D
-pub record Justifying (edition : ℕ) (starts : List ℕ) (c : Columns) (n : ℕ) (file : List ℕ) : Type 0 where
-  pub fine : historyAnswer edition starts c n ≡ Readable
-  pub marking : Marking
-  pub holds : fileRead (known (history c n)) file ≡ content marking
-  pub justified : Justified (startOf starts) (history c n) (marking .places)
-  pub ruleD : RuleD (history c n) marking
-
 pub accepted-iff : (edition : ℕ) (starts : List ℕ) (c : Columns) (n : ℕ) (file : List ℕ) → (verdictAnswer edition starts c n file ≡ Ruled Accepted) ↔ Justifying edition starts c n file
 unfolding verdictAnswer
 accepted-iff edition starts c n file = (λ e. go (historyAnswer edition starts c n) refl e, λ j. accepted-justified edition starts c n file (j .fine) (j .marking) (j .holds) .1 (j .justified, j .ruleD))
@@ -127,7 +121,7 @@ accepted-iff edition starts c n file = (λ e. go (historyAnswer edition starts c
 
     go : (x : Checked) → historyAnswer edition starts c n ≡ x → afterColumns (startOf starts) (history c n) file x ≡ Ruled Accepted → Justifying edition starts c n file
     go Readable q d = found q (fileRead (known (history c n)) file) refl d
-    go (Refused a b) q d = absurd (let z : _≡_ {A = ℕ} 0 1 = cc in omega arith)
+    go (Refused a) q d = absurd (let z : _≡_ {A = ℕ} 0 1 = cc in omega arith)
 
 -- The bytes of a content that is readable for the history are judged as that content is; where its verdict is accepted, the checker accepts them.
 pub bytes-judged : (edition : ℕ) (starts : List ℕ) (c : Columns) (n : ℕ) (m : Marking) → historyAnswer edition starts c n ≡ Readable → ReadableFor (history c n) m

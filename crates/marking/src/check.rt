@@ -8,6 +8,7 @@ ghost use Rattle.marking.specs.Answer.{ruled, verdictAnswer};
 use crate::read::read_marking;
 use events::columns::Checked;
 use events::columns::check_history;
+use events::refusal::Refusal;
 use links::writes::links;
 use links::writes::store_reads;
 use opacity::counts::transactions_begun;
@@ -16,10 +17,10 @@ use rules::judge::judge;
 
 // The checker's answer: the verdict of the rules; the question that refuses the history, with its
 // event; or the question that refuses the marking, with its byte.
-pub enum Judged {
+pub enum Checking {
     Ruled(Verdict),
-    HistoryRefused { question: u8, event: usize },
-    MarkingRefused { question: u8, byte: usize },
+    HistoryRefused(Refusal),
+    MarkingRefused(Refusal),
 }
 
 // The answer for a readable history.
@@ -31,7 +32,7 @@ fn check_file(
     values: &[u32],
     count: usize,
     file: &[u8],
-) -> Judged
+) -> Checking
     requires { ⌜ Ground (columns (now kinds) (now transactions) (now registers) (now values)) count ⌝ }
     ensures { λ r. ⌜ r ≡ ruled (startOf (now (starts .entry))) (history (columns (now (kinds .entry)) (now (transactions .entry)) (now (registers .entry)) (now (values .entry))) count) (fileRead (known (history (columns (now (kinds .entry)) (now (transactions .entry)) (now (registers .entry)) (now (values .entry))) count)) (now (file .entry))) ⌝ }
 {
@@ -40,10 +41,10 @@ fn check_file(
     let reads = store_reads(kinds, registers, values, &link, count);
     let reading = read_marking(&reads, count, begun, file);
     if reading.question != 0 {
-        return Judged::MarkingRefused {
+        return Checking::MarkingRefused(Refusal {
             question: reading.question,
-            byte: reading.byte,
-        };
+            at: reading.byte,
+        });
     }
     let order = reading.order;
     let outcomes = reading.outcomes;
@@ -61,7 +62,7 @@ fn check_file(
         &outcomes,
         &gaps,
     );
-    Judged::Ruled(verdict)
+    Checking::Ruled(verdict)
 }
 
 // Checks a marking file against the history in the first `count` entries of the columns, of this
@@ -75,7 +76,7 @@ pub fn check_marking(
     values: &[u32],
     count: usize,
     file: &[u8],
-) -> Judged
+) -> Checking
     ensures { λ r. ⌜ r ≡ verdictAnswer edition (now (starts .entry)) (columns (now (kinds .entry)) (now (transactions .entry)) (now (registers .entry)) (now (values .entry))) count (now (file .entry)) ⌝ }
 {
     let checked = check_history(
@@ -88,7 +89,7 @@ pub fn check_marking(
         count,
     );
     match checked {
-        Checked::Refused { question, event } => Judged::HistoryRefused { question, event },
+        Checked::Refused(refusal) => Checking::HistoryRefused(refusal),
         Checked::Readable => check_file(
             starts,
             kinds,

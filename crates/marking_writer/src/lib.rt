@@ -14,9 +14,9 @@ pub fn put_head(out: &mut [u8])
     requires { ⌜ 6 ≤ length (now out) ⌝ }
     ensures { λ _. ⌜ now (out .exit) ≡ placed (now (out .entry)) 0 markingHead ⌝ }
 {
-    fields::put_u16(out, 0, 4);
+    fields::put_u16(out, 0, Record::HEAD_LENGTH);
     fields::put_u16(out, 2, Record::MARKING_HEAD);
-    fields::put_u16(out, 4, Record::EDITION);
+    fields::put_u16(out, Record::FRAME, Record::EDITION);
 }
 
 // A transaction and its outcome, 0 aborted or 1 committed.
@@ -24,9 +24,9 @@ pub fn put_place(out: &mut [u8], at: usize, transaction: u16, outcome: u16)
     requires { ⌜ at + 8 ≤ length (now out) ⌝ }
     ensures { λ _. ⌜ now (out .exit) ≡ placed (now (out .entry)) at (u16Bytes 6 ++ u16Bytes 32 ++ u16Bytes transaction ++ u16Bytes outcome) ⌝ }
 {
-    fields::put_u16(out, at, 6);
+    fields::put_u16(out, at, Record::PLACE_LENGTH);
     fields::put_u16(out, at + 2, Record::PLACE);
-    fields::put_u16(out, at + 4, transaction);
+    fields::put_u16(out, at + Record::FRAME, transaction);
     fields::put_u16(out, at + 6, outcome);
 }
 
@@ -35,9 +35,9 @@ pub fn put_point(out: &mut [u8], at: usize, event: u32, gap: u16)
     requires { ⌜ at + 10 ≤ length (now out) ⌝ }
     ensures { λ _. ⌜ now (out .exit) ≡ placed (now (out .entry)) at (u16Bytes 8 ++ u16Bytes 33 ++ u32Bytes event ++ u16Bytes gap) ⌝ }
 {
-    fields::put_u16(out, at, 8);
+    fields::put_u16(out, at, Record::POINT_LENGTH);
     fields::put_u16(out, at + 2, Record::POINT);
-    fields::put_u32(out, at + 4, event);
+    fields::put_u32(out, at + Record::FRAME, event);
     fields::put_u16(out, at + 8, gap);
 }
 
@@ -49,7 +49,7 @@ pub fn put_read(out: &mut [u8], at: usize, store: bool, event: u32, gap: u16) ->
 {
     if store {
         put_point(out, at, event, gap);
-        return at + 10;
+        return at + Record::WHOLE_POINT;
     }
     at
 }

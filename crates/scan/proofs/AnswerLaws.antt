@@ -8,6 +8,9 @@ use mathlib.Core.List.{List}
 use borrow.Author.Tests.{le-leb, lt-leb, leb-true}
 use Rattle.events.specs.declared.event.Event.{Event}
 use Rattle.events.specs.declared.columns.Checked.{Checked}
+use Rattle.events.specs.declared.refusal.Refusal.{Refusal}
+use Rattle.events.specs.Said.{atEvent, refuse}
+use Rattle.opacity.specs.Said.{scannedSaid}
 use Rattle.events.specs.Events.{begins}
 use Rattle.events.specs.Columns.{Columns, history, hold}
 use Rattle.events.specs.Starts.{startOf, admits}
@@ -18,36 +21,53 @@ use Rattle.events.proofs.ReadableLaws.{columns-readable, readable-columns}
 use Rattle.opacity.specs.declared.verdict.Scanned.{Scanned}
 use Rattle.opacity.specs.Scan.{scan}
 use Rattle.tables.proofs.CallLaws.{asked-none, asked-yes, asked-no, asked-e, then-readable, then-refused, then-e}
-use Rattle.scan.specs.declared.Judgement.{Judgement}
-use Rattle.scan.specs.Answer.{sizeRefusal, scanRefusal, decided, scanAnswer}
+use Rattle.scan.specs.declared.Scanning.{Scanning}
+use Rattle.scan.specs.Answer.{Passed, said, sizeRefusal, scanRefusal, decided, scanAnswer}
 
 -- ---- what is decided
 
-pub decided-refused : {x : Checked} {q e : ℕ} (s : Scanned) → x ≡ Checked.Refused q e → Judgement.Refused q e ≡ decided x s
+pub decided-refused : {x : Checked} {r : Refusal} (s : Scanned) → x ≡ Checked.Refused r → Scanning.Refused r ≡ decided x s
 unfolding decided
 decided-refused s x = rw x
 
-pub decided-scanned : {x : Checked} (s : Scanned) → x ≡ Checked.Readable → Judgement.Scanned s ≡ decided x s
+pub decided-scanned : {x : Checked} (s : Scanned) → x ≡ Checked.Readable → Scanning.Scanned s ≡ decided x s
 unfolding decided
 decided-scanned s x = rw x
 
-pub scanned-e : (x : Checked) (s t : Scanned) → decided x s ≡ Judgement.Scanned t → (x ≡ Checked.Readable) × (s ≡ t)
+pub scanned-e : (x : Checked) (s t : Scanned) → decided x s ≡ Scanning.Scanned t → (x ≡ Checked.Readable) × (s ≡ t)
 unfolding decided
-scanned-e (Checked.Refused q e) s t w = let z : _≡_ {A = ℕ} 0 1 = cc in absurd (omega arith)
+scanned-e (Checked.Refused r) s t w = let z : _≡_ {A = ℕ} 0 1 = cc in absurd (omega arith)
 scanned-e Checked.Readable s t w = let k : s ≡ t = cc in (refl, k)
 
-pub refused-e : (x : Checked) (s : Scanned) (q e : ℕ) → decided x s ≡ Judgement.Refused q e → x ≡ Checked.Refused q e
+pub refused-e : (x : Checked) (s : Scanned) (r : Refusal) → decided x s ≡ Scanning.Refused r → x ≡ Checked.Refused r
 unfolding decided
-refused-e (Checked.Refused p f) s q e w =
-    let a : p ≡ q = cc in
-    let b : f ≡ e = cc in
-    ap₂ (λ (i j : ℕ). Checked.Refused i j) a b
-refused-e Checked.Readable s q e w = let z : _≡_ {A = ℕ} 0 1 = cc in absurd (omega arith)
+refused-e (Checked.Refused p) s r w = let a : p ≡ r = cc in ap Checked.Refused a
+refused-e Checked.Readable s r w = let z : _≡_ {A = ℕ} 0 1 = cc in absurd (omega arith)
+
+-- ---- what is said
+
+pub said-scanned : (x : Scanning) (s : Scanned) → said x ≡ scannedSaid s → x ≡ Scanning.Scanned s
+unfolding said
+said-scanned (Scanning.Scanned Scanned.Opaque) Scanned.Opaque k = refl
+said-scanned (Scanning.Scanned (Scanned.Faulted e w)) (Scanned.Faulted f v) k = cc
+said-scanned (Scanning.Scanned Scanned.Opaque) (Scanned.Faulted f v) k = let z : _≡_ {A = ℕ} 0 1 = cc in absurd (omega arith)
+said-scanned (Scanning.Scanned (Scanned.Faulted e w)) Scanned.Opaque k = let z : _≡_ {A = ℕ} 0 1 = cc in absurd (omega arith)
+said-scanned (Scanning.Refused r) Scanned.Opaque k = let z : _≡_ {A = ℕ} 0 1 = cc in absurd (omega arith)
+said-scanned (Scanning.Refused r) (Scanned.Faulted f v) k = let z : _≡_ {A = ℕ} 0 1 = cc in absurd (omega arith)
+
+pub said-refused : (x : Scanning) (q e : ℕ) → said x ≡ atEvent q e → x ≡ Scanning.Refused (refuse q e)
+unfolding said
+said-refused (Scanning.Scanned Scanned.Opaque) q e k = let z : _≡_ {A = ℕ} 0 1 = cc in absurd (omega arith)
+said-refused (Scanning.Scanned (Scanned.Faulted f v)) q e k = let z : _≡_ {A = ℕ} 0 1 = cc in absurd (omega arith)
+said-refused (Scanning.Refused r) q e k =
+    let a : r .question ≡ q = cc in
+    let b : r .at ≡ e = cc in
+    λ i. Scanning.Refused (refuse (a i) (b i))
 
 -- ---- the questions
 
 module _ (h : List Event) (count : ℕ) where
-  pub refused-31 : 10 < begins h → sizeRefusal h count ≡ Checked.Refused 31 count
+  pub refused-31 : 10 < begins h → sizeRefusal h count ≡ Checked.Refused (refuse 31 count)
   unfolding sizeRefusal
   refused-31 l = asked-no count 31 _ _ (lt-leb (begins h) 10 l)
 
@@ -58,13 +78,6 @@ module _ (h : List Event) (count : ℕ) where
   pub passes-31-e : sizeRefusal h count ≡ Checked.Readable → begins h ≤ 10
   unfolding sizeRefusal
   passes-31-e x = leb-true _ _ (asked-e count 31 _ _ x .0)
-
--- what it tells that no question refuses the scan
-pub record Passed (edition : ℕ) (starts : List ℕ) (c : Columns) (count : ℕ) : Type 0 where
-  pub held : hold c count ≡ true
-  pub admitted : admits edition starts ≡ true
-  pub readable : readable (history c count) ≡ true
-  pub few : begins (history c count) ≤ 10
 
 module _ (edition : ℕ) (starts : List ℕ) (c : Columns) (count : ℕ) where
   pub passed : scanRefusal edition starts c count ≡ Checked.Readable → Passed edition starts c count
@@ -83,7 +96,7 @@ module _ (edition : ℕ) (starts : List ℕ) (c : Columns) (count : ℕ) where
 
   -- ---- the questions one after the other, as `scan_history` puts them
 
-  pub history-refused : {q e : ℕ} → historyAnswer edition starts c count ≡ Checked.Refused q e → Judgement.Refused q e ≡ scanAnswer edition starts c count
+  pub history-refused : {r : Refusal} → historyAnswer edition starts c count ≡ Checked.Refused r → Scanning.Refused r ≡ scanAnswer edition starts c count
   unfolding scanAnswer scanRefusal
   history-refused x = decided-refused _ (then-refused _ x)
 

@@ -3,9 +3,11 @@
 use mathlib.Core.Path.{_≡_, sym, ap, ap₂, _∙_}
 use mathlib.Core.Logic.{_↔_}
 use Prim.Native.Nat.{ℕ}
-use mathlib.Core.List.{List}
+use mathlib.Core.List.{List, []}
 use lib.ListN.{length}
 use Rattle.events.specs.declared.columns.Checked.{Checked}
+use Rattle.events.specs.declared.refusal.Refusal.{Refusal}
+use Rattle.events.specs.Said.{done, faulted, atEvent, refuse}
 use Rattle.events.specs.Columns.{Columns, history, hold}
 use Rattle.events.specs.Starts.{startOf, noStarts}
 use Rattle.events.specs.Questions.{historyAnswer}
@@ -16,9 +18,9 @@ use Rattle.opacity.specs.Scan.{scan, AllJustified, FaultsAt}
 use Rattle.opacity.specs.Serial.{AllSerial}
 use Rattle.opacity.proofs.Theorems.{opaque-iff, faulted-iff, opaque-iff-serial, cause-never-four}
 use Rattle.tables.specs.Calls.{thenChecked}
-use Rattle.scan.specs.declared.Judgement.{Judgement}
-use Rattle.scan.specs.Answer.{sizeRefusal, scanRefusal, decided, scanAnswer, firstEditionAnswer}
-use Rattle.scan.proofs.AnswerLaws.{decided-refused, decided-scanned, scanned-e, refused-e, passed}
+use Rattle.scan.specs.declared.Scanning.{Scanning}
+use Rattle.scan.specs.Answer.{said, Passed, sizeRefusal, scanRefusal, decided, scanAnswer, firstEditionAnswer}
+use Rattle.scan.proofs.AnswerLaws.{said-scanned, said-refused, passes, decided-refused, decided-scanned, scanned-e, refused-e, passed}
 
 -- a call: edition, start values, columns and count
 module _ (edition : ℕ) (starts : List ℕ) (c : Columns) (count : ℕ) where
@@ -31,17 +33,17 @@ module _ (edition : ℕ) (starts : List ℕ) (c : Columns) (count : ℕ) where
   whole = history-length c count
 
   -- A question refuses exactly where it is the first that says no.
-  pub refused-exactly : (q e : ℕ) → (scanAnswer edition starts c count ≡ Judgement.Refused q e) ↔ (scanRefusal edition starts c count ≡ Checked.Refused q e)
+  pub refused-exactly : (r : Refusal) → (scanAnswer edition starts c count ≡ Scanning.Refused r) ↔ (scanRefusal edition starts c count ≡ Checked.Refused r)
   unfolding scanAnswer
-  refused-exactly q e = (λ x. refused-e _ _ q e x, λ x. sym (decided-refused (scan (startOf starts) (history c count)) x))
+  refused-exactly r = (λ x. refused-e _ _ r x, λ x. sym (decided-refused (scan (startOf starts) (history c count)) x))
 
   -- The answer is what the scan of the history says, where no question refuses.
-  scanned-exactly : Passes → (s : Scanned) → (scanAnswer edition starts c count ≡ Judgement.Scanned s) ↔ (scan (startOf starts) (history c count) ≡ s)
+  scanned-exactly : Passes → (s : Scanned) → (scanAnswer edition starts c count ≡ Scanning.Scanned s) ↔ (scan (startOf starts) (history c count) ≡ s)
   unfolding scanAnswer
-  scanned-exactly x s = (λ w. scanned-e _ _ s w .1, λ e. sym (decided-scanned (scan (startOf starts) (history c count)) x) ∙ ap Judgement.Scanned e)
+  scanned-exactly x s = (λ w. scanned-e _ _ s w .1, λ e. sym (decided-scanned (scan (startOf starts) (history c count)) x) ∙ ap Scanning.Scanned e)
 
   -- The answer is opaque exactly where every prefix has a justification, each with the start values of the whole.
-  pub opaque-exactly : Passes → (scanAnswer edition starts c count ≡ Judgement.Scanned Scanned.Opaque) ↔ AllJustified (startOf starts) (history c count)
+  pub opaque-exactly : Passes → (scanAnswer edition starts c count ≡ Scanning.Scanned Scanned.Opaque) ↔ AllJustified (startOf starts) (history c count)
   opaque-exactly x =
       let s = scanned-exactly x Scanned.Opaque in
       let o = opaque-iff (startOf starts) (history c count) (passed edition starts c count x .readable) in
@@ -49,21 +51,52 @@ module _ (edition : ℕ) (starts : List ℕ) (c : Columns) (count : ℕ) where
 
   -- The answer is faulted at e exactly where the prefix that ends with e has no justification and every shorter one has; the cause is
   -- that of e's kind.
-  pub faulted-exactly : Passes → (e w : ℕ) → (scanAnswer edition starts c count ≡ Judgement.Scanned (Scanned.Faulted e w)) ↔ FaultsAt (startOf starts) (history c count) e w
+  pub faulted-exactly : Passes → (e w : ℕ) → (scanAnswer edition starts c count ≡ Scanning.Scanned (Scanned.Faulted e w)) ↔ FaultsAt (startOf starts) (history c count) e w
   faulted-exactly x e w =
       let s = scanned-exactly x (Scanned.Faulted e w) in
       let f = faulted-iff (startOf starts) (history c count) (passed edition starts c count x .readable) e w in
       (λ y. f .0 (s .0 y), λ g. s .1 (f .1 g))
 
   -- Opaque in the words of a machine that runs the transactions one at a time.
-  pub opaque-serial : Passes → (scanAnswer edition starts c count ≡ Judgement.Scanned Scanned.Opaque) ↔ AllSerial (startOf starts) (history c count)
+  pub opaque-serial : Passes → (scanAnswer edition starts c count ≡ Scanning.Scanned Scanned.Opaque) ↔ AllSerial (startOf starts) (history c count)
   opaque-serial x =
       let s = scanned-exactly x Scanned.Opaque in
       let o = opaque-iff-serial (startOf starts) (history c count) (passed edition starts c count x .readable) in
       (λ w. o .0 (s .0 w), λ f. s .1 (o .1 f))
 
+  -- What the scan says, for every call: opaque exactly where no question says no and every prefix has a justification,
+  pub opaque-said : (said (scanAnswer edition starts c count) ≡ done []) ↔ (Passed edition starts c count × AllJustified (startOf starts) (history c count))
+  unfolding scanAnswer said
+  opaque-said = (
+    λ x.
+        let o = said-scanned _ Scanned.Opaque x in
+        let p = scanned-e _ _ _ o .0 in
+        (passed edition starts c count p, opaque-exactly p .0 o),
+    λ w. ap said (opaque-exactly (passes edition starts c count (w .0)) .1 (w .1)),
+  )
+
+  -- event e and its cause exactly where no question says no and the prefix that ends with e is the first without one,
+  pub faulted-said : (e w : ℕ) → (said (scanAnswer edition starts c count) ≡ faulted e w)
+      ↔ (Passed edition starts c count × FaultsAt (startOf starts) (history c count) e w)
+  unfolding scanAnswer said
+  faulted-said e w = (
+    λ x.
+        let o = said-scanned _ (Scanned.Faulted e w) x in
+        let p = scanned-e _ _ _ o .0 in
+        (passed edition starts c count p, faulted-exactly p e w .0 o),
+    λ f. ap said (faulted-exactly (passes edition starts c count (f .0)) e w .1 (f .1)),
+  )
+
+  -- and a question with its event exactly where it is the first that says no.
+  pub refused-said : (q e : ℕ) → (said (scanAnswer edition starts c count) ≡ atEvent q e) ↔ (scanRefusal edition starts c count ≡ Checked.Refused (refuse q e))
+  unfolding said
+  refused-said q e = (
+    λ x. refused-exactly (refuse q e) .0 (said-refused _ q e x),
+    λ x. ap said (refused-exactly (refuse q e) .1 x),
+  )
+
   -- Cause 4 never comes: a begin, a call and a returned write leave a justification.
-  pub no-cause-four : (e : ℕ) → scanAnswer edition starts c count ≡ Judgement.Scanned (Scanned.Faulted e 4) → ⊥
+  pub no-cause-four : (e : ℕ) → scanAnswer edition starts c count ≡ Scanning.Scanned (Scanned.Faulted e 4) → ⊥
   unfolding scanAnswer
   no-cause-four e x =
       let s = scanned-e _ _ _ x in

@@ -12,6 +12,7 @@ ghost use Rattle.tables.specs.Order.{Judged};
 ghost use Rattle.scan.specs.Answer.{sizeRefusal, decided, scanAnswer};
 use events::columns::Checked;
 use events::record::Record;
+use events::refusal::Refusal;
 use opacity::verdict::Scanned;
 
 mod witness;
@@ -20,9 +21,9 @@ mod witness;
 const SEARCHED: usize = 10;
 
 // The scan's answer: opaque, or the event and the cause; or the question that says no, with its event.
-pub enum Judgement {
+pub enum Scanning {
     Scanned(Scanned),
-    Refused { question: u8, event: usize },
+    Refused(Refusal),
 }
 
 // How many transactions have begun, with one event more.
@@ -129,19 +130,19 @@ fn scan_readable(
     registers: &[u16],
     values: &[u32],
     count: usize,
-) -> Judgement
+) -> Scanning
     requires { ⌜ HoldsReadable (columns (now kinds) (now transactions) (now registers) (now values)) count ⌝ }
     ensures { λ r. ⌜ r ≡ decided (sizeRefusal (history (columns (now (kinds .entry)) (now (transactions .entry)) (now (registers .entry)) (now (values .entry))) count) count) (scan (startOf (now (starts .entry))) (history (columns (now (kinds .entry)) (now (transactions .entry)) (now (registers .entry)) (now (values .entry))) count)) ⌝ }
 {
     let begun = opacity::counts::transactions_begun(kinds, transactions, registers, values, count);
     if begun > SEARCHED {
-        return Judgement::Refused {
+        return Scanning::Refused(Refusal {
             question: 31,
-            event: count,
-        };
+            at: count,
+        });
     }
     let scanned = scan_prefixes(starts, kinds, transactions, registers, values, count);
-    Judgement::Scanned(scanned)
+    Scanning::Scanned(scanned)
 }
 
 // Is every prefix of the first count events justified? If not, the last event of the first that is not, and the cause. Each
@@ -154,7 +155,7 @@ pub fn scan_history(
     registers: &[u16],
     values: &[u32],
     count: usize,
-) -> Judgement
+) -> Scanning
     ensures { λ r. ⌜ r ≡ scanAnswer edition (now (starts .entry)) (columns (now (kinds .entry)) (now (transactions .entry)) (now (registers .entry)) (now (values .entry))) count ⌝ }
 {
     let checked = events::columns::check_history(
@@ -166,8 +167,8 @@ pub fn scan_history(
         values,
         count,
     );
-    if let Checked::Refused { question, event } = checked {
-        return Judgement::Refused { question, event };
+    if let Checked::Refused(refusal) = checked {
+        return Scanning::Refused(refusal);
     }
     scan_readable(starts, kinds, transactions, registers, values, count)
 }

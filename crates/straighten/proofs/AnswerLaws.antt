@@ -12,6 +12,8 @@ use lib.ListN.{length, take}
 use Rattle.events.specs.declared.event.Event.{Event}
 use Rattle.events.specs.declared.columns.Checked.{Checked}
 use Rattle.events.specs.declared.columns.Checked.the-variants.{Readable, Refused as Refuses}
+use Rattle.events.specs.declared.refusal.Refusal.{Refusal}
+use Rattle.events.specs.Said.{refuse}
 use Rattle.events.specs.Lists.{_and_, all, lowest}
 use Rattle.events.specs.Bytes.{over}
 use Rattle.events.specs.Events.{eventAt}
@@ -27,7 +29,7 @@ use Rattle.marking.specs.File.{known, FileRead, content, refused, fileRead}
 use Rattle.straighten.specs.declared.Straightening.{Straightening}
 use Rattle.straighten.specs.declared.Straightening.the-variants.{Straightened, Broken, Refused, MarkingRefused}
 use Rattle.straighten.specs.Straight.{straightened, movedEvents}
-use Rattle.straighten.specs.Answer.{Given, gives, settled, judged, roomy, afterFile, afterColumns, straightenedAnswer}
+use Rattle.straighten.specs.Answer.{Given, gives, settled, judged, roomy, afterFile, afterColumns, straightenedAnswer, Passes, Short}
 use Rattle.straighten.proofs.StraightLaws.{accepted-same}
 
 -- ---- 15 is no question of the history
@@ -47,42 +49,36 @@ entry-not-15 : (p : Past) (e : Event) → refusal (columnQuestions p e) ≡ some
 unfolding columnQuestions eventQuestions all _and_
 entry-not-15 p e = not-asked 15 (columnQuestions p e) refl
 
-pub never-15 : (edition : ℕ) (starts : List ℕ) (c : Columns) (n e : ℕ) → historyAnswer edition starts c n ≡ Refuses 15 e → ⊥
+pub never-15 : (edition : ℕ) (starts : List ℕ) (c : Columns) (n e : ℕ) → historyAnswer edition starts c n ≡ Refuses (refuse 15 e) → ⊥
 unfolding historyAnswer eventsAnswer refusedAt
 never-15 edition starts c n e x = held (hold c n) (admits edition starts) x
   where
-    at-event : (i : ℕ) (o : Option ℕ) → refusedAt (history c n) i ≡ o → refusedWith i o ≡ some (Refuses 15 e) → ⊥
-    at-event i none w k = Option·none-ne-some (Refuses 15 e) k
+    at-event : (i : ℕ) (o : Option ℕ) → refusedAt (history c n) i ≡ o → refusedWith i o ≡ some (Refuses (refuse 15 e)) → ⊥
+    at-event i none w k = Option·none-ne-some (Refuses (refuse 15 e)) k
     at-event i (some q) w k =
-        let s : Refuses q i ≡ Refuses 15 e = Option·some-injective (Refuses q i) (Refuses 15 e) k in
-        let a : q ≡ 15 = cc in
+        let s : Refuses (refuse q i) ≡ Refuses (refuse 15 e) = Option·some-injective (Refuses (refuse q i)) (Refuses (refuse 15 e)) k in
+        let b : refuse q i ≡ refuse 15 e = cc in
+        let a : q ≡ 15 = ap (λ (r : Refusal). r .question) b in
         entry-not-15 (past (take i (history c n))) (eventAt (history c n) i) (w ∙ ap some a)
 
-    events : (o : Option Checked) → lowest (λ i. refusedWith i (refusedAt (history c n) i)) (length (history c n)) ≡ o → Option·getD o Readable ≡ Refuses 15 e → ⊥
+    events : (o : Option Checked) → lowest (λ i. refusedWith i (refusedAt (history c n) i)) (length (history c n)) ≡ o → Option·getD o Readable ≡ Refuses (refuse 15 e) → ⊥
     events none w k = let z : _≡_ {A = ℕ} 0 1 = cc in omega arith
     events (some y) w k =
         let r : Lowest (λ i. refusedWith i (refusedAt (history c n) i)) (length (history c n)) y = lowest-some _ _ w in
         at-event (r .at) (refusedAt (history c n) (r .at)) refl (r .answer ∙ ap some k)
 
-    held : (b a : Bool) → cond b (cond a (eventsAnswer (history c n)) (Refuses 3 n)) (Refuses 17 n) ≡ Refuses 15 e → ⊥
+    held : (b a : Bool) → cond b (cond a (eventsAnswer (history c n)) (Refuses (refuse 3 n))) (Refuses (refuse 17 n)) ≡ Refuses (refuse 15 e) → ⊥
     held true true k = events (lowest (λ i. refusedWith i (refusedAt (history c n) i)) (length (history c n))) refl k
-    held true false k = let z : _≡_ {A = ℕ} 3 15 = cc in omega arith
-    held false a k = let z : _≡_ {A = ℕ} 17 15 = cc in omega arith
+    held true false k =
+        let b : refuse 3 n ≡ refuse 15 e = cc in
+        let z : _≡_ {A = ℕ} 3 15 = ap (λ (r : Refusal). r .question) b in
+        omega arith
+    held false a k =
+        let b : refuse 17 n ≡ refuse 15 e = cc in
+        let z : _≡_ {A = ℕ} 17 15 = ap (λ (r : Refusal). r .question) b in
+        omega arith
 
 -- ---- the cases
-
--- no question refuses the call, and m is what the file holds
-pub record Passes (edition : ℕ) (starts : List ℕ) (c : Columns) (n : ℕ) (file output list : List ℕ) (m : Marking) : Type 0 where
-  pub fine : historyAnswer edition starts c n ≡ Readable
-  pub holds : fileRead (known (history c n)) file ≡ content m
-  pub room : roomy (history c n) file output list ≡ true
-
--- 15: history and file are readable, and the output or the list is too short
-pub record Short (edition : ℕ) (starts : List ℕ) (c : Columns) (n : ℕ) (file output list : List ℕ) : Type 0 where
-  pub fine : historyAnswer edition starts c n ≡ Readable
-  pub marking : Marking
-  pub holds : fileRead (known (history c n)) file ≡ content marking
-  pub room : roomy (history c n) file output list ≡ false
 
 -- a marking is written
 pub record Done (edition : ℕ) (starts : List ℕ) (c : Columns) (n : ℕ) (file output list : List ℕ) (k l : ℕ) (output′ list′ : List ℕ) : Type 0 where
@@ -95,16 +91,16 @@ pub record Done (edition : ℕ) (starts : List ℕ) (c : Columns) (n : ℕ) (fil
   pub entries : list′ ≡ over (movedEvents (startOf starts) (history c n) marking) list
 
 module _ (edition : ℕ) (starts : List ℕ) (c : Columns) (n : ℕ) (file output list : List ℕ) where
-  pub history-said : (q e : ℕ) → historyAnswer edition starts c n ≡ Refuses q e → straightenedAnswer edition starts c n file output list ≡ gives (Refused q e) output list
+  pub history-said : (r : Refusal) → historyAnswer edition starts c n ≡ Refuses r → straightenedAnswer edition starts c n file output list ≡ gives (Refused r) output list
   unfolding straightenedAnswer
-  history-said q e x = rw x
+  history-said r x = rw x
 
   pub marking-said : (q byte : ℕ) → historyAnswer edition starts c n ≡ Readable → fileRead (known (history c n)) file ≡ refused q byte
-      → straightenedAnswer edition starts c n file output list ≡ gives (MarkingRefused q byte) output list
+      → straightenedAnswer edition starts c n file output list ≡ gives (MarkingRefused (refuse q byte)) output list
   unfolding straightenedAnswer
   marking-said q byte x y = rw (x, y)
 
-  pub short-said : Short edition starts c n file output list → straightenedAnswer edition starts c n file output list ≡ gives (Refused 15 n) output list
+  pub short-said : Short edition starts c n file output list → straightenedAnswer edition starts c n file output list ≡ gives (Refused (refuse 15 n)) output list
   unfolding straightenedAnswer
   short-said s = rw (s .fine, s .holds, s .room)
 
@@ -140,9 +136,9 @@ module _ (edition : ℕ) (starts : List ℕ) (c : Columns) (n : ℕ) (file outpu
   Tells (Broken q i t) o s =
       ((m : Marking) × Passes edition starts c n file output list m × (verdict (startOf starts) (history c n) (straightened (startOf starts) (history c n) m) ≡ Breaks q i t))
       × (o ≡ output) × (s ≡ list)
-  Tells (Refused q e) o s = ((historyAnswer edition starts c n ≡ Refuses q e) ⊎ (Short edition starts c n file output list × (q ≡ 15) × (e ≡ n))) × (o ≡ output) × (s ≡ list)
-  Tells (MarkingRefused q byte) o s =
-      ((historyAnswer edition starts c n ≡ Readable) × (fileRead (known (history c n)) file ≡ refused q byte))
+  Tells (Refused r) o s = ((historyAnswer edition starts c n ≡ Refuses r) ⊎ (Short edition starts c n file output list × (r ≡ refuse 15 n))) × (o ≡ output) × (s ≡ list)
+  Tells (MarkingRefused r) o s =
+      ((historyAnswer edition starts c n ≡ Readable) × (fileRead (known (history c n)) file ≡ refused (r .question) (r .at)))
       × (o ≡ output) × (s ≡ list)
 
   TellsOf : Given → Type 0
@@ -158,9 +154,9 @@ module _ (edition : ℕ) (starts : List ℕ) (c : Columns) (n : ℕ) (file outpu
       rules m p (Breaks q i t) v = ((m, p, v), refl, refl)
 
       buffers : (fine : historyAnswer edition starts c n ≡ Readable) (m : Marking) (holds : fileRead (known (history c n)) file ≡ content m) (b : Bool) → roomy (history c n) file output list ≡ b
-          → TellsOf (cond b (judged (startOf starts) (history c n) m output list) (gives (Refused 15 n) output list))
+          → TellsOf (cond b (judged (startOf starts) (history c n) m output list) (gives (Refused (refuse 15 n)) output list))
       buffers fine m holds true r = rules m (record { fine = fine; holds = holds; room = r }) (verdict (startOf starts) (history c n) (straightened (startOf starts) (history c n) m)) refl
-      buffers fine m holds false r = (inr (record { fine = fine; marking = m; holds = holds; room = r }, refl, refl), refl, refl)
+      buffers fine m holds false r = (inr (record { fine = fine; marking = m; holds = holds; room = r }, refl), refl, refl)
 
       marking : (fine : historyAnswer edition starts c n ≡ Readable) (x : FileRead) → fileRead (known (history c n)) file ≡ x
           → TellsOf (afterFile (startOf starts) (history c n) n file output list x)
@@ -169,7 +165,7 @@ module _ (edition : ℕ) (starts : List ℕ) (c : Columns) (n : ℕ) (file outpu
 
       columns : (x : Checked) → historyAnswer edition starts c n ≡ x → TellsOf (afterColumns (startOf starts) (history c n) n file output list x)
       columns Readable e = marking e (fileRead (known (history c n)) file) refl
-      columns (Refuses q i) e = (inl e, refl, refl)
+      columns (Refuses r) e = (inl e, refl, refl)
 
   pub told : (r : Straightening) → straightenedAnswer edition starts c n file output list .result ≡ r
       → Tells r (straightenedAnswer edition starts c n file output list .output) (straightenedAnswer edition starts c n file output list .list)

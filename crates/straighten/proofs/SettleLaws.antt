@@ -26,6 +26,7 @@ use Rattle.marking.proofs.CheckLaws.{ground, reads-same}
 use Rattle.marking.proofs.WriteBack.{content-bytes}
 use Rattle.marking_writer.specs.Points.{pointsTo}
 use Rattle.marking_writer.proofs.PointLaws.{points-are}
+use Rattle.events.specs.Said.{refuse}
 use Rattle.straighten.specs.declared.Straightening.the-variants.{Refused}
 use Rattle.straighten.specs.Straight.{straightened, movedEvents}
 use Rattle.straighten.specs.Answer.{gives, settled, judged, roomy, afterFile}
@@ -62,7 +63,7 @@ settled-judged start h m m′ output list bytes moved v straight says eb em =
 
 module _ (start : ℕ → ℕ) (h : List Event) (n : ℕ) (file output list : List ℕ) (m : Marking) (holds : fileRead (known h) file ≡ content m)
     (room : Bool) (asked : room ≡ (leb (length file) (length output) and leb (length (storeReads h)) (length list))) where
-  pub after-short : room ≡ false → gives (Refused 15 n) output list ≡ afterFile start h n file output list (fileRead (known h) file)
+  pub after-short : room ≡ false → gives (Refused (refuse 15 n)) output list ≡ afterFile start h n file output list (fileRead (known h) file)
   unfolding roomy
   after-short z = let e : roomy h file output list ≡ false = sym asked ∙ z in rw (holds, e)
 

@@ -11,6 +11,8 @@ use lib.ListN.{length, take, drop}
 use Rattle.events.specs.declared.event.Event.{Event}
 use Rattle.events.specs.declared.columns.Checked.{Checked}
 use Rattle.events.specs.declared.columns.Checked.the-variants.{Readable, Refused as Refuses}
+use Rattle.events.specs.declared.refusal.Refusal.{Refusal}
+use Rattle.events.specs.Said.{refuse}
 use Rattle.events.specs.Bytes.{Bytes, over}
 use Rattle.events.specs.Events.{eventAt}
 use Rattle.events.specs.Columns.{Columns, history, hold}
@@ -25,7 +27,7 @@ use Rattle.opacity.specs.declared.verdict.Verdict.the-variants.{Accepted, Broke
 use Rattle.opacity.specs.Justification.{Justified}
 use Rattle.opacity.specs.Marking.{Marking, ReadableFor, markingBytes, verdict, ruleNumber}
 use Rattle.opacity.proofs.Rules.{justified-accepted}
-use Rattle.marking.specs.declared.check.Judged.the-variants.{Ruled}
+use Rattle.marking.specs.declared.check.Checking.the-variants.{Ruled}
 use Rattle.marking.specs.File.{known, FileRead, content, refused, fileRead}
 use Rattle.marking.specs.Answer.{verdictAnswer}
 use Rattle.marking.proofs.ContentLaws.{content-readable}
@@ -35,10 +37,10 @@ use Rattle.marking.proofs.Theorems.{by-verdict, accepted-iff, bytes-judged}
 use Rattle.straighten.specs.declared.Straightening.{Straightening}
 use Rattle.straighten.specs.declared.Straightening.the-variants.{Straightened, Broken, Refused, MarkingRefused}
 use Rattle.straighten.specs.Straight.{straightened, movedEvents, Rises, FirstIllegal}
-use Rattle.straighten.specs.Answer.{Given, gives, settled, judged, roomy, afterFile, afterColumns, straightenedAnswer, firstEditionAnswer}
+use Rattle.straighten.specs.Answer.{Given, gives, settled, judged, roomy, afterFile, afterColumns, straightenedAnswer, firstEditionAnswer, Passes, Short}
 use Rattle.straighten.proofs.StraightLaws.{moved-rise, straight-readable, straight-accepted, straight-length}
 use Rattle.straighten.proofs.RuleLaws.{order-rules-same, never-D, E-first-illegal}
-use Rattle.straighten.proofs.AnswerLaws.{never-15, Passes, Short, Done, history-said, marking-said, short-said, done-said, broken-said, same-said, told}
+use Rattle.straighten.proofs.AnswerLaws.{never-15, Done, history-said, marking-said, short-said, done-said, broken-said, same-said, told}
 
 -- a call: edition, start values, columns, count, the marking's file, and the output and the list as they were
 module _ (edition : ℕ) (starts : List ℕ) (c : Columns) (n : ℕ) (file output list : List ℕ) where
@@ -52,24 +54,26 @@ module _ (edition : ℕ) (starts : List ℕ) (c : Columns) (n : ℕ) (file outpu
   -- ---- which answer comes when
 
   -- 17, 3 of the start values or an event's own question comes before all else, with its event, for 17 and 3 the count; 15 is not among them.
-  pub history-refused : (q e : ℕ) → (q ≡ 15 → ⊥) → (given .result ≡ Refused q e) ↔ (historyAnswer edition starts c n ≡ Refuses q e)
-  history-refused q e u = (
-    λ x. ⊎-elim (λ a. a) (λ b. absurd (u (b .1))) (told edition starts c n file output list (Refused q e) x .0),
-    λ x. ap (λ (g : Given). g .result) (history-said edition starts c n file output list q e x),
+  pub history-refused : (r : Refusal) → (r .question ≡ 15 → ⊥) → (given .result ≡ Refused r) ↔ (historyAnswer edition starts c n ≡ Refuses r)
+  history-refused r u = (
+    λ x. ⊎-elim (λ a. a) (λ b. absurd (u (ap (λ (y : Refusal). y .question) (b .1)))) (told edition starts c n file output list (Refused r) x .0),
+    λ x. ap (λ (g : Given). g .result) (history-said edition starts c n file output list r x),
   )
 
   -- Then the marking's questions, with the byte.
-  pub marking-refused : (q byte : ℕ) → (given .result ≡ MarkingRefused q byte) ↔ ((historyAnswer edition starts c n ≡ Readable) × (fileRead (known events) file ≡ refused q byte))
+  pub marking-refused : (q byte : ℕ) → (given .result ≡ MarkingRefused (refuse q byte)) ↔ ((historyAnswer edition starts c n ≡ Readable) × (fileRead (known events) file ≡ refused q byte))
   marking-refused q byte = (
-    λ x. told edition starts c n file output list (MarkingRefused q byte) x .0,
+    λ x. told edition starts c n file output list (MarkingRefused (refuse q byte)) x .0,
     λ w. ap (λ (g : Given). g .result) (marking-said edition starts c n file output list q byte (w .0) (w .1)),
   )
 
   -- Then 15, with the count: the output is shorter than the marking, or the list has no entry for every store read.
-  pub short-refused : (e : ℕ) → (given .result ≡ Refused 15 e) ↔ (Short edition starts c n file output list × (e ≡ n))
+  pub short-refused : (e : ℕ) → (given .result ≡ Refused (refuse 15 e)) ↔ (Short edition starts c n file output list × (e ≡ n))
   short-refused e = (
-    λ x. ⊎-elim (λ a. absurd (never-15 edition starts c n e a)) (λ b. (b .0, b .2)) (told edition starts c n file output list (Refused 15 e) x .0),
-    λ w. ap (λ (g : Given). g .result) (short-said edition starts c n file output list (w .0)) ∙ ap (Refused 15) (sym (w .1)),
+    λ x.
+        ⊎-elim (λ a. absurd (never-15 edition starts c n e a)) (λ b. (b .0, ap (λ (y : Refusal). y .at) (b .1)))
+        (told edition starts c n file output list (Refused (refuse 15 e)) x .0),
+    λ w. ap (λ (g : Given). g .result) (short-said edition starts c n file output list (w .0)) ∙ ap (λ (i : ℕ). Refused (refuse 15 i)) (sym (w .1)),
   )
 
   -- Whatever the answer is but success, output and list are as they were.
@@ -79,8 +83,8 @@ module _ (edition : ℕ) (starts : List ℕ) (c : Columns) (n : ℕ) (file outpu
       go : (r : Straightening) → given .result ≡ r → (given .output ≡ output) × (given .list ≡ list)
       go (Straightened k l) x = absurd (u k l x)
       go (Broken q i t) x = let w = told edition starts c n file output list (Broken q i t) x in (w .1, w .2)
-      go (Refused q e) x = let w = told edition starts c n file output list (Refused q e) x in (w .1, w .2)
-      go (MarkingRefused q byte) x = let w = told edition starts c n file output list (MarkingRefused q byte) x in (w .1, w .2)
+      go (Refused r) x = let w = told edition starts c n file output list (Refused r) x in (w .1, w .2)
+      go (MarkingRefused r) x = let w = told edition starts c n file output list (MarkingRefused r) x in (w .1, w .2)
 
   -- ---- where no question refuses the call, and m is what the file holds
 
@@ -213,7 +217,7 @@ module _ (edition : ℕ) (starts : List ℕ) (c : Columns) (n : ℕ) (file outpu
 module _ (start : ℕ → ℕ) (h : List Event) (n : ℕ) (file output list before marks : List ℕ) (same : roomy h file output list ≡ roomy h file before marks) where
   result-same : (x : Checked) → afterColumns start h n file output list x .result ≡ afterColumns start h n file before marks x .result
   unfolding judged
-  result-same (Refuses q e) = refl
+  result-same (Refuses r) = refl
   result-same Readable = content-same (fileRead (known h) file)
     where
       rules-same : (bytes moved : List ℕ) (v : Verdict) → settled bytes moved output list v .result ≡ settled bytes moved before marks v .result
@@ -221,7 +225,7 @@ module _ (start : ℕ → ℕ) (h : List Event) (n : ℕ) (file output list befo
       rules-same m moved (Breaks q i t) = refl
 
       room-same : (m : Marking) (b : Bool)
-          → cond b (judged start h m output list) (gives (Refused 15 n) output list) .result ≡ cond b (judged start h m before marks) (gives (Refused 15 n) before marks) .result
+          → cond b (judged start h m output list) (gives (Refused (refuse 15 n)) output list) .result ≡ cond b (judged start h m before marks) (gives (Refused (refuse 15 n)) before marks) .result
       room-same m true = rules-same _ _ (verdict start h (straightened start h m))
       room-same m false = refl
 

@@ -1,7 +1,8 @@
 -- The answer of the straightening: the questions of the checker, then 15, then the verdict on the straightened marking.
 -- Assumes nothing.
 use Prim.Native.Nat.{ℕ}
-use mathlib.Core.Bool.{Bool, cond}
+use mathlib.Core.Path.{_≡_}
+use mathlib.Core.Bool.{Bool, true, false, cond}
 use mathlib.Core.List.{List, [], _∷_}
 use lib.Dec.{leb}
 use lib.ListN.{length}
@@ -12,12 +13,14 @@ use Rattle.events.specs.Lists.{_and_}
 use Rattle.events.specs.Bytes.{over}
 use Rattle.events.specs.Columns.{Columns, history}
 use Rattle.events.specs.Starts.{startOf}
+use Rattle.events.specs.Said.{Said, done, eventRefused, byteRefused, refuse}
 use Rattle.events.specs.Questions.{columnsAnswer, historyAnswer}
 use Rattle.opacity.specs.declared.verdict.Verdict.{Verdict}
 use Rattle.opacity.specs.declared.verdict.Verdict.the-variants.{Accepted, Broken as Breaks}
 use Rattle.opacity.specs.Transactions.{storeReads}
 use Rattle.opacity.specs.Justification.{zeros}
-use Rattle.opacity.specs.Marking.{Marking, markingBytes, verdict, ruleNumber}
+use Rattle.opacity.specs.Said.{verdictSaid}
+use Rattle.opacity.specs.Marking.{Marking, markingBytes, verdict}
 use Rattle.marking.specs.File.{known, FileRead, content, refused, fileRead}
 use Rattle.straighten.specs.declared.Straightening.{Straightening}
 use Rattle.straighten.specs.declared.Straightening.the-variants.{Straightened, Broken, Refused, MarkingRefused}
@@ -48,11 +51,11 @@ unfoldable pub roomy : List Event → List ℕ → List ℕ → List ℕ → Boo
 roomy h file output list = leb (length file) (length output) and leb (length (storeReads h)) (length list)
 
 abbrev pub afterFile : (ℕ → ℕ) → List Event → ℕ → List ℕ → List ℕ → List ℕ → FileRead → Given
-afterFile start h n file output list (refused q byte) = gives (MarkingRefused q byte) output list
-afterFile start h n file output list (content m) = cond (roomy h file output list) (judged start h m output list) (gives (Refused 15 n) output list)
+afterFile start h n file output list (refused q byte) = gives (MarkingRefused (refuse q byte)) output list
+afterFile start h n file output list (content m) = cond (roomy h file output list) (judged start h m output list) (gives (Refused (refuse 15 n)) output list)
 
 abbrev pub afterColumns : (ℕ → ℕ) → List Event → ℕ → List ℕ → List ℕ → List ℕ → Checked → Given
-afterColumns start h n file output list (Refuses q event) = gives (Refused q event) output list
+afterColumns start h n file output list (Refuses r) = gives (Refused r) output list
 afterColumns start h n file output list Readable = afterFile start h n file output list (fileRead (known h) file)
 
 -- 17, 3 of the edition and the start values, and each event's own questions, then the marking's, then 15 with the count, then the rules
@@ -63,16 +66,23 @@ straightenedAnswer edition starts c n file output list = afterColumns (startOf s
 unfoldable pub firstEditionAnswer : Columns → ℕ → List ℕ → List ℕ → List ℕ → Given
 firstEditionAnswer c n file output list = afterColumns zeros (history c n) n file output list (columnsAnswer c n)
 
--- the paper's number of an answer: the question that says no, or 0; its values: the length of the marking and how many points were moved, or
--- the broken rule (1 for A to 5 for E) with its event and transaction, or the event or byte of the question
-unfoldable pub number : Straightening → ℕ
-number (Straightened n k) = 0
-number (Broken r e t) = 0
-number (Refused q e) = q
-number (MarkingRefused q byte) = q
+-- what the straightening says: the length of the marking and how many points were moved, or the rule with its event and transaction, or the
+-- question about history or buffers with its event, or the marking's with its byte
+unfoldable pub said : Straightening → Said
+said (Straightened n k) = done (n ∷ k ∷ [])
+said (Broken r e t) = verdictSaid (Breaks r e t)
+said (Refused r) = eventRefused r
+said (MarkingRefused r) = byteRefused r
 
-unfoldable pub values : Straightening → List ℕ
-values (Straightened n k) = n ∷ k ∷ []
-values (Broken r e t) = ruleNumber r ∷ e ∷ t ∷ []
-values (Refused q e) = e ∷ []
-values (MarkingRefused q byte) = byte ∷ []
+-- no question refuses the call, and m is what the file holds
+pub record Passes (edition : ℕ) (starts : List ℕ) (c : Columns) (n : ℕ) (file output list : List ℕ) (m : Marking) : Type 0 where
+  pub fine : historyAnswer edition starts c n ≡ Readable
+  pub holds : fileRead (known (history c n)) file ≡ content m
+  pub room : roomy (history c n) file output list ≡ true
+
+-- 15: history and file are readable, and the output or the list is too short
+pub record Short (edition : ℕ) (starts : List ℕ) (c : Columns) (n : ℕ) (file output list : List ℕ) : Type 0 where
+  pub fine : historyAnswer edition starts c n ≡ Readable
+  pub marking : Marking
+  pub holds : fileRead (known (history c n)) file ≡ content marking
+  pub room : roomy (history c n) file output list ≡ false

@@ -25,6 +25,7 @@ use crate::write::list_moved;
 use crate::write::write_marking;
 use events::columns::Checked;
 use events::columns::check_history;
+use events::refusal::Refusal;
 use links::writes::links;
 use links::writes::store_reads;
 use marking::read::read_marking;
@@ -46,14 +47,8 @@ pub enum Straightening {
         event: usize,
         transaction: usize,
     },
-    Refused {
-        question: u8,
-        event: usize,
-    },
-    MarkingRefused {
-        question: u8,
-        byte: usize,
-    },
+    Refused(Refusal),
+    MarkingRefused(Refusal),
 }
 
 // What is written, by the verdict: only where no rule is broken the marking in the arrays, and the
@@ -189,17 +184,17 @@ fn straighten_file(
     let reads = store_reads(kinds, registers, values, &link, count);
     let reading = read_marking(&reads, count, begun, file);
     if reading.question != 0 {
-        return Straightening::MarkingRefused {
+        return Straightening::MarkingRefused(Refusal {
             question: reading.question,
-            byte: reading.byte,
-        };
+            at: reading.byte,
+        });
     }
     let points = counts::store_reads(kinds, transactions, registers, values, count);
     if !has_room(file.len(), output.len(), points, moved.len()) {
-        return Straightening::Refused {
+        return Straightening::Refused(Refusal {
             question: 15,
-            event: count,
-        };
+            at: count,
+        });
     }
     let order = reading.order;
     let outcomes = reading.outcomes;
@@ -249,7 +244,7 @@ pub fn straighten(
         count,
     );
     match checked {
-        Checked::Refused { question, event } => Straightening::Refused { question, event },
+        Checked::Refused(refusal) => Straightening::Refused(refusal),
         Checked::Readable => straighten_file(
             starts,
             kinds,

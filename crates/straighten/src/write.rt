@@ -9,6 +9,7 @@ ghost use Rattle.events.specs.Lists.{push};
 ghost use Rattle.opacity.specs.Marking.{outcomeNumber, placeBytes, flat};
 ghost use Rattle.rules.specs.Orders.{placesOf};
 ghost use Rattle.straighten.specs.Tables.{listed, pointsIn, bytesIn};
+use events::record::Record;
 use marking_writer::put_head;
 use marking_writer::put_place;
 use marking_writer::put_read;
@@ -32,7 +33,12 @@ fn put_places(order: &[u16; 64], outcomes: &[u8; 64], begun: usize, out: &mut [u
     let mut k: usize = 0;
     while k < begun {
         let outcome = outcome_number(outcomes[k]);
-        put_place(out, 6 + 8 * k, order[k], outcome);
+        put_place(
+            out,
+            Record::WHOLE_HEAD + Record::WHOLE_PLACE * k,
+            order[k],
+            outcome,
+        );
         k += 1;
     }
 }
@@ -76,7 +82,13 @@ pub fn write_marking(
 {
     put_head(out);
     put_places(order, outcomes, begun, out);
-    put_points(reads, gaps, count, 6 + 8 * begun, out)
+    put_points(
+        reads,
+        gaps,
+        count,
+        Record::WHOLE_HEAD + Record::WHOLE_PLACE * begun,
+        out,
+    )
 }
 
 // An event, if it is moved; and where the next one goes.

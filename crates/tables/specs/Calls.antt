@@ -13,4 +13,4 @@ askedOf count qs = Option·getD (refusedWith count (refusal qs)) Checked.Readabl
 -- the first of two groups that refuses
 unfoldable pub thenChecked : Checked → Checked → Checked
 thenChecked Checked.Readable b = b
-thenChecked (Checked.Refused q e) b = Checked.Refused q e
+thenChecked (Checked.Refused r) b = Checked.Refused r

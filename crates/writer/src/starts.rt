@@ -41,9 +41,9 @@ fn put_start(out: &mut [u8], at: usize, register: u16, value: u32)
     if value == 0 {
         return;
     }
-    put_u16(out, at, 8);
+    put_u16(out, at, Record::START_LENGTH);
     put_u16(out, at + 2, Record::START);
-    put_u16(out, at + 4, register);
+    put_u16(out, at + Record::FRAME, register);
     put_u32(out, at + 6, value);
 }
 

@@ -5,7 +5,7 @@ use native.Mathlib.Omega.{arith}
 use denote.Ref.{now}
 use borrow.Author.Needs.{needs}
 use Rattle.events.specs.Columns.{columns, history}
-use Rattle.scan.specs.declared.Judgement.{Judgement}
+use Rattle.scan.specs.declared.Scanning.{Scanning}
 use Rattle.scan.proofs.AnswerLaws.{decided-refused, decided-scanned, refused-31, passes-31}
 use Rattle.scan.proofs.scan_readable.Statement.{statement}
 use Rattle.scan.proofs.scan_readable.Tie as tie
@@ -29,7 +29,7 @@ returns-2 c =
     let cs = columns (now (start .args .kinds)) (now (start .args .transactions)) (now (start .args .registers)) (now (start .args .values)) in
     let h = history cs (start .args .count) in
     let e = c .before .before .transactions-begun .ensures in
-    ap Judgement.Scanned (c .scan-prefixes .ensures)
+    ap Scanning.Scanned (c .scan-prefixes .ensures)
     ∙ decided-scanned _ (passes-31 h (start .args .count) (omega (arith, c .before .if1 .left)))
 
 pub scan-readable-spec : {M : Type 1} → statement M

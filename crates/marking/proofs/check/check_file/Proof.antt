@@ -6,7 +6,7 @@ use Rattle.events.specs.Columns.{columns, history}
 use Rattle.links.proofs.WriteLaws.{links-back}
 use Rattle.events.specs.Starts.{startOf}
 use Rattle.rules.proofs.JudgeLaws.{ground-tabled}
-use Rattle.marking.specs.declared.check.Judged.the-variants.{Ruled}
+use Rattle.marking.specs.declared.check.Checking.the-variants.{Ruled}
 use Rattle.marking.specs.Answer.{ruled}
 use Rattle.marking.proofs.CheckLaws.{none-beyond, given, reading-refused, reading-content}
 use Rattle.marking.proofs.check.check_file.Statement.{statement}
