@@ -1,66 +1,64 @@
-// Every answer as one number, code × 2^32 + place. A place of 2^32 or more is told as 2^32 − 1, so
-// that it never spills into the code. Each function gives the number that specs/Codes gives for its
-// answer. Required: a history that is read has an edition and an event count below 65,536, a cause is 1
-// to 4, a broken rule names an event below 2,048 and a transaction below 64, a straightened marking has
-// a length and a number moved below 65,536, and each number of a tally is below 256; `exports`, whose
-// calls tell these numbers, shows that of every answer of reader, scan, checker, straightening and
-// tally (its proofs/Bounds).
+// Every answer as one number, code × 2^32 + place: each function gives the number that specs/Codes gives
+// for what its answer says. Required: each number of the answer stands where it is put. The library that
+// other programs call, which tells these numbers, shows that of every answer (its proofs/Bounds).
 ghost use mathlib.Core.Path.{_≡_};
-ghost use Prim.Native.Nat.{_+_, min};
+ghost use Prim.Native.Nat.{_+_, _≤_};
+ghost use Rattle.events.specs.Said.{broken};
 ghost use Rattle.opacity.specs.Marking.{ruleNumber};
-ghost use Rattle.codes.specs.Codes.{most, packed, halves, pair, tallyPlace, readCode, writtenCode, foundCode, scannedCode, scanCode, brokenCode, verdictCode, checkCode, countCode, straightenCode, tallyCode, CauseKnown, Named, NamesKnown, ReadKnown, ScanKnown, CheckKnown, Halves, StraightenKnown, Pair, Bytes, TallyKnown};
+ghost use Rattle.opacity.specs.Said.{scannedSaid, verdictSaid};
+ghost use Rattle.reader.specs.Reading.{said as readSaid};
+ghost use Rattle.writer.specs.Writing.{said as writtenSaid};
+ghost use Rattle.finder.specs.Answer.{said as foundSaid};
+ghost use Rattle.scan.specs.Answer.{said as scanSaid};
+ghost use Rattle.marking.specs.Answer.{said as checkSaid};
+ghost use Rattle.straighten.specs.Answer.{said as straightSaid};
+ghost use Rattle.counts.specs.Answer.{countSaid, tallySaid};
+ghost use Rattle.codes.specs.Codes.{most, packed, halves, pair, coded, Halves, Known, Quarters};
 use counts::Counting;
 use counts::Tallying;
 use counts::tally::Tally;
-use finder::Found;
-use marking::check::Judged;
+use events::refusal::Refusal;
+use finder::Finding;
+use marking::check::Checking;
 use opacity::verdict::Rule;
 use opacity::verdict::Scanned;
 use opacity::verdict::Verdict;
 use reader::HistoryRead;
 use reader::Reading;
-use scan::Judgement;
+use scan::Scanning;
 use straighten::Straightening;
 use writer::Writing;
 
 // What a code is multiplied by.
 const SHIFT: u64 = 4294967296;
 
-// The largest place that is told.
-const MOST: usize = 4294967295;
+// The codes that are no question's: none found, before a cause, and before a rule.
+const NONE: u32 = 100;
 
-// A place, or the largest that is told.
-fn told(place: usize) -> u64
-    ensures { λ r. ⌜ r ≡ min place most ⌝ }
-{
-    if place > MOST {
-        return MOST as u64;
-    }
-    place as u64
-}
+const CAUSES: u32 = 100;
 
 // A code and a place as one number.
 fn pack(code: u32, place: usize) -> u64
+    requires { ⌜ place ≤ most ⌝ }
     ensures { λ r. ⌜ r ≡ packed code place ⌝ }
 {
-    let low = told(place);
-    (code as u64) * SHIFT + low
+    (code as u64) * SHIFT + (place as u64)
 }
 
 // Two numbers as one place.
 fn join(high: usize, low: usize) -> usize
     requires { ⌜ Halves high low ⌝ }
-    ensures { λ r. ⌜ r ≡ halves high low ⌝ }
+    ensures { λ r. ⌜ (r ≡ halves high low) × (r ≤ most) ⌝ }
 {
     high * 65536 + low
 }
 
-// Two numbers as one half of a place.
-fn half(high: usize, low: usize) -> usize
-    requires { ⌜ Pair high low ⌝ }
-    ensures { λ r. ⌜ r ≡ pair high low ⌝ }
+// A refusal, whatever the answer: the question and what it is about.
+fn refusal_code(refusal: Refusal) -> u64
+    requires { ⌜ refusal .at ≤ most ⌝ }
+    ensures { λ r. ⌜ r ≡ packed (refusal .question) (refusal .at) ⌝ }
 {
-    high * 256 + low
+    pack(refusal.question as u32, refusal.at)
 }
 
 // The rules' codes.
@@ -76,74 +74,76 @@ fn rule_code(rule: Rule) -> u32
     }
 }
 
+// A broken rule: the place holds the event and the transaction.
+fn broken_code(rule: Rule, event: usize, transaction: usize) -> u64
+    requires { ⌜ Halves event transaction ⌝ }
+    ensures { λ r. ⌜ r ≡ coded (broken (ruleNumber rule) event transaction) ⌝ }
+{
+    pack(rule_code(rule), join(event, transaction))
+}
+
 // The reader's answer: the place of a history holds its edition and its event count.
 pub fn read_code(answer: HistoryRead) -> u64
-    requires { ⌜ ReadKnown answer ⌝ }
-    ensures { λ r. ⌜ r ≡ readCode answer ⌝ }
+    requires { ⌜ Known (readSaid answer) ⌝ }
+    ensures { λ r. ⌜ r ≡ coded (readSaid answer) ⌝ }
 {
     let reading = answer.reading;
     let edition = answer.edition as usize;
     match reading {
         Reading::Read(count) => pack(0, join(edition, count)),
-        Reading::Refused { question, byte } => pack(question as u32, byte),
+        Reading::Refused(refusal) => refusal_code(refusal),
     }
 }
 
 // The writer's answer.
 pub fn written_code(answer: Writing) -> u64
-    ensures { λ r. ⌜ r ≡ writtenCode answer ⌝ }
+    requires { ⌜ Known (writtenSaid answer) ⌝ }
+    ensures { λ r. ⌜ r ≡ coded (writtenSaid answer) ⌝ }
 {
     match answer {
         Writing::Written(length) => pack(0, length),
-        Writing::Refused { question, event } => pack(question as u32, event),
+        Writing::Refused(refusal) => refusal_code(refusal),
     }
 }
 
 // The finder's answer.
-pub fn found_code(answer: Found) -> u64
-    ensures { λ r. ⌜ r ≡ foundCode answer ⌝ }
+pub fn found_code(answer: Finding) -> u64
+    requires { ⌜ Known (foundSaid answer) ⌝ }
+    ensures { λ r. ⌜ r ≡ coded (foundSaid answer) ⌝ }
 {
     match answer {
-        Found::Marking(length) => pack(0, length),
-        Found::None => pack(100, 0),
-        Found::Refused { question, event } => pack(question as u32, event),
+        Finding::Marking(length) => pack(0, length),
+        Finding::None => pack(NONE, 0),
+        Finding::Refused(refusal) => refusal_code(refusal),
     }
 }
 
 // What the scan of a history says.
 fn scanned_code(scanned: Scanned) -> u64
-    requires { ⌜ CauseKnown scanned ⌝ }
-    ensures { λ r. ⌜ r ≡ scannedCode scanned ⌝ }
+    requires { ⌜ Known (scannedSaid scanned) ⌝ }
+    ensures { λ r. ⌜ r ≡ coded (scannedSaid scanned) ⌝ }
 {
     match scanned {
         Scanned::Opaque => pack(0, 0),
-        Scanned::Faulted { event, cause } => pack(100 + cause, event),
+        Scanned::Faulted { event, cause } => pack(CAUSES + cause, event),
     }
 }
 
 // The scan's answer.
-pub fn scan_code(answer: Judgement) -> u64
-    requires { ⌜ ScanKnown answer ⌝ }
-    ensures { λ r. ⌜ r ≡ scanCode answer ⌝ }
+pub fn scan_code(answer: Scanning) -> u64
+    requires { ⌜ Known (scanSaid answer) ⌝ }
+    ensures { λ r. ⌜ r ≡ coded (scanSaid answer) ⌝ }
 {
     match answer {
-        Judgement::Scanned(scanned) => scanned_code(scanned),
-        Judgement::Refused { question, event } => pack(question as u32, event),
+        Scanning::Scanned(scanned) => scanned_code(scanned),
+        Scanning::Refused(refusal) => refusal_code(refusal),
     }
-}
-
-// A broken rule: the place holds the event and the transaction.
-fn broken_code(rule: Rule, event: usize, transaction: usize) -> u64
-    requires { ⌜ Named event transaction ⌝ }
-    ensures { λ r. ⌜ r ≡ brokenCode rule event transaction ⌝ }
-{
-    pack(rule_code(rule), join(event, transaction))
 }
 
 // The verdict of the rules.
 fn verdict_code(verdict: Verdict) -> u64
-    requires { ⌜ NamesKnown verdict ⌝ }
-    ensures { λ r. ⌜ r ≡ verdictCode verdict ⌝ }
+    requires { ⌜ Known (verdictSaid verdict) ⌝ }
+    ensures { λ r. ⌜ r ≡ coded (verdictSaid verdict) ⌝ }
 {
     match verdict {
         Verdict::Accepted => pack(0, 0),
@@ -156,21 +156,21 @@ fn verdict_code(verdict: Verdict) -> u64
 }
 
 // The checker's answer.
-pub fn check_code(answer: Judged) -> u64
-    requires { ⌜ CheckKnown answer ⌝ }
-    ensures { λ r. ⌜ r ≡ checkCode answer ⌝ }
+pub fn check_code(answer: Checking) -> u64
+    requires { ⌜ Known (checkSaid answer) ⌝ }
+    ensures { λ r. ⌜ r ≡ coded (checkSaid answer) ⌝ }
 {
     match answer {
-        Judged::Ruled(verdict) => verdict_code(verdict),
-        Judged::HistoryRefused { question, event } => pack(question as u32, event),
-        Judged::MarkingRefused { question, byte } => pack(question as u32, byte),
+        Checking::Ruled(verdict) => verdict_code(verdict),
+        Checking::HistoryRefused(refusal) => refusal_code(refusal),
+        Checking::MarkingRefused(refusal) => refusal_code(refusal),
     }
 }
 
 // The answer of the straightening: the place of a marking holds the number moved and the length.
 pub fn straighten_code(answer: Straightening) -> u64
-    requires { ⌜ StraightenKnown answer ⌝ }
-    ensures { λ r. ⌜ r ≡ straightenCode answer ⌝ }
+    requires { ⌜ Known (straightSaid answer) ⌝ }
+    ensures { λ r. ⌜ r ≡ coded (straightSaid answer) ⌝ }
 {
     match answer {
         Straightening::Straightened { length, moved } => pack(0, join(moved, length)),
@@ -179,39 +179,39 @@ pub fn straighten_code(answer: Straightening) -> u64
             event,
             transaction,
         } => broken_code(rule, event, transaction),
-        Straightening::Refused { question, event } => pack(question as u32, event),
-        Straightening::MarkingRefused { question, byte } => pack(question as u32, byte),
+        Straightening::Refused(refusal) => refusal_code(refusal),
+        Straightening::MarkingRefused(refusal) => refusal_code(refusal),
     }
 }
 
 // The answer of a count.
 pub fn count_code(answer: Counting) -> u64
-    ensures { λ r. ⌜ r ≡ countCode answer ⌝ }
+    requires { ⌜ Known (countSaid answer) ⌝ }
+    ensures { λ r. ⌜ r ≡ coded (countSaid answer) ⌝ }
 {
     match answer {
         Counting::Counted(number) => pack(0, number),
-        Counting::Refused { question, event } => pack(question as u32, event),
+        Counting::Refused(refusal) => refusal_code(refusal),
     }
 }
 
 // The four numbers of a tally as one place.
 fn tally_place(tally: Tally) -> usize
-    requires { ⌜ Bytes tally ⌝ }
-    ensures { λ r. ⌜ r ≡ tallyPlace tally ⌝ }
+    requires { ⌜ Quarters (tally .committed) (tally .aborted) (tally .pending) (tally .live) ⌝ }
+    ensures { λ r. ⌜ (r ≡ halves (pair (tally .committed) (tally .aborted)) (pair (tally .pending) (tally .live))) × (r ≤ most) ⌝ }
 {
-    join(
-        half(tally.committed, tally.aborted),
-        half(tally.pending, tally.live),
-    )
+    let high = tally.committed * 256 + tally.aborted;
+    let low = tally.pending * 256 + tally.live;
+    join(high, low)
 }
 
 // The answer of the tally.
 pub fn tally_code(answer: Tallying) -> u64
-    requires { ⌜ TallyKnown answer ⌝ }
-    ensures { λ r. ⌜ r ≡ tallyCode answer ⌝ }
+    requires { ⌜ Known (tallySaid answer) ⌝ }
+    ensures { λ r. ⌜ r ≡ coded (tallySaid answer) ⌝ }
 {
     match answer {
         Tallying::Tallied(tally) => pack(0, tally_place(tally)),
-        Tallying::Refused { question, event } => pack(question as u32, event),
+        Tallying::Refused(refusal) => refusal_code(refusal),
     }
 }

@@ -1,7 +1,7 @@
 -- `codes::broken_code` meets its contract.
 -- Assumes nothing.
 use mathlib.Core.Path.{ap₂, _∙_}
-use Rattle.codes.specs.Codes.{packed}
+use Rattle.codes.specs.Codes.{packed, coded}
 use borrow.Author.Needs.{needs}
 use Rattle.codes.proofs.broken_code.Statement.{statement}
 use Rattle.codes.proofs.broken_code.Tie as tie
@@ -13,10 +13,11 @@ join-requires : tie.Need-join-requires
 join-requires c κs = search needs
 
 pack-requires : tie.Need-pack-requires
-pack-requires c κs = search needs
+pack-requires c κs = c .join .ensures .1
 
 returns : tie.Need-returns
-returns c = c .pack .ensures ∙ ap₂ packed (c .before .before .rule-code .ensures) (c .before .join .ensures)
+unfolding coded
+returns c = c .pack .ensures ∙ ap₂ packed (c .before .before .rule-code .ensures) (c .before .join .ensures .0)
 
 pub broken-code-spec : {M : Type 1} → statement M
 broken-code-spec = tie.close (tie.spec rule-code-requires join-requires pack-requires returns)

@@ -1,7 +1,9 @@
 -- `codes::check_code` meets its contract.
 -- Assumes nothing.
-use mathlib.Core.Path.{sym, ap, _∙_}
-use Rattle.codes.specs.Codes.{checkCode}
+use mathlib.Core.Path.{_≡_, refl, sym, ap, subst, _∙_}
+use Rattle.marking.specs.declared.check.Checking.{Checking}
+use Rattle.marking.specs.Answer.{said}
+use Rattle.codes.specs.Codes.{coded, Known}
 use borrow.Author.Needs.{needs}
 use Rattle.codes.proofs.check_code.Statement.{statement}
 use Rattle.codes.proofs.check_code.Tie as tie
@@ -10,37 +12,34 @@ enum-known-answer : tie.Need-enum-known-answer
 enum-known-answer c = search needs
 
 verdict-code-requires : tie.Need-verdict-code-requires
-verdict-code-requires c κs = c .before .before .before .pre _ (c .before .answer .given .1)
+unfolding said
+verdict-code-requires c κs = subst (λ (x : Checking). Known (said x)) (c .before .answer .given .1) (c .before .before .before .pre)
 
 enum-known-answer-2 : tie.Need-enum-known-answer-2
 enum-known-answer-2 c = search needs
 
-cast-pack : tie.Need-cast-pack
-cast-pack c = search needs
-
-pack-requires : tie.Need-pack-requires
-pack-requires c κs = search needs
+refusal-code-requires : tie.Need-refusal-code-requires
+unfolding said
+refusal-code-requires c κs = subst (λ (x : Checking). Known (said x)) (c .before .answer2 .given .1) (c .before .before .before .pre) .1
 
 enum-known-answer-3 : tie.Need-enum-known-answer-3
 enum-known-answer-3 c = search needs
 
-cast-pack-2 : tie.Need-cast-pack-2
-cast-pack-2 c = search needs
-
-pack-requires-2 : tie.Need-pack-requires-2
-pack-requires-2 c κs = search needs
+refusal-code-requires-2 : tie.Need-refusal-code-requires-2
+unfolding said
+refusal-code-requires-2 c κs = subst (λ (x : Checking). Known (said x)) (c .before .answer3 .given .1) (c .before .before .before .pre) .1
 
 returns : tie.Need-returns
-unfolding checkCode
-returns c = c .verdict-code .ensures ∙ sym (ap checkCode (c .before .before .answer .given .1))
+unfolding said
+returns c = c .verdict-code .ensures ∙ sym (ap (λ (x : Checking). coded (said x)) (c .before .before .answer .given .1))
 
 returns-2 : tie.Need-returns-2
-unfolding checkCode
-returns-2 c = c .pack .ensures ∙ sym (ap checkCode (c .before .before .answer2 .given .1))
+unfolding said coded
+returns-2 c = c .refusal-code .ensures ∙ sym (ap (λ (x : Checking). coded (said x)) (c .before .before .answer2 .given .1))
 
 returns-3 : tie.Need-returns-3
-unfolding checkCode
-returns-3 c = c .pack2 .ensures ∙ sym (ap checkCode (c .before .before .answer3 .given .1))
+unfolding said coded
+returns-3 c = c .refusal-code2 .ensures ∙ sym (ap (λ (x : Checking). coded (said x)) (c .before .before .answer3 .given .1))
 
 pub check-code-spec : {M : Type 1} → statement M
 check-code-spec =
@@ -49,11 +48,9 @@ check-code-spec =
     enum-known-answer
     verdict-code-requires
     enum-known-answer-2
-    cast-pack
-    pack-requires
+    refusal-code-requires
     enum-known-answer-3
-    cast-pack-2
-    pack-requires-2
+    refusal-code-requires-2
     returns
     returns-2
     returns-3)

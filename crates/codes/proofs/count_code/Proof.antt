@@ -1,8 +1,9 @@
 -- `codes::count_code` meets its contract.
 -- Assumes nothing.
-use mathlib.Core.Path.{sym, ap, _∙_}
-use Rattle.counts.specs.Answer.{number as countNumber, value as countValue}
-use Rattle.codes.specs.Codes.{countCode}
+use mathlib.Core.Path.{_≡_, refl, sym, ap, subst, _∙_}
+use Rattle.counts.specs.declared.Counting.{Counting}
+use Rattle.counts.specs.Answer.{countSaid}
+use Rattle.codes.specs.Codes.{coded, place, Known}
 use borrow.Author.Needs.{needs}
 use Rattle.codes.proofs.count_code.Statement.{statement}
 use Rattle.codes.proofs.count_code.Tie as tie
@@ -11,24 +12,23 @@ enum-known-answer : tie.Need-enum-known-answer
 enum-known-answer c = search needs
 
 pack-requires : tie.Need-pack-requires
-pack-requires c κs = search needs
+unfolding countSaid
+pack-requires c κs = subst (λ (x : Counting). Known (countSaid x)) (c .before .answer .given .1) (c .before .before .before .pre)
 
 enum-known-answer-2 : tie.Need-enum-known-answer-2
 enum-known-answer-2 c = search needs
 
-cast-pack : tie.Need-cast-pack
-cast-pack c = search needs
-
-pack-requires-2 : tie.Need-pack-requires-2
-pack-requires-2 c κs = search needs
+refusal-code-requires : tie.Need-refusal-code-requires
+unfolding countSaid
+refusal-code-requires c κs = subst (λ (x : Counting). Known (countSaid x)) (c .before .answer2 .given .1) (c .before .before .before .pre) .1
 
 returns : tie.Need-returns
-unfolding countCode countNumber countValue
-returns c = c .pack .ensures ∙ sym (ap countCode (c .before .before .answer .given .1))
+unfolding countSaid coded place
+returns c = c .pack .ensures ∙ sym (ap (λ (x : Counting). coded (countSaid x)) (c .before .before .answer .given .1))
 
 returns-2 : tie.Need-returns-2
-unfolding countCode countNumber countValue
-returns-2 c = c .pack2 .ensures ∙ sym (ap countCode (c .before .before .answer2 .given .1))
+unfolding countSaid coded
+returns-2 c = c .refusal-code .ensures ∙ sym (ap (λ (x : Counting). coded (countSaid x)) (c .before .before .answer2 .given .1))
 
 pub count-code-spec : {M : Type 1} → statement M
 count-code-spec =
@@ -37,7 +37,6 @@ count-code-spec =
     enum-known-answer
     pack-requires
     enum-known-answer-2
-    cast-pack
-    pack-requires-2
+    refusal-code-requires
     returns
     returns-2)

@@ -1,7 +1,9 @@
 -- `codes::found_code` meets its contract.
 -- Assumes nothing.
-use mathlib.Core.Path.{sym, ap, _∙_}
-use Rattle.codes.specs.Codes.{foundCode}
+use mathlib.Core.Path.{_≡_, refl, sym, ap, subst, _∙_}
+use Rattle.finder.specs.declared.Finding.{Finding}
+use Rattle.finder.specs.Answer.{said}
+use Rattle.codes.specs.Codes.{coded, place, Known}
 use borrow.Author.Needs.{needs}
 use Rattle.codes.proofs.found_code.Statement.{statement}
 use Rattle.codes.proofs.found_code.Tie as tie
@@ -10,7 +12,8 @@ enum-known-answer : tie.Need-enum-known-answer
 enum-known-answer c = search needs
 
 pack-requires : tie.Need-pack-requires
-pack-requires c κs = search needs
+unfolding said
+pack-requires c κs = subst (λ (x : Finding). Known (said x)) (c .before .answer .given .1) (c .before .before .before .pre)
 
 enum-told : tie.Need-enum-told
 enum-told c = search needs
@@ -21,23 +24,21 @@ pack-requires-2 c κs = search needs
 enum-known-answer-2 : tie.Need-enum-known-answer-2
 enum-known-answer-2 c = search needs
 
-cast-pack : tie.Need-cast-pack
-cast-pack c = search needs
-
-pack-requires-3 : tie.Need-pack-requires-3
-pack-requires-3 c κs = search needs
+refusal-code-requires : tie.Need-refusal-code-requires
+unfolding said
+refusal-code-requires c κs = subst (λ (x : Finding). Known (said x)) (c .before .answer2 .given .1) (c .before .before .before .pre) .1
 
 returns : tie.Need-returns
-unfolding foundCode
-returns c = c .pack .ensures ∙ sym (ap foundCode (c .before .before .answer .given .1))
+unfolding said coded place
+returns c = c .pack .ensures ∙ sym (ap (λ (x : Finding). coded (said x)) (c .before .before .answer .given .1))
 
 returns-2 : tie.Need-returns-2
-unfolding foundCode
-returns-2 c = c .pack2 .ensures ∙ sym (ap foundCode (c .before .enum-told .given .1))
+unfolding said coded
+returns-2 c = c .pack2 .ensures ∙ sym (ap (λ (x : Finding). coded (said x)) (c .before .enum-told .given .1))
 
 returns-3 : tie.Need-returns-3
-unfolding foundCode
-returns-3 c = c .pack3 .ensures ∙ sym (ap foundCode (c .before .before .answer2 .given .1))
+unfolding said coded
+returns-3 c = c .refusal-code .ensures ∙ sym (ap (λ (x : Finding). coded (said x)) (c .before .before .answer2 .given .1))
 
 pub found-code-spec : {M : Type 1} → statement M
 found-code-spec =
@@ -48,8 +49,7 @@ found-code-spec =
     enum-told
     pack-requires-2
     enum-known-answer-2
-    cast-pack
-    pack-requires-3
+    refusal-code-requires
     returns
     returns-2
     returns-3)

@@ -1,14 +1,10 @@
--- `codes::pack` meets its contract.
--- Assumes nothing.
-use mathlib.Core.Path.{ap}
-use Prim.Native.Nat.{ℕ, _+_, _*_}
+use mathlib.Core.Path.{refl}
 use Rattle.codes.specs.Codes.{packed}
 use borrow.Author.Needs.{needs}
 use Rattle.codes.proofs.pack.Statement.{statement}
 use Rattle.codes.proofs.pack.Tie as tie
-
-told-requires : tie.Need-told-requires
-told-requires c κs = search needs
+use Rattle.codes.proofs.pack.Reads as reads
+use Rattle.codes.proofs.pack.Lts as lts
 
 mul-result : tie.Need-mul-result
 mul-result c = search needs
@@ -18,7 +14,7 @@ add-result c = search needs
 
 returns : tie.Need-returns
 unfolding packed
-returns c = ap (λ (n : ℕ). c .before .args .code * 4294967296 + n) (c .told .ensures)
+returns c = refl
 
 pub pack-spec : {M : Type 1} → statement M
-pack-spec = tie.close (tie.spec told-requires mul-result add-result returns)
+pack-spec = tie.close (tie.spec mul-result add-result returns)

@@ -1,8 +1,9 @@
 -- `codes::read_code` meets its contract.
 -- Assumes nothing.
-use mathlib.Core.Path.{sym, ap, _∙_}
-use Rattle.codes.specs.Codes.{packed, readingCode, readCode}
-use native.Mathlib.Omega.{arith}
+use mathlib.Core.Path.{_≡_, refl, sym, ap, subst, _∙_}
+use Rattle.reader.specs.declared.Reading.{Reading}
+use Rattle.reader.specs.Reading.{saidOf, said}
+use Rattle.codes.specs.Codes.{packed, coded, place, Known}
 use borrow.Author.Needs.{needs}
 use Rattle.codes.proofs.read_code.Statement.{statement}
 use Rattle.codes.proofs.read_code.Tie as tie
@@ -14,33 +15,26 @@ enum-known-reading : tie.Need-enum-known-reading
 enum-known-reading c = search needs
 
 join-requires : tie.Need-join-requires
-join-requires c κs =
-    let b = c .before .before .before .before .pre _ (c .before .reading .given .1) in
-    record { upper = omega (arith, b .upper); lower = omega (arith, b .lower) }
+unfolding said
+join-requires c κs = subst (λ (x : Reading). Known (saidOf (c .before .before .before .before .args .answer .edition) x)) (c .before .reading .given .1) (c .before .before .before .before .pre)
 
 pack-requires : tie.Need-pack-requires
-pack-requires c κs = search needs
+pack-requires c κs = c .join .ensures .1
 
 enum-known-reading-2 : tie.Need-enum-known-reading-2
 enum-known-reading-2 c = search needs
 
-cast-pack : tie.Need-cast-pack
-cast-pack c = search needs
-
-pack-requires-2 : tie.Need-pack-requires-2
-pack-requires-2 c κs = search needs
+refusal-code-requires : tie.Need-refusal-code-requires
+unfolding said
+refusal-code-requires c κs = subst (λ (x : Reading). Known (saidOf (c .before .before .before .before .args .answer .edition) x)) (c .before .reading2 .given .1) (c .before .before .before .before .pre) .1
 
 returns : tie.Need-returns
-unfolding readCode
-returns c =
-    let a = c .before .before .before .before .before .before .args .answer in
-    c .pack .ensures ∙ (ap (packed 0) (c .before .join .ensures) ∙ sym (ap (readingCode (a .edition)) (c .before .before .before .reading .given .1)))
+unfolding said coded place
+returns c = c .pack .ensures ∙ ap (packed 0) (c .before .join .ensures .0) ∙ sym (ap (λ (x : Reading). coded (saidOf (c .before .before .before .before .before .before .args .answer .edition) x)) (c .before .before .before .reading .given .1))
 
 returns-2 : tie.Need-returns-2
-unfolding readCode
-returns-2 c =
-    let a = c .before .before .before .before .before .args .answer in
-    c .pack2 .ensures ∙ sym (ap (readingCode (a .edition)) (c .before .before .reading2 .given .1))
+unfolding said coded
+returns-2 c = c .refusal-code .ensures ∙ sym (ap (λ (x : Reading). coded (saidOf (c .before .before .before .before .before .args .answer .edition) x)) (c .before .before .reading2 .given .1))
 
 pub read-code-spec : {M : Type 1} → statement M
 read-code-spec =
@@ -51,7 +45,6 @@ read-code-spec =
     join-requires
     pack-requires
     enum-known-reading-2
-    cast-pack
-    pack-requires-2
+    refusal-code-requires
     returns
     returns-2)

@@ -1,7 +1,9 @@
 -- `codes::scan_code` meets its contract.
 -- Assumes nothing.
-use mathlib.Core.Path.{sym, ap, _∙_}
-use Rattle.codes.specs.Codes.{scanCode}
+use mathlib.Core.Path.{_≡_, refl, sym, ap, subst, _∙_}
+use Rattle.scan.specs.declared.Scanning.{Scanning}
+use Rattle.scan.specs.Answer.{said}
+use Rattle.codes.specs.Codes.{coded, Known}
 use borrow.Author.Needs.{needs}
 use Rattle.codes.proofs.scan_code.Statement.{statement}
 use Rattle.codes.proofs.scan_code.Tie as tie
@@ -10,24 +12,23 @@ enum-known-answer : tie.Need-enum-known-answer
 enum-known-answer c = search needs
 
 scanned-code-requires : tie.Need-scanned-code-requires
-scanned-code-requires c κs = c .before .before .before .pre _ (c .before .answer .given .1)
+unfolding said
+scanned-code-requires c κs = subst (λ (x : Scanning). Known (said x)) (c .before .answer .given .1) (c .before .before .before .pre)
 
 enum-known-answer-2 : tie.Need-enum-known-answer-2
 enum-known-answer-2 c = search needs
 
-cast-pack : tie.Need-cast-pack
-cast-pack c = search needs
-
-pack-requires : tie.Need-pack-requires
-pack-requires c κs = search needs
+refusal-code-requires : tie.Need-refusal-code-requires
+unfolding said
+refusal-code-requires c κs = subst (λ (x : Scanning). Known (said x)) (c .before .answer2 .given .1) (c .before .before .before .pre) .1
 
 returns : tie.Need-returns
-unfolding scanCode
-returns c = c .scanned-code .ensures ∙ sym (ap scanCode (c .before .before .answer .given .1))
+unfolding said
+returns c = c .scanned-code .ensures ∙ sym (ap (λ (x : Scanning). coded (said x)) (c .before .before .answer .given .1))
 
 returns-2 : tie.Need-returns-2
-unfolding scanCode
-returns-2 c = c .pack .ensures ∙ sym (ap scanCode (c .before .before .answer2 .given .1))
+unfolding said coded
+returns-2 c = c .refusal-code .ensures ∙ sym (ap (λ (x : Scanning). coded (said x)) (c .before .before .answer2 .given .1))
 
 pub scan-code-spec : {M : Type 1} → statement M
 scan-code-spec =
@@ -36,7 +37,6 @@ scan-code-spec =
     enum-known-answer
     scanned-code-requires
     enum-known-answer-2
-    cast-pack
-    pack-requires
+    refusal-code-requires
     returns
     returns-2)

@@ -1,8 +1,10 @@
--- `codes::scanned_code` meets its contract. A cause is at most 4, so that its code fits.
+-- `codes::scanned_code` meets its contract.
 -- Assumes nothing.
-use mathlib.Core.Path.{sym, ap, _∙_}
-use Rattle.codes.specs.Codes.{scannedCode}
+use mathlib.Core.Path.{_≡_, refl, sym, ap, subst, _∙_}
 use native.Mathlib.Omega.{arith}
+use Rattle.opacity.specs.declared.verdict.Scanned.{Scanned}
+use Rattle.opacity.specs.Said.{scannedSaid}
+use Rattle.codes.specs.Codes.{coded, place, Known}
 use borrow.Author.Needs.{needs}
 use Rattle.codes.proofs.scanned_code.Statement.{statement}
 use Rattle.codes.proofs.scanned_code.Tie as tie
@@ -17,18 +19,18 @@ enum-known-scanned : tie.Need-enum-known-scanned
 enum-known-scanned c = search needs
 
 add-pack : tie.Need-add-pack
-add-pack c = omega (arith, c .before .before .before .pre _ _ (c .before .scanned .given .1) .most)
+add-pack c = let k = subst (λ (x : Scanned). Known (scannedSaid x)) (c .before .scanned .given .1) (c .before .before .before .pre) in omega (arith, k .0 .most)
 
 pack-requires-2 : tie.Need-pack-requires-2
-pack-requires-2 c κs = search needs
+pack-requires-2 c κs = subst (λ (x : Scanned). Known (scannedSaid x)) (c .before .scanned .given .1) (c .before .before .before .pre) .1
 
 returns : tie.Need-returns
-unfolding scannedCode
-returns c = c .pack .ensures ∙ sym (ap scannedCode (c .before .enum-told .given .1))
+unfolding coded place
+returns c = c .pack .ensures ∙ sym (ap (λ (x : Scanned). coded (scannedSaid x)) (c .before .enum-told .given .1))
 
 returns-2 : tie.Need-returns-2
-unfolding scannedCode
-returns-2 c = c .pack2 .ensures ∙ sym (ap scannedCode (c .before .before .scanned .given .1))
+unfolding coded
+returns-2 c = c .pack2 .ensures ∙ sym (ap (λ (x : Scanned). coded (scannedSaid x)) (c .before .before .scanned .given .1))
 
 pub scanned-code-spec : {M : Type 1} → statement M
 scanned-code-spec =

@@ -1,7 +1,9 @@
 -- `codes::tally_code` meets its contract.
 -- Assumes nothing.
-use mathlib.Core.Path.{sym, ap, _∙_}
-use Rattle.codes.specs.Codes.{packed, tallyCode}
+use mathlib.Core.Path.{_≡_, refl, sym, ap, subst, _∙_}
+use Rattle.counts.specs.declared.Tallying.{Tallying}
+use Rattle.counts.specs.Answer.{tallySaid}
+use Rattle.codes.specs.Codes.{packed, coded, place, Known}
 use borrow.Author.Needs.{needs}
 use Rattle.codes.proofs.tally_code.Statement.{statement}
 use Rattle.codes.proofs.tally_code.Tie as tie
@@ -10,30 +12,26 @@ enum-known-answer : tie.Need-enum-known-answer
 enum-known-answer c = search needs
 
 tally-place-requires : tie.Need-tally-place-requires
-tally-place-requires c κs = c .before .before .before .pre _ (c .before .answer .given .1)
+unfolding tallySaid
+tally-place-requires c κs = subst (λ (x : Tallying). Known (tallySaid x)) (c .before .answer .given .1) (c .before .before .before .pre)
 
 pack-requires : tie.Need-pack-requires
-pack-requires c κs = search needs
+pack-requires c κs = c .tally-place .ensures .1
 
 enum-known-answer-2 : tie.Need-enum-known-answer-2
 enum-known-answer-2 c = search needs
 
-cast-pack : tie.Need-cast-pack
-cast-pack c = search needs
-
-pack-requires-2 : tie.Need-pack-requires-2
-pack-requires-2 c κs = search needs
+refusal-code-requires : tie.Need-refusal-code-requires
+unfolding tallySaid
+refusal-code-requires c κs = subst (λ (x : Tallying). Known (tallySaid x)) (c .before .answer2 .given .1) (c .before .before .before .pre) .1
 
 returns : tie.Need-returns
-unfolding tallyCode
-returns c =
-    c .pack .ensures
-    ∙ ap (packed 0) (c .before .tally-place .ensures)
-    ∙ sym (ap tallyCode (c .before .before .before .answer .given .1))
+unfolding tallySaid coded place
+returns c = c .pack .ensures ∙ ap (packed 0) (c .before .tally-place .ensures .0) ∙ sym (ap (λ (x : Tallying). coded (tallySaid x)) (c .before .before .before .answer .given .1))
 
 returns-2 : tie.Need-returns-2
-unfolding tallyCode
-returns-2 c = c .pack2 .ensures ∙ sym (ap tallyCode (c .before .before .answer2 .given .1))
+unfolding tallySaid coded
+returns-2 c = c .refusal-code .ensures ∙ sym (ap (λ (x : Tallying). coded (tallySaid x)) (c .before .before .answer2 .given .1))
 
 pub tally-code-spec : {M : Type 1} → statement M
 tally-code-spec =
@@ -43,7 +41,6 @@ tally-code-spec =
     tally-place-requires
     pack-requires
     enum-known-answer-2
-    cast-pack
-    pack-requires-2
+    refusal-code-requires
     returns
     returns-2)

@@ -1,7 +1,9 @@
 -- `codes::verdict_code` meets its contract.
 -- Assumes nothing.
-use mathlib.Core.Path.{sym, ap, _∙_}
-use Rattle.codes.specs.Codes.{verdictCode}
+use mathlib.Core.Path.{_≡_, refl, sym, ap, subst, _∙_}
+use Rattle.opacity.specs.declared.verdict.Verdict.{Verdict}
+use Rattle.opacity.specs.Said.{verdictSaid}
+use Rattle.codes.specs.Codes.{coded, place, Known}
 use borrow.Author.Needs.{needs}
 use Rattle.codes.proofs.verdict_code.Statement.{statement}
 use Rattle.codes.proofs.verdict_code.Tie as tie
@@ -16,23 +18,16 @@ enum-known-verdict : tie.Need-enum-known-verdict
 enum-known-verdict c = search needs
 
 broken-code-requires : tie.Need-broken-code-requires
-broken-code-requires c κs = c .before .before .before .pre _ _ _ (c .before .verdict .given .1)
+broken-code-requires c κs = subst (λ (x : Verdict). Known (verdictSaid x)) (c .before .verdict .given .1) (c .before .before .before .pre) .1
 
 returns : tie.Need-returns
-unfolding verdictCode
-returns c = c .pack .ensures ∙ sym (ap verdictCode (c .before .enum-told .given .1))
+unfolding coded place
+returns c = c .pack .ensures ∙ sym (ap (λ (x : Verdict). coded (verdictSaid x)) (c .before .enum-told .given .1))
 
 returns-2 : tie.Need-returns-2
-unfolding verdictCode
-returns-2 c = c .broken-code .ensures ∙ sym (ap verdictCode (c .before .before .verdict .given .1))
+returns-2 c = c .broken-code .ensures ∙ sym (ap (λ (x : Verdict). coded (verdictSaid x)) (c .before .before .verdict .given .1))
 
 pub verdict-code-spec : {M : Type 1} → statement M
 verdict-code-spec =
     tie.close
-    (tie.spec
-    enum-told
-    pack-requires
-    enum-known-verdict
-    broken-code-requires
-    returns
-    returns-2)
+    (tie.spec enum-told pack-requires enum-known-verdict broken-code-requires returns returns-2)

@@ -1,8 +1,9 @@
 -- `codes::written_code` meets its contract.
 -- Assumes nothing.
-use mathlib.Core.Path.{sym, ap, _∙_}
-use Rattle.writer.specs.Writing.{number as writtenNumber, value as writtenValue}
-use Rattle.codes.specs.Codes.{writtenCode}
+use mathlib.Core.Path.{_≡_, refl, sym, ap, subst, _∙_}
+use Rattle.writer.specs.declared.Writing.{Writing}
+use Rattle.writer.specs.Writing.{said}
+use Rattle.codes.specs.Codes.{coded, place, Known}
 use borrow.Author.Needs.{needs}
 use Rattle.codes.proofs.written_code.Statement.{statement}
 use Rattle.codes.proofs.written_code.Tie as tie
@@ -11,24 +12,23 @@ enum-known-answer : tie.Need-enum-known-answer
 enum-known-answer c = search needs
 
 pack-requires : tie.Need-pack-requires
-pack-requires c κs = search needs
+unfolding said
+pack-requires c κs = subst (λ (x : Writing). Known (said x)) (c .before .answer .given .1) (c .before .before .before .pre)
 
 enum-known-answer-2 : tie.Need-enum-known-answer-2
 enum-known-answer-2 c = search needs
 
-cast-pack : tie.Need-cast-pack
-cast-pack c = search needs
-
-pack-requires-2 : tie.Need-pack-requires-2
-pack-requires-2 c κs = search needs
+refusal-code-requires : tie.Need-refusal-code-requires
+unfolding said
+refusal-code-requires c κs = subst (λ (x : Writing). Known (said x)) (c .before .answer2 .given .1) (c .before .before .before .pre) .1
 
 returns : tie.Need-returns
-unfolding writtenCode writtenNumber writtenValue
-returns c = c .pack .ensures ∙ sym (ap writtenCode (c .before .before .answer .given .1))
+unfolding said coded place
+returns c = c .pack .ensures ∙ sym (ap (λ (x : Writing). coded (said x)) (c .before .before .answer .given .1))
 
 returns-2 : tie.Need-returns-2
-unfolding writtenCode writtenNumber writtenValue
-returns-2 c = c .pack2 .ensures ∙ sym (ap writtenCode (c .before .before .answer2 .given .1))
+unfolding said coded
+returns-2 c = c .refusal-code .ensures ∙ sym (ap (λ (x : Writing). coded (said x)) (c .before .before .answer2 .given .1))
 
 pub written-code-spec : {M : Type 1} → statement M
 written-code-spec =
@@ -37,7 +37,6 @@ written-code-spec =
     enum-known-answer
     pack-requires
     enum-known-answer-2
-    cast-pack
-    pack-requires-2
+    refusal-code-requires
     returns
     returns-2)
