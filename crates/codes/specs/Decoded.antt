@@ -49,11 +49,14 @@ abbrev pub refusedBy : Bool → ℕ → ℕ → Said
 refusedBy true q p = atByte q p
 refusedBy false q p = atEvent q p
 
--- what a number says, by what the call gives and by where its questions' places are bytes
+-- what code and place say, by what the call gives and by where its questions' places are bytes
+abbrev pub byParts : (ℕ → List ℕ) → (ℕ → Bool) → ℕ → ℕ → Said
+byParts values isByte code place =
+    cond (eqb code 0) (done (values place))
+    (cond (ltb code 100) (refusedBy (isByte code) code place)
+    (cond (eqb code 100) nothing
+    (cond (ltb code 200) (faulted place (code - 100))
+    (broken (code - 200) (upperOf place) (lowerOf place)))))
+
 unfoldable pub decoded : (ℕ → List ℕ) → (ℕ → Bool) → ℕ → Said
-decoded values isByte n =
-    cond (eqb (codeOf n) 0) (done (values (placeOf n)))
-    (cond (ltb (codeOf n) 100) (refusedBy (isByte (codeOf n)) (codeOf n) (placeOf n))
-    (cond (eqb (codeOf n) 100) nothing
-    (cond (ltb (codeOf n) 200) (faulted (placeOf n) (codeOf n - 100))
-    (broken (codeOf n - 200) (upperOf (placeOf n)) (lowerOf (placeOf n))))))
+decoded values isByte n = byParts values isByte (codeOf n) (placeOf n)

@@ -1,0 +1,4 @@
+pub mod Numbers
+pub mod Files
+pub mod Refusals
+pub mod Bounds

@@ -1,0 +1,87 @@
+-- To be believed: what each call gives (include/sendoshi.h), over the answers of the functions called: its number, and each buffer that it is
+-- lent to fill, afterwards.
+-- Assumes nothing.
+use Prim.Native.Nat.{ℕ}
+use mathlib.Core.List.{List}
+use Rattle.events.specs.Columns.{Columns}
+use Rattle.reader.specs.declared.Reading.{Reading}
+use Rattle.reader.specs.declared.HistoryRead.{HistoryRead}
+use Rattle.reader.specs.Reading.{ReadAnswer, readAnswer, said as readSaid}
+use Rattle.writer.specs.Writing.{WrittenAnswer, writtenAnswer, said as writtenSaid}
+use Rattle.finder.specs.Answer.{Given, foundAnswer, said as foundSaid}
+use Rattle.scan.specs.Answer.{scanAnswer, said as scanSaid}
+use Rattle.marking.specs.Answer.{verdictAnswer, said as checkSaid}
+use Rattle.straighten.specs.Answer.{Given as Straight, straightenedAnswer, said as straightSaid}
+use Rattle.counts.specs.Answer.{transactionsAnswer, storeReadsAnswer, tallyAnswer, countSaid, tallySaid}
+use Rattle.codes.specs.Codes.{coded}
+
+-- A call that is lent start values and columns to fill, one that is lent an output, and one that is lent an output and a list.
+pub record FilledHistory : Type 0 where
+  pub number : ℕ
+  pub starts : List ℕ
+  pub columns : Columns
+
+abbrev pub filled : ℕ → List ℕ → Columns → FilledHistory
+filled n s c = record { number = n; starts = s; columns = c }
+
+pub record FilledOutput : Type 0 where
+  pub number : ℕ
+  pub output : List ℕ
+
+abbrev pub put : ℕ → List ℕ → FilledOutput
+put n o = record { number = n; output = o }
+
+pub record FilledBoth : Type 0 where
+  pub number : ℕ
+  pub output : List ℕ
+  pub list : List ℕ
+
+abbrev pub putBoth : ℕ → List ℕ → List ℕ → FilledBoth
+putBoth n o l = record { number = n; output = o; list = l }
+
+-- the lent start values afterwards: those of the history that was read, and on a refusal what they were
+abbrev pub startsBy : Reading → List ℕ → List ℕ → List ℕ
+startsBy (Reading.Read n) told lent = told
+startsBy (Reading.Refused r) told lent = lent
+
+unfoldable pub startsAfter : HistoryRead → List ℕ → List ℕ
+startsAfter a lent = startsBy (a .reading) (a .starts) lent
+
+abbrev pub readTold : List ℕ → ReadAnswer → FilledHistory
+readTold lent a = filled (coded (readSaid (a .result))) (startsAfter (a .result) lent) (a .columns)
+
+abbrev pub writtenTold : WrittenAnswer → FilledOutput
+writtenTold a = put (coded (writtenSaid (a .result))) (a .output)
+
+abbrev pub foundTold : Given → FilledOutput
+foundTold a = put (coded (foundSaid (a .result))) (a .output)
+
+abbrev pub straightenTold : Straight → FilledBoth
+straightenTold a = putBoth (coded (straightSaid (a .result))) (a .output) (a .list)
+
+unfoldable pub readCall : List ℕ → List ℕ → Columns → FilledHistory
+readCall file starts c = readTold starts (readAnswer file c)
+
+unfoldable pub writeCall : ℕ → List ℕ → Columns → ℕ → List ℕ → FilledOutput
+writeCall edition starts c count output = writtenTold (writtenAnswer edition starts c count output)
+
+unfoldable pub findCall : ℕ → List ℕ → Columns → ℕ → ℕ → List ℕ → FilledOutput
+findCall edition starts c count prefix output = foundTold (foundAnswer edition starts c count prefix output)
+
+unfoldable pub scanCall : ℕ → List ℕ → Columns → ℕ → ℕ
+scanCall edition starts c count = coded (scanSaid (scanAnswer edition starts c count))
+
+unfoldable pub checkCall : ℕ → List ℕ → Columns → ℕ → List ℕ → ℕ
+checkCall edition starts c count file = coded (checkSaid (verdictAnswer edition starts c count file))
+
+unfoldable pub straightenCall : ℕ → List ℕ → Columns → ℕ → List ℕ → List ℕ → List ℕ → FilledBoth
+straightenCall edition starts c count file output list = straightenTold (straightenedAnswer edition starts c count file output list)
+
+unfoldable pub transactionsCall : Columns → ℕ → ℕ
+transactionsCall c count = coded (countSaid (transactionsAnswer c count))
+
+unfoldable pub storeReadsCall : Columns → ℕ → ℕ
+storeReadsCall c count = coded (countSaid (storeReadsAnswer c count))
+
+unfoldable pub tallyCall : Columns → ℕ → ℕ
+tallyCall c count = coded (tallySaid (tallyAnswer c count))
