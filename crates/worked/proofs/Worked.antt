@@ -5,6 +5,7 @@ use mathlib.Core.Bool.{true}
 use Rattle.events.specs.Lists.{_and_, _or_, _implies_, any, all, keep, latest, every, lowest, first, last, range}
 use Rattle.events.specs.Events.{isKnown, isBegin, isRead, isWrite, isCall, namesRegister, asksCommit, isCommit, isAbort, isEnd, by, has, begins, ended, lastOf, pendingCall, pendingOf, latestOn}
 use Rattle.events.specs.Questions.{refusal, threadFree, due, fieldsDue, eventQuestions, columnQuestions, refusedAt, readable, eventsAnswer, historyAnswer}
+use Rattle.events.specs.Said.{said}
 use Rattle.events.specs.Starts.{startOf, allZero, admits}
 use Rattle.events.specs.Columns.{history, hold, filledWith}
 use Rattle.opacity.specs.Transactions.{status, allows, precedes, lastWrite, ownWrite, isOwnRead, isStoreRead, storeReads, ownRight}
@@ -16,9 +17,11 @@ use Rattle.opacity.specs.Store.{put}
 use Rattle.opacity.specs.Serial.{does, eventsOf, run, readsRight, after, runsRight}
 use Rattle.opacity.specs.Counts.{counts}
 use Rattle.counts.specs.Tally.{standing, tally}
+use Rattle.marking.specs.File.{nextEvent, everyPlaced, hasPoint, everyPointed, headQuestions, recordQuestions, endQuestions, bodyStep, endStep, stepAt, walk as walkMarking, opening, fileRead}
+use Rattle.marking.specs.Answer.{verdictAnswer, said as checkSaid}
 use Rattle.straighten.specs.Straight.{stands, straightPoint, straightened, movedEvents}
 use Rattle.worked.specs.Worked.{right, worked}
 
 pub worked-hold : all right worked ≡ true
-unfolding _and_ _or_ _implies_ any all keep latest every lowest first last range isKnown isBegin isRead isWrite isCall namesRegister asksCommit isCommit isAbort isEnd by has begins ended lastOf pendingCall pendingOf latestOn refusal threadFree due fieldsDue eventQuestions columnQuestions refusedAt readable eventsAnswer historyAnswer startOf allZero admits history hold filledWith status allows precedes lastWrite ownWrite isOwnRead isStoreRead storeReads ownRight placed before outcome written contents distinct isOrder outcomeKept preceded legalOver realTimeKept fits lowestPlace goOn lowestOf flat markingBytes gapOf placeOf marked others between noWriterBetween valueAtGap lastEvent beginOf broke verdict cause scan put does eventsOf run readsRight after runsRight counts standing tally stands straightPoint straightened movedEvents right worked
+unfolding nextEvent everyPlaced hasPoint everyPointed headQuestions recordQuestions endQuestions bodyStep endStep stepAt walkMarking opening fileRead verdictAnswer checkSaid said _and_ _or_ _implies_ any all keep latest every lowest first last range isKnown isBegin isRead isWrite isCall namesRegister asksCommit isCommit isAbort isEnd by has begins ended lastOf pendingCall pendingOf latestOn refusal threadFree due fieldsDue eventQuestions columnQuestions refusedAt readable eventsAnswer historyAnswer startOf allZero admits history hold filledWith status allows precedes lastWrite ownWrite isOwnRead isStoreRead storeReads ownRight placed before outcome written contents distinct isOrder outcomeKept preceded legalOver realTimeKept fits lowestPlace goOn lowestOf flat markingBytes gapOf placeOf marked others between noWriterBetween valueAtGap lastEvent beginOf broke verdict cause scan put does eventsOf run readsRight after runsRight counts standing tally stands straightPoint straightened movedEvents right worked
 worked-hold = refl

@@ -1,20 +1,19 @@
--- The worked histories: the starred ones of the paper ("Histories to try") and of the request for start values, some that catch what those do
--- not, markings with their points straightened, tallies, and seven of the source document 001, as one list with what the definitions must say
--- of each.
+-- To be believed: the worked histories, as one list with what the definitions must say of each: the starred ones of the paper ("Histories to
+-- try"), histories with start values, some that catch what those do not, marking files, markings with their points straightened, tallies, and
+-- seven of the source document 001.
 -- Assumes nothing.
 use Prim.Native.Nat.{ℕ}
 use mathlib.Core.Bool.{Bool, true, false}
 use mathlib.Core.List.{List, [], _∷_, _++_, map}
 use mathlib.Core.Option.{Option, none, some}
 use lib.Dec.{eqb, leb}
-use lib.ListN.{length, replicate}
+use lib.ListN.{length, take, replicate}
 use Rattle.events.specs.Lists.{_and_, _or_, all}
 use Rattle.events.specs.declared.event.Event.{Event}
 use Rattle.events.specs.Events.{begins}
-use Rattle.events.specs.declared.columns.Checked.{Checked}
-use Rattle.events.specs.declared.columns.Checked.the-variants.{Readable, Refused}
 use Rattle.events.specs.Starts.{startOf, noStarts}
-use Rattle.events.specs.Columns.{columns, filledWith}
+use Rattle.events.specs.Columns.{Columns, columns, filledWith}
+use Rattle.events.specs.Said.{Said, done, nothing, faulted, broken, atEvent, atByte, said}
 use Rattle.events.specs.Questions.{readable, historyAnswer}
 use Rattle.opacity.specs.declared.verdict.Rule.the-variants.{A, B, C, D, E}
 use Rattle.opacity.specs.declared.verdict.Verdict.{Verdict}
@@ -24,11 +23,13 @@ use Rattle.opacity.specs.declared.verdict.Scanned.the-variants.{Opaque, Faulted
 use Rattle.opacity.specs.Transactions.{storeReads}
 use Rattle.opacity.specs.Justification.{Place, isOrder}
 use Rattle.opacity.specs.Lowest.{place, lowestOf}
-use Rattle.opacity.specs.Marking.{Point, Marking, marked, markingBytes, verdict, verdictNumbers, outcomeNumber}
-use Rattle.opacity.specs.Scan.{scan, scannedNumbers}
+use Rattle.opacity.specs.Marking.{Point, Marking, marked, markingBytes, verdict, outcomeNumber}
+use Rattle.opacity.specs.Scan.{scan}
+use Rattle.opacity.specs.Said.{verdictSaid, scannedSaid}
 use Rattle.opacity.specs.Serial.{runsRight}
 use Rattle.opacity.specs.Counts.{counts}
 use Rattle.counts.specs.Tally.{tally}
+use Rattle.marking.specs.Answer.{verdictAnswer, said as checkSaid}
 use Rattle.straighten.specs.Straight.{straightened, movedEvents}
 
 -- ---- histories
@@ -115,15 +116,17 @@ two : List Place → ℕ → ℕ → Marking
 unfolding point marking
 two J a b = marking J (point 5 a ∷ point 9 b ∷ [])
 
--- ---- what is said of a history: the scan's answer; its lowest marking, and that marking's file; the verdict on a marking; a marking with its
--- points straightened, the events moved, and the verdict then; whether an order run one at a time gives every read its value; the counts of
--- the report; its tally; the question, with its event, that refuses a call with this edition and these start values
+-- ---- what is said of a history: the scan's answer; its lowest marking, and that marking's file; the verdict on a marking; what the checker says
+-- of a marking file; a marking with its points straightened, the events moved, and the verdict then; whether an order run one at a time gives
+-- every read its value; the counts of the report; its tally; the question, with its event, that refuses a call with this edition and these
+-- start values
 
 pub data Claim : Type 0 where
   scanned : Scanned → Claim
   lowestIs : Marking → Claim
   fileIs : List ℕ → Claim
   checked : Marking → Verdict → Claim
+  fileSays : List ℕ → Said → Claim
   straight : Marking → Marking → List ℕ → Verdict → Claim
   runs : List Place → Bool → Claim
   counted : ℕ → ℕ → ℕ → Claim
@@ -162,10 +165,18 @@ readableFor h m =
     and equal (map (λ p. p .event) (m .points)) (storeReads h)
     and all (λ p. leb (p .gap) (begins h)) (m .points)
 
--- a call's question and event, 0 where none says no
-checkedNumbers : Checked → List ℕ
-checkedNumbers Readable = 0 ∷ 0 ∷ []
-checkedNumbers (Refused q i) = q ∷ i ∷ []
+-- two answers say the same
+saidNumbers : Said → List ℕ
+saidNumbers (done vs) = 0 ∷ vs
+saidNumbers nothing = 1 ∷ []
+saidNumbers (faulted e w) = 2 ∷ e ∷ w ∷ []
+saidNumbers (broken r e t) = 3 ∷ r ∷ e ∷ t ∷ []
+saidNumbers (atEvent q e) = 4 ∷ q ∷ e ∷ []
+saidNumbers (atByte q b) = 5 ∷ q ∷ b ∷ []
+
+same : Said → Said → Bool
+unfolding equal saidNumbers
+same a b = equal (saidNumbers a) (saidNumbers b)
 
 pub record Case : Type 0 where
   pub edition : ℕ
@@ -173,26 +184,36 @@ pub record Case : Type 0 where
   pub history : List Event
   pub claim : Claim
 
+-- the history in columns
+inColumns : Case → Columns
+inColumns c = filledWith (c .history) (columns [] [] [] [])
+
 -- what the questions of a call say: 17, 3, and each event's own
-asked : Case → List ℕ
-unfolding checkedNumbers
-asked c = checkedNumbers (historyAnswer (c .edition) (c .starts) (filledWith (c .history) (columns [] [] [] [])) (length (c .history)))
+asked : Case → Said
+unfolding inColumns
+asked c = said (historyAnswer (c .edition) (c .starts) (inColumns c) (length (c .history)))
+
+-- what the checker says of a marking file
+checkedFile : Case → List ℕ → Said
+unfolding inColumns
+checkedFile c file = checkSaid (verdictAnswer (c .edition) (c .starts) (inColumns c) (length (c .history)) file)
 
 holds : Case → (ℕ → ℕ) → List Event → Claim → Bool
-unfolding equal markingNumbers found readableFor asked
-holds c start h (scanned a) = equal (scannedNumbers (scan start h)) (scannedNumbers a)
+unfolding equal same markingNumbers found readableFor asked checkedFile
+holds c start h (scanned a) = same (scannedSaid (scan start h)) (scannedSaid a)
 holds c start h (lowestIs m) = found h (λ n. equal (markingNumbers n) (markingNumbers m)) (lowestOf start h)
 holds c start h (fileIs s) = found h (λ n. equal (markingBytes n) s) (lowestOf start h)
-holds c start h (checked m v) = readableFor h m and equal (verdictNumbers (verdict start h m)) (verdictNumbers v)
+holds c start h (checked m v) = readableFor h m and same (verdictSaid (verdict start h m)) (verdictSaid v)
+holds c start h (fileSays s a) = same (checkedFile c s) a
 holds c start h (straight m n moved v) =
     readableFor h m
     and equal (markingNumbers (straightened start h m)) (markingNumbers n)
     and equal (movedEvents start h m) moved
-    and equal (verdictNumbers (verdict start h (straightened start h m))) (verdictNumbers v)
+    and same (verdictSaid (verdict start h (straightened start h m))) (verdictSaid v)
 holds c start h (runs J b) = eqb (outcomeNumber (runsRight start h J)) (outcomeNumber b)
 holds c start h (counted e t r) = equal (counts h .events ∷ counts h .transactions ∷ counts h .reads ∷ []) (e ∷ t ∷ r ∷ [])
 holds c start h (tallied n a p l) = equal (tally h .committed ∷ tally h .aborted ∷ tally h .pending ∷ tally h .live ∷ []) (n ∷ a ∷ p ∷ l ∷ [])
-holds c start h (refusedBy q i) = equal (asked c) (q ∷ i ∷ [])
+holds c start h (refusedBy q i) = same (asked c) (atEvent q i)
 
 -- of a history of edition 1, and of one of edition 2 whose registers 0 and 1 start with these values
 says : List Event → Claim → Case
@@ -207,8 +228,8 @@ saysFrom a b h c = record { edition = 2; starts = startsWith a b; history = h; c
 
 -- a refusal is that of a call; of any other case no question says no to a call, and what is said of it holds
 unfoldable pub right : Case → Bool
-unfolding holds asked equal
-right c = readable (c .history) and (isRefusal (c .claim) or equal (asked c) (0 ∷ 0 ∷ [])) and holds c (startOf (c .starts)) (c .history) (c .claim)
+unfolding holds asked same
+right c = readable (c .history) and (isRefusal (c .claim) or same (asked c) (done [])) and holds c (startOf (c .starts)) (c .history) (c .claim)
   where
     isRefusal : Claim → Bool
     isRefusal (refusedBy q i) = true
@@ -216,30 +237,41 @@ right c = readable (c .history) and (isRefusal (c .claim) or equal (asked c) (0 
     isRefusal (lowestIs m) = false
     isRefusal (fileIs s) = false
     isRefusal (checked m v) = false
+    isRefusal (fileSays s a) = false
     isRefusal (straight m n moved v) = false
     isRefusal (runs J b) = false
     isRefusal (counted e t r) = false
     isRefusal (tallied n a p l) = false
 
+-- ---- marking files
+
+headAlone : List ℕ
+headAlone = 4 ∷ 0 ∷ 2 ∷ 0 ∷ 1 ∷ 0 ∷ []
+
+-- H0's: T1 aborted and T0 committed, the points of events 5 and 9 at gap 0
+placesOfH0 : List ℕ
+placesOfH0 = 6 ∷ 0 ∷ 32 ∷ 0 ∷ 1 ∷ 0 ∷ 0 ∷ 0 ∷ 6 ∷ 0 ∷ 32 ∷ 0 ∷ 0 ∷ 0 ∷ 1 ∷ 0 ∷ []
+
+pointsOfH0 : List ℕ
+pointsOfH0 = 8 ∷ 0 ∷ 33 ∷ 0 ∷ 5 ∷ 0 ∷ 0 ∷ 0 ∷ 0 ∷ 0 ∷ 8 ∷ 0 ∷ 33 ∷ 0 ∷ 9 ∷ 0 ∷ 0 ∷ 0 ∷ 0 ∷ 0 ∷ []
+
 -- ---- the list
 
 -- the starred histories of the paper, in its order
 starred : List Case
-unfolding says h0 two point marking late early begin beginOn read write callCommit commit abort then pendingPair
+unfolding says h0 two point marking late early begin beginOn read write callCommit commit abort then pendingPair headAlone placesOfH0 pointsOfH0
 starred =
     -- head alone
     says [] (scanned Opaque)
-    ∷ says [] (fileIs (4 ∷ 0 ∷ 2 ∷ 0 ∷ 1 ∷ 0 ∷ []))
+    ∷ says [] (fileIs headAlone)
     ∷ says [] (checked (marking [] []) Accepted)
+    ∷ says [] (fileSays headAlone (done []))
     -- H0: its marking is lowest; event 9 at gap 1, and at gap 2
     ∷ says (h0 0) (scanned Opaque)
     ∷ says (h0 0) (counted 10 2 2)
     ∷ says (h0 0) (lowestIs (two late 0 0))
-    ∷ says (h0 0)
-    (fileIs
-    (4 ∷ 0 ∷ 2 ∷ 0 ∷ 1 ∷ 0
-    ∷ 6 ∷ 0 ∷ 32 ∷ 0 ∷ 1 ∷ 0 ∷ 0 ∷ 0 ∷ 6 ∷ 0 ∷ 32 ∷ 0 ∷ 0 ∷ 0 ∷ 1 ∷ 0
-    ∷ 8 ∷ 0 ∷ 33 ∷ 0 ∷ 5 ∷ 0 ∷ 0 ∷ 0 ∷ 0 ∷ 0 ∷ 8 ∷ 0 ∷ 33 ∷ 0 ∷ 9 ∷ 0 ∷ 0 ∷ 0 ∷ 0 ∷ 0 ∷ []))
+    ∷ says (h0 0) (fileIs (headAlone ++ (placesOfH0 ++ pointsOfH0)))
+    ∷ says (h0 0) (fileSays (headAlone ++ (placesOfH0 ++ pointsOfH0)) (done []))
     ∷ says (h0 0) (checked (two late 0 0) Accepted)
     ∷ says (h0 0) (checked (two late 0 1) Accepted)
     ∷ says (h0 0) (checked (two late 0 2) (Broken D 9 1))
@@ -270,7 +302,7 @@ hides : ℕ → List Event
 unfolding begin read write commit then
 hides v = then (begin 0 ∷ write 0 0 7 ∷ commit 0 ∷ begin 1 ∷ read 1 0 v ∷ [])
 
--- the starred histories with start values
+-- histories with start values
 fromStarts : List Case
 unfolding says saysFrom startsWith reads hides point marking early late begin beginOn read write commit then
 fromStarts =
@@ -335,6 +367,19 @@ further =
     ∷ says (twice 5) (runs early true)
     ∷ says (then (begin 0 ∷ write 0 0 4 ∷ write 0 0 5 ∷ read 0 0 5 ∷ [])) (runs (place 0 false ∷ []) true)
     ∷ says (then (begin 0 ∷ write 0 0 5 ∷ read 0 0 0 ∷ [])) (runs (place 0 false ∷ []) false)
+    ∷ []
+
+-- marking files that are refused: a transaction has no place where the first read point comes, and at the end
+files : List Case
+unfolding says h0 begin beginOn read write commit then headAlone placesOfH0 pointsOfH0
+files =
+    says (h0 0) (fileSays (headAlone ++ pointsOfH0) (atByte 28 6))
+    ∷ says (h0 0) (fileSays (headAlone ++ (take 8 placesOfH0 ++ pointsOfH0)) (atByte 28 14))
+    ∷ says (h0 0) (fileSays headAlone (atByte 28 6))
+    ∷ says (h0 0) (fileSays (headAlone ++ take 8 placesOfH0) (atByte 28 14))
+    -- a store read has no point; a file without a head
+    ∷ says (h0 0) (fileSays (headAlone ++ (placesOfH0 ++ take 10 pointsOfH0)) (atByte 29 32))
+    ∷ says (h0 0) (fileSays [] (atByte 21 0))
     ∷ []
 
 -- read points straightened
@@ -405,5 +450,5 @@ printed =
     ∷ []
 
 unfoldable pub worked : List Case
-unfolding starred fromStarts further straightenings tallies printed
-worked = starred ++ (fromStarts ++ (further ++ (straightenings ++ (tallies ++ printed))))
+unfolding starred fromStarts further files straightenings tallies printed
+worked = starred ++ (fromStarts ++ (further ++ (files ++ (straightenings ++ (tallies ++ printed)))))
