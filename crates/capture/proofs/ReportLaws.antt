@@ -6,7 +6,10 @@ use mathlib.Core.Path.{_≡_, refl, sym, ap, _∙_}
 use mathlib.Core.Bool.{true, cond}
 use mathlib.Core.List.{List}
 use lib.ListN.{length}
+use Rattle.events.specs.declared.event.Event.{Event}
 use Rattle.events.specs.declared.columns.Checked.{Checked}
+use Rattle.events.specs.declared.refusal.Refusal.{Refusal}
+use Rattle.events.specs.Said.{refuse}
 use Rattle.events.specs.Bytes.{Bytes}
 use Rattle.events.specs.Columns.{Columns, history, hold, filledWith}
 use Rattle.events.specs.Starts.{startOf}
@@ -16,27 +19,42 @@ use Rattle.events.proofs.ReadableLaws.{readable-most}
 use Rattle.opacity.specs.Scan.{scan}
 use Rattle.scan.specs.Answer.{sizeRefusal, decided, scanAnswer}
 use Rattle.scan.proofs.AnswerLaws.{events-decide}
-use Rattle.marking.specs.Answer.{afterColumns, verdictAnswer}
+use Rattle.marking.specs.declared.check.Checking.{Checking}
+use Rattle.marking.specs.File.{known, FileRead, content, refused as unread, fileRead}
+use Rattle.marking.specs.Answer.{ruled, afterColumns, verdictAnswer}
 use Rattle.reader.specs.declared.HistoryRead.{HistoryRead}
 use Rattle.reader.specs.declared.Reading.{Reading}
 use Rattle.reader.specs.Reading.{Log, Outcome, readable, refused, historyOf, told, declined, ReadAnswer, answered, filled, readAnswer}
 use Rattle.writer.proofs.WriteBack.{write-back}
 use Rattle.writer.proofs.RoundTrip.{read-stands}
+use Rattle.capture.specs.declared.Marking.{Marking}
 use Rattle.capture.specs.declared.Report.{Report}
-use Rattle.capture.specs.Report.{markingOf, opacityOf, judged, saidOf, reportOn, markingBy, opacityBy}
+use Rattle.capture.specs.Report.{markingOf, opacityOf, judged, saidOf, reportOn, markingBy}
 
 -- ---- the lines, of columns to which no question says no
 
-module _ (edition : ℕ) (starts : List ℕ) (c : Columns) (n : ℕ) (fine : historyAnswer edition starts c n ≡ Checked.Readable) where
-  pub marking-line : (file : List ℕ) → markingBy (verdictAnswer edition starts c n file) ≡ markingOf (startOf starts) (history c n) file
-  unfolding verdictAnswer markingOf
-  marking-line file = ap (λ (x : Checked). markingBy (afterColumns (startOf starts) (history c n) file x)) fine
+-- the line on the marking, by the checker's answer; the last case does not come
+abbrev pub lineOf : Checking → Marking
+lineOf (Checking.Ruled v) = Marking.Ruled v
+lineOf (Checking.MarkingRefused r) = Marking.Refused r
+lineOf (Checking.HistoryRefused r) = Marking.Refused r
 
-  pub opacity-line : opacityBy (scanAnswer edition starts c n) ≡ opacityOf (startOf starts) (history c n)
+ruled-line : (start : ℕ → ℕ) (h : List Event) (x : FileRead) → lineOf (ruled start h x) ≡ markingBy start h x
+ruled-line start h (content m) = refl
+ruled-line start h (unread q byte) = refl
+
+module _ (edition : ℕ) (starts : List ℕ) (c : Columns) (n : ℕ) (fine : historyAnswer edition starts c n ≡ Checked.Readable) where
+  pub marking-line : (file : List ℕ) → lineOf (verdictAnswer edition starts c n file) ≡ markingOf (startOf starts) (history c n) file
+  unfolding verdictAnswer markingOf
+  marking-line file =
+      ap (λ (x : Checked). lineOf (afterColumns (startOf starts) (history c n) file x)) fine
+      ∙ ruled-line (startOf starts) (history c n) (fileRead (known (history c n)) file)
+
+  pub opacity-line : scanAnswer edition starts c n ≡ opacityOf (startOf starts) (history c n)
   unfolding opacityOf
   opacity-line =
-      ap opacityBy (sym (events-decide edition starts c n fine))
-      ∙ ap (λ (k : ℕ). opacityBy (decided (sizeRefusal (history c n) k) (scan (startOf starts) (history c n)))) (sym (history-length c n))
+      sym (events-decide edition starts c n fine)
+      ∙ ap (λ (k : ℕ). decided (sizeRefusal (history c n) k) (scan (startOf starts) (history c n))) (sym (history-length c n))
 
 -- ---- the whole, by what the reader answered: r, and d in the columns that held c
 
@@ -60,9 +78,9 @@ module _ (s : List ℕ) (by : Bytes s) (c d : Columns) (r : HistoryRead) (read :
       ∙ sym (ap (λ (x : Outcome). saidOf x marking) (read-stands s c n by (result e) .1))
 
   -- 14 does not come: the columns hold as many entries as a history may have events
-  pub report-refused : (marking : List ℕ) {q byte : ℕ} → hold c 2048 ≡ true → r .reading ≡ Reading.Refused q byte → Report.Refused q byte ≡ reportOn s marking
+  pub report-refused : (marking : List ℕ) {q : Refusal} → hold c 2048 ≡ true → r .reading ≡ Reading.Refused q → Report.Refused q ≡ reportOn s marking
   unfolding readAnswer reportOn
-  report-refused marking {q} {byte} k e = go (historyOf s) refl (result e)
+  report-refused marking {q} k e = go (historyOf s) refl (result e)
     where
       room : (l : Log) → historyOf s ≡ readable l → hold c (length (l .events)) ≡ true
       room l o =
@@ -70,13 +88,12 @@ module _ (s : List ℕ) (by : Bytes s) (c d : Columns) (r : HistoryRead) (read :
           let w : Held c 2048 = hold-e c 2048 k in
           hold-i c (length (l .events)) (record { kinds = omega (arith, w .kinds); transactions = omega (arith, w .transactions); registers = omega (arith, w .registers); values = omega (arith, w .values) })
 
-      go : (o : Outcome) → historyOf s ≡ o → filled s c o .result .reading ≡ Reading.Refused q byte → Report.Refused q byte ≡ saidOf o marking
+      go : (o : Outcome) → historyOf s ≡ o → filled s c o .result .reading ≡ Reading.Refused q → Report.Refused q ≡ saidOf o marking
       go (readable l) o f =
           let a : ReadAnswer = answered (told (length (l .events)) (l .edition) (l .starts)) (filledWith (l .events) c) in
           let x : cond (hold c (length (l .events))) a (answered (declined 14 (length s)) c) ≡ a = rw (room l o) in
-          let y : Reading.Read (length (l .events)) ≡ Reading.Refused q byte = sym (ap (λ (b : ReadAnswer). b .result .reading) x) ∙ f in
+          let y : Reading.Read (length (l .events)) ≡ Reading.Refused q = sym (ap (λ (b : ReadAnswer). b .result .reading) x) ∙ f in
           absurd (let z : _≡_ {A = ℕ} 0 1 = cc in omega arith)
       go (refused p at) o f =
-          let a : p ≡ q = cc in
-          let b : at ≡ byte = cc in
-          λ i. Report.Refused (sym a i) (sym b i)
+          let a : refuse p at ≡ q = cc in
+          ap Report.Refused (sym a)

@@ -11,6 +11,7 @@ use mathlib.Core.List.{List}
 use lib.ListN.{length}
 use Rattle.events.specs.declared.event.Event.{Event}
 use Rattle.events.specs.Bytes.{Bytes, u16At}
+use Rattle.events.specs.Said.{refuse}
 use Rattle.events.specs.Starts.{startOf}
 use Rattle.events.proofs.StartLaws.{no-starts}
 use Rattle.events.specs.Events.{begins}
@@ -19,35 +20,34 @@ use Rattle.opacity.specs.declared.verdict.Scanned.{Scanned}
 use Rattle.opacity.specs.declared.verdict.Verdict.{Verdict}
 use Rattle.opacity.specs.Transactions.{Status, committed, aborted, pending, live, Stands}
 use Rattle.opacity.specs.Justification.{Justified}
-use Rattle.opacity.specs.Marking.{Marking as Content, verdict, RuleD}
+use Rattle.opacity.specs.declared.verdict.Rule.{Rule}
+use Rattle.opacity.specs.Marking.{Marking as Content, verdict, RuleD, FirstBroken, namedEvent, namedTransaction}
 use Rattle.opacity.specs.Scan.{scan, AllJustified, FaultsAt}
 use Rattle.opacity.specs.Counts.{counts}
-use Rattle.opacity.proofs.Theorems.{opaque-iff, faulted-iff, accepted-iff-justified}
+use Rattle.opacity.proofs.Theorems.{opaque-iff, faulted-iff, accepted-iff-justified, broken-iff-first}
 use Rattle.counts.specs.Tally.{standing, tally, times}
 use Rattle.counts.proofs.Theorems.{adds-up, counted-once, counted-iff}
 use Rattle.marking.specs.File.{known, FileRead, content, refused as unread, fileRead}
-use Rattle.marking.specs.Answer.{ruled}
 use Rattle.marking.proofs.ContentLaws.{content-readable}
 use Rattle.reader.specs.Reading.{Log, Outcome, readable, refused, historyOf}
 use Rattle.reader.specs.FirstEdition.{FirstOutcome, events, refuses, firstHistory}
 use Rattle.reader.proofs.FirstEdition.{either, same-history}
 use Rattle.writer.proofs.WriteBack.{write-back}
-use Rattle.scan.specs.declared.Judgement.{Judgement}
+use Rattle.scan.specs.declared.Scanning.{Scanning}
 use Rattle.scan.specs.Answer.{sizeRefusal, decided}
 use Rattle.scan.proofs.AnswerLaws.{decided-refused, decided-scanned, scanned-e, refused-31, passes-31, passes-31-e}
 use Rattle.capture.specs.declared.Marking.{Marking}
-use Rattle.capture.specs.declared.Opacity.{Opacity}
 use Rattle.capture.specs.declared.Report.{Report}
-use Rattle.capture.specs.Report.{countsOf, markingBy, opacityBy, markingOf, opacityOf, judged, saidOf, reportOn, firstSaid, firstReport}
+use Rattle.capture.specs.Report.{countsOf, markingBy, markingOf, opacityOf, judged, saidOf, reportOn, firstSaid, firstReport}
 
 -- A history is refused exactly where one of its questions says no, with that question's byte,
-pub history-refused : (s marking : List ℕ) (q byte : ℕ) → (reportOn s marking ≡ Report.Refused q byte) ↔ (historyOf s ≡ refused q byte)
+pub history-refused : (s marking : List ℕ) (q byte : ℕ) → (reportOn s marking ≡ Report.Refused (refuse q byte)) ↔ (historyOf s ≡ refused q byte)
 unfolding reportOn judged
 history-refused s marking q byte = (go (historyOf s), λ e. ap (λ (x : Outcome). saidOf x marking) e)
   where
-    go : (o : Outcome) → saidOf o marking ≡ Report.Refused q byte → o ≡ refused q byte
+    go : (o : Outcome) → saidOf o marking ≡ Report.Refused (refuse q byte) → o ≡ refused q byte
     go (readable l) d = absurd (let z : _≡_ {A = ℕ} 0 1 = cc in omega arith)
-    go (refused a b) d = cc
+    go (refused a b) d = let e : refuse a b ≡ refuse q byte = cc in λ i. refused (e i .question) (e i .at)
 
 -- and otherwise the report has four lines, all of them on the start values and the events in the file.
 module _ (s : List ℕ) (by : Bytes s) (l : Log) (file : historyOf s ≡ readable l) (marking : List ℕ) where
@@ -82,37 +82,35 @@ module _ (s : List ℕ) (by : Bytes s) (l : Log) (file : historyOf s ≡ readabl
   tally-counts-as s t = counted-iff h is-readable s t
 
   -- what the scan says is said of at most 10 transactions, and 31 of more
-  scanned : (x : Scanned) → (opacityOf start h ≡ Opacity.Scanned x) ↔ ((begins h ≤ 10) × (scan start h ≡ x))
+  scanned : (x : Scanned) → (opacityOf start h ≡ Scanning.Scanned x) ↔ ((begins h ≤ 10) × (scan start h ≡ x))
   unfolding opacityOf
-  scanned x = (go (decided (sizeRefusal h (length h)) (scan start h)) refl, λ w. ap opacityBy (sym (decided-scanned (scan start h) (passes-31 h (length h) (w .0)))) ∙ ap Opacity.Scanned (w .1))
-    where
-      go : (j : Judgement) → decided (sizeRefusal h (length h)) (scan start h) ≡ j → opacityBy j ≡ Opacity.Scanned x → (begins h ≤ 10) × (scan start h ≡ x)
-      go (Judgement.Scanned s) e d =
-          let r = scanned-e _ _ s e in
-          let k : s ≡ x = cc in (passes-31-e h (length h) (r .0), r .1 ∙ k)
-      go (Judgement.Refused q i) e d = absurd (let z : _≡_ {A = ℕ} 0 1 = cc in omega arith)
+  scanned x = (
+    λ e. let r = scanned-e _ _ x e in (passes-31-e h (length h) (r .0), r .1),
+    λ w. sym (decided-scanned (scan start h) (passes-31 h (length h) (w .0))) ∙ ap Scanning.Scanned (w .1),
+  )
 
-  pub says-31 : (opacityOf start h ≡ Opacity.Refused 31) ↔ (10 < begins h)
+  -- "opaque refused 31" exactly where more than 10 transactions begin
+  pub says-31 : (opacityOf start h ≡ Scanning.Refused (refuse 31 (length h))) ↔ (10 < begins h)
   unfolding opacityOf
   says-31 = (
     λ e. elim (decLt 10 (begins h)) [ yes l ↦ l | no f ↦ absurd (few e (omega arith)) ],
-    λ l. ap opacityBy (sym (decided-refused (scan start h) (refused-31 h (length h) l))),
+    λ l. sym (decided-refused (scan start h) (refused-31 h (length h) l)),
   )
     where
-      few : opacityBy (decided (sizeRefusal h (length h)) (scan start h)) ≡ Opacity.Refused 31 → begins h ≤ 10 → ⊥
+      few : decided (sizeRefusal h (length h)) (scan start h) ≡ Scanning.Refused (refuse 31 (length h)) → begins h ≤ 10 → ⊥
       few e l =
-          let x : Opacity.Scanned (scan start h) ≡ Opacity.Refused 31 = ap opacityBy (decided-scanned (scan start h) (passes-31 h (length h) l)) ∙ e in
+          let x : Scanning.Scanned (scan start h) ≡ Scanning.Refused (refuse 31 (length h)) = decided-scanned (scan start h) (passes-31 h (length h) l) ∙ e in
           let z : _≡_ {A = ℕ} 0 1 = cc in omega arith
 
   -- "opaque yes" exactly where every prefix has a justification,
-  pub says-opaque : (opacityOf start h ≡ Opacity.Scanned Scanned.Opaque) ↔ ((begins h ≤ 10) × AllJustified start h)
+  pub says-opaque : (opacityOf start h ≡ Scanning.Scanned Scanned.Opaque) ↔ ((begins h ≤ 10) × AllJustified start h)
   says-opaque =
       let w = scanned Scanned.Opaque in
       let o = opaque-iff start h is-readable in
       (λ e. (w .0 e .0, o .0 (w .0 e .1)), λ p. w .1 (p .0, o .1 (p .1)))
 
   -- "opaque no event e" exactly where the prefix that ends with e is the first without one,
-  pub says-faulted : (e why : ℕ) → (opacityOf start h ≡ Opacity.Scanned (Scanned.Faulted e why)) ↔ ((begins h ≤ 10) × FaultsAt start h e why)
+  pub says-faulted : (e why : ℕ) → (opacityOf start h ≡ Scanning.Scanned (Scanned.Faulted e why)) ↔ ((begins h ≤ 10) × FaultsAt start h e why)
   says-faulted e why =
       let w = scanned (Scanned.Faulted e why) in
       let o = faulted-iff start h is-readable e why in
@@ -134,14 +132,49 @@ module _ (s : List ℕ) (by : Bytes s) (l : Log) (file : historyOf s ≡ readabl
       by-rules : (m : Content) → fileRead (known h) marking ≡ content m → (verdict start h m ≡ Verdict.Accepted) ↔ (Justified start h (m .places) × RuleD h m)
       by-rules m e = accepted-iff-justified start h is-readable m (content-readable h marking m is-readable e)
 
-      go : (x : FileRead) → fileRead (known h) marking ≡ x → markingBy (ruled start h x) ≡ Marking.Ruled Verdict.Accepted → Justifying
+      go : (x : FileRead) → fileRead (known h) marking ≡ x → markingBy start h x ≡ Marking.Ruled Verdict.Accepted → Justifying
       go (content m) e d =
           let a = by-rules m e .0 cc in
           record { marked = m; holds = e; justified = a .0; ruleD = a .1 }
       go (unread q byte) e d = absurd (let z : _≡_ {A = ℕ} 0 1 = cc in omega arith)
 
-      back : Justifying → markingBy (ruled start h (fileRead (known h) marking)) ≡ Marking.Ruled Verdict.Accepted
-      back j = ap (λ (x : FileRead). markingBy (ruled start h x)) (j .holds) ∙ ap Marking.Ruled (by-rules (j .marked) (j .holds) .1 (j .justified, j .ruleD))
+      back : Justifying → markingBy start h (fileRead (known h) marking) ≡ Marking.Ruled Verdict.Accepted
+      back j = ap (markingBy start h) (j .holds) ∙ ap Marking.Ruled (by-rules (j .marked) (j .holds) .1 (j .justified, j .ruleD))
+
+  -- "marking refused N byte B" exactly where question N of the marking says no at byte B,
+  pub says-refused : (q byte : ℕ) → (markingOf start h marking ≡ Marking.Refused (refuse q byte)) ↔ (fileRead (known h) marking ≡ unread q byte)
+  unfolding markingOf
+  says-refused q byte = (go (fileRead (known h) marking), λ e. ap (markingBy start h) e)
+    where
+      go : (x : FileRead) → markingBy start h x ≡ Marking.Refused (refuse q byte) → x ≡ unread q byte
+      go (content m) d = absurd (let z : _≡_ {A = ℕ} 0 1 = cc in omega arith)
+      go (unread a b) d = let e : refuse a b ≡ refuse q byte = cc in λ i. unread (e i .question) (e i .at)
+
+  -- the first broken rule of what the marking file holds, where it is broken lowest, names this event and transaction
+  pub record Breaks (r : Rule) (e t : ℕ) : Type 0 where
+    pub marked : Content
+    pub holds : fileRead (known h) marking ≡ content marked
+    pub at : ℕ
+    pub first : FirstBroken start h marked r at
+    pub event : e ≡ namedEvent h r at
+    pub transaction : t ≡ namedTransaction h r at
+
+  -- and "marking rule R event E transaction T" exactly where the marking is readable and R is the first rule that it breaks.
+  pub says-broken : (r : Rule) (e t : ℕ) → (markingOf start h marking ≡ Marking.Ruled (Verdict.Broken r e t)) ↔ Breaks r e t
+  unfolding markingOf
+  says-broken r e t = (go (fileRead (known h) marking) refl, back)
+    where
+      go : (x : FileRead) → fileRead (known h) marking ≡ x → markingBy start h x ≡ Marking.Ruled (Verdict.Broken r e t) → Breaks r e t
+      go (content m) f d =
+          let v : verdict start h m ≡ Verdict.Broken r e t = cc in
+          let w = broken-iff-first start h is-readable m r e t .0 v in
+          record { marked = m; holds = f; at = w .0; first = w .1; event = w .2; transaction = w .3 }
+      go (unread q byte) f d = absurd (let z : _≡_ {A = ℕ} 0 1 = cc in omega arith)
+
+      back : Breaks r e t → markingBy start h (fileRead (known h) marking) ≡ Marking.Ruled (Verdict.Broken r e t)
+      back b =
+          ap (markingBy start h) (b .holds)
+          ∙ ap Marking.Ruled (broken-iff-first start h is-readable (b .marked) r e t .1 (b .at, b .first, b .event, b .transaction))
 
 -- The report on a history file of edition 1, or on any other that is not of edition 2, is the one that it was before there were start values.
 pub first-edition : (s marking : List ℕ) → (u16At s 4 ≡ 2 → ⊥) → reportOn s marking ≡ firstReport s marking

@@ -1,47 +1,41 @@
--- The report on a capture ("Scan and report"), as the numbers of its lines: from the bytes of a history file and of a marking file.
+-- To be believed: the report on a capture ("Scan and report"), as the numbers of its lines, from the bytes of a history file and of a marking
+-- file.
 -- Assumes nothing.
 use Prim.Native.Nat.{ℕ}
 use mathlib.Core.List.{List}
 use lib.ListN.{length}
 use Rattle.events.specs.declared.event.Event.{Event}
+use Rattle.events.specs.Said.{refuse}
 use Rattle.events.specs.Starts.{startOf}
 use Rattle.opacity.specs.Justification.{zeros}
 use Rattle.opacity.specs.Counts.{counts}
+use Rattle.opacity.specs.Marking.{verdict}
 use Rattle.opacity.specs.Scan.{scan}
 use Rattle.counts.specs.Tally.{tally}
 use Rattle.reader.specs.Reading.{Outcome, readable, refused, historyOf}
 use Rattle.reader.specs.FirstEdition.{FirstOutcome, events, refuses, firstHistory}
-use Rattle.scan.specs.declared.Judgement.{Judgement}
+use Rattle.scan.specs.declared.Scanning.{Scanning}
 use Rattle.scan.specs.Answer.{sizeRefusal, decided}
-use Rattle.marking.specs.declared.check.Judged.{Judged}
-use Rattle.marking.specs.File.{known, fileRead}
-use Rattle.marking.specs.Answer.{ruled}
+use Rattle.marking.specs.File.{known, FileRead, content, refused as unread, fileRead}
 use Rattle.capture.specs.declared.Counts.{Counts}
 use Rattle.capture.specs.declared.Marking.{Marking}
-use Rattle.capture.specs.declared.Opacity.{Opacity}
 use Rattle.capture.specs.declared.Report.{Report}
 
 -- "events" counts the events, "transactions" those begun, "reads" the store reads
 unfoldable pub countsOf : List Event → Counts
 countsOf h = record { events = counts h .events; transactions = counts h .transactions; reads = counts h .reads }
 
--- what the line on the marking says of the checker's answer, and that on opacity of the scan's
-abbrev pub markingBy : Judged → Marking
-markingBy (Judged.Ruled v) = Marking.Ruled v
-markingBy (Judged.MarkingRefused q byte) = Marking.Refused q byte
-markingBy (Judged.HistoryRefused q e) = Marking.Refused q e
-
-abbrev pub opacityBy : Judgement → Opacity
-opacityBy (Judgement.Scanned s) = Opacity.Scanned s
-opacityBy (Judgement.Refused q e) = Opacity.Refused q
-
 -- the marking's questions, and then the rules
+abbrev pub markingBy : (ℕ → ℕ) → List Event → FileRead → Marking
+markingBy start h (content m) = Marking.Ruled (verdict start h m)
+markingBy start h (unread q byte) = Marking.Refused (refuse q byte)
+
 unfoldable pub markingOf : (ℕ → ℕ) → List Event → List ℕ → Marking
-markingOf start h file = markingBy (ruled start h (fileRead (known h) file))
+markingOf start h file = markingBy start h (fileRead (known h) file)
 
 -- 31, and then the prefixes
-unfoldable pub opacityOf : (ℕ → ℕ) → List Event → Opacity
-opacityOf start h = opacityBy (decided (sizeRefusal h (length h)) (scan start h))
+unfoldable pub opacityOf : (ℕ → ℕ) → List Event → Scanning
+opacityOf start h = decided (sizeRefusal h (length h)) (scan start h)
 
 unfoldable pub judged : (ℕ → ℕ) → List Event → List ℕ → Report
 judged start h file = Report.Judged (countsOf h) (tally h) (markingOf start h file) (opacityOf start h)
@@ -49,7 +43,7 @@ judged start h file = Report.Judged (countsOf h) (tally h) (markingOf start h fi
 -- what is said of a history file's content
 abbrev pub saidOf : Outcome → List ℕ → Report
 saidOf (readable l) marking = judged (startOf (l .starts)) (l .events) marking
-saidOf (refused q byte) marking = Report.Refused q byte
+saidOf (refused q byte) marking = Report.Refused (refuse q byte)
 
 unfoldable pub reportOn : List ℕ → List ℕ → Report
 reportOn history marking = saidOf (historyOf history) marking
@@ -57,7 +51,7 @@ reportOn history marking = saidOf (historyOf history) marking
 -- the report as it was before there were start values, on a history of edition 1: every register starts at 0
 abbrev pub firstSaid : FirstOutcome → List ℕ → Report
 firstSaid (events h) marking = judged zeros h marking
-firstSaid (refuses q byte) marking = Report.Refused q byte
+firstSaid (refuses q byte) marking = Report.Refused (refuse q byte)
 
 unfoldable pub firstReport : List ℕ → List ℕ → Report
 firstReport history marking = firstSaid (firstHistory history) marking

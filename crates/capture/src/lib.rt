@@ -10,16 +10,16 @@ ghost use Rattle.events.specs.Columns.{columns, history, hold};
 ghost use Rattle.events.specs.Questions.{columnsAnswer, historyAnswer};
 ghost use Rattle.events.specs.Starts.{startOf};
 ghost use Rattle.events.specs.declared.columns.Checked.{Checked};
-ghost use Rattle.capture.specs.Report.{countsOf, markingOf, opacityOf, judged, reportOn};
+ghost use Rattle.capture.specs.Report.{countsOf, markingOf, judged, reportOn};
 use counts::tally::Tally;
 use counts::tally::tally_of;
-use marking::check::Judged;
+use events::refusal::Refusal;
+use marking::check::Checking;
 use marking::check::check_marking;
-use opacity::verdict::Scanned;
 use opacity::verdict::Verdict;
 use reader::Reading;
 use reader::read_history;
-use scan::Judgement;
+use scan::Scanning;
 use scan::scan_history;
 
 // The report's first line: events, transactions begun and store reads.
@@ -32,26 +32,18 @@ pub struct Counts {
 // The line on the marking: the verdict, or the question that says no with its byte.
 pub enum Marking {
     Ruled(Verdict),
-    Refused { question: u8, byte: usize },
+    Refused(Refusal),
 }
 
-// The line on opacity: what the scan says, or the question that says no.
-pub enum Opacity {
-    Scanned(Scanned),
-    Refused(u8),
-}
-
-// The report: the history is refused with its byte and nothing more is said; or the four lines.
+// The report: the history is refused with its byte and nothing more is said; or the four lines, the last
+// of which is the scan's answer.
 pub enum Report {
-    Refused {
-        question: u8,
-        byte: usize,
-    },
+    Refused(Refusal),
     Judged {
         counts: Counts,
         tally: Tally,
         marking: Marking,
-        opacity: Opacity,
+        opacity: Scanning,
     },
 }
 
@@ -101,40 +93,9 @@ fn marking_of(
         file,
     );
     match answer {
-        Judged::Ruled(verdict) => Marking::Ruled(verdict),
-        Judged::MarkingRefused { question, byte } => Marking::Refused { question, byte },
-        Judged::HistoryRefused { question, event } => Marking::Refused {
-            question,
-            byte: event,
-        },
-    }
-}
-
-// The line on opacity.
-fn opacity_of(
-    edition: u16,
-    starts: &[u32; 32],
-    kinds: &[u16],
-    transactions: &[u16],
-    registers: &[u16],
-    values: &[u32],
-    count: usize,
-) -> Opacity
-    requires { ⌜ historyAnswer edition (now starts) (columns (now kinds) (now transactions) (now registers) (now values)) count ≡ Checked.Readable ⌝ }
-    ensures { λ r. ⌜ r ≡ opacityOf (startOf (now (starts .entry))) (history (columns (now (kinds .entry)) (now (transactions .entry)) (now (registers .entry)) (now (values .entry))) count) ⌝ }
-{
-    let answer = scan_history(
-        edition,
-        starts,
-        kinds,
-        transactions,
-        registers,
-        values,
-        count,
-    );
-    match answer {
-        Judgement::Scanned(scanned) => Opacity::Scanned(scanned),
-        Judgement::Refused { question, event: _ } => Opacity::Refused(question),
+        Checking::Ruled(verdict) => Marking::Ruled(verdict),
+        Checking::MarkingRefused(refusal) => Marking::Refused(refusal),
+        Checking::HistoryRefused(refusal) => Marking::Refused(refusal),
     }
 }
 
@@ -164,7 +125,7 @@ fn judge_columns(
         count,
         file,
     );
-    let opacity = opacity_of(
+    let opacity = scan_history(
         edition,
         starts,
         kinds,
@@ -208,7 +169,7 @@ fn report_in(
             count,
             marking,
         ),
-        Reading::Refused { question, byte } => Report::Refused { question, byte },
+        Reading::Refused(refusal) => Report::Refused(refusal),
     }
 }
 

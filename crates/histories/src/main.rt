@@ -96,11 +96,11 @@ fn say_reading(read: HistoryRead) {
             say(b"read ");
             number(n);
         }
-        Reading::Refused { question, byte } => {
+        Reading::Refused(refusal) => {
             say(b"refused ");
-            number(question as usize);
+            number(refusal.question as usize);
             say(b" byte ");
-            number(byte);
+            number(refusal.at);
         }
     }
     say(b"\n");
@@ -133,11 +133,11 @@ fn say_writing(v: Writing) {
             say(b"written ");
             number(n);
         }
-        Writing::Refused { question, event } => {
+        Writing::Refused(refusal) => {
             say(b"refused ");
-            number(question as usize);
+            number(refusal.question as usize);
             say(b" event ");
-            number(event);
+            number(refusal.at);
         }
     }
     say(b"\n");

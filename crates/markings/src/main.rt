@@ -1,6 +1,6 @@
 // The paper's marking examples, and a file for each refusal: a line for each.
 use libc::STDOUT_FILENO;
-use marking::check::Judged;
+use marking::check::Checking;
 use marking::check::check_marking;
 use opacity::verdict::Rule;
 use opacity::verdict::Verdict;
@@ -39,18 +39,18 @@ fn put_verdict(verdict: Verdict) {
     }
 }
 
-fn show(label: &[u8], answer: Judged) {
+fn show(label: &[u8], answer: Checking) {
     put(label);
     put(b": ");
     match answer {
-        Judged::Ruled(verdict) => put_verdict(verdict),
-        Judged::HistoryRefused { question, event } => {
-            put_number(b"history refused ", question as usize);
-            put_number(b" event ", event);
+        Checking::Ruled(verdict) => put_verdict(verdict),
+        Checking::HistoryRefused(refusal) => {
+            put_number(b"history refused ", refusal.question as usize);
+            put_number(b" event ", refusal.at);
         }
-        Judged::MarkingRefused { question, byte } => {
-            put_number(b"marking refused ", question as usize);
-            put_number(b" byte ", byte);
+        Checking::MarkingRefused(refusal) => {
+            put_number(b"marking refused ", refusal.question as usize);
+            put_number(b" byte ", refusal.at);
         }
     }
     put(b"\n");

@@ -2,7 +2,7 @@
 -- Assumes nothing.
 use denote.Ref.{now}
 use borrow.Author.Needs.{needs}
-use mathlib.Core.Path.{_≡_}
+use mathlib.Core.Path.{_≡_, _∙_}
 use Rattle.events.specs.declared.columns.Checked.the-variants.{Readable}
 use Rattle.events.specs.Columns.{Columns, columns}
 use Rattle.events.specs.Questions.{columnsAnswer}
@@ -10,6 +10,7 @@ use Rattle.events.proofs.StartLaws.{fine}
 use Rattle.opacity.proofs.CountLaws.{checked-readable}
 use Rattle.capture.specs.declared.Report.{Report}
 use Rattle.capture.specs.Report.{judged}
+use Rattle.capture.proofs.ReportLaws.{opacity-line}
 use Rattle.capture.proofs.judge_columns.Statement.{statement}
 use Rattle.capture.proofs.judge_columns.Tie as tie
 
@@ -33,15 +34,17 @@ tally-of-requires c κs =
 marking-of-requires : tie.Need-marking-of-requires
 marking-of-requires c κs = search needs
 
-opacity-of-requires : tie.Need-opacity-of-requires
-opacity-of-requires c κs = search needs
+scan-history-requires : tie.Need-scan-history-requires
+scan-history-requires c κs = search needs
 
 returns : tie.Need-returns
 unfolding judged
 returns c =
-    λ i. Report.Judged (c .before .before .before .counts-of .ensures i) (c .before .before .tally-of .ensures i) (c .before .marking-of .ensures i) (c .opacity-of .ensures i)
+    let start = c .before .before .before .before .before .before .before .before .before in
+    let o = c .scan-history .ensures ∙ opacity-line (start .args .edition) (now (start .args .starts)) (given start) (start .args .count) (start .pre) in
+    λ i. Report.Judged (c .before .before .before .counts-of .ensures i) (c .before .before .tally-of .ensures i) (c .before .marking-of .ensures i) (o i)
 
 pub judge-columns-spec : {M : Type 1} → statement M
 judge-columns-spec =
     tie.close
-    (tie.spec counts-of-requires tally-of-requires marking-of-requires opacity-of-requires returns)
+    (tie.spec counts-of-requires tally-of-requires marking-of-requires scan-history-requires returns)
