@@ -16,6 +16,7 @@ pub mod MarkingBytes
 pub mod Serial
 pub mod Contents
 pub mod LowestSerial
+pub mod Explained
 pub mod EventKinds
 pub mod Statuses
 pub mod Pending

@@ -152,7 +152,7 @@ module _ (start : Store) (h : List Event) (J : List Place) where
       ∙ ap (λ (u : ℕ). Option·getD (lastWrite (take i h) u (eventAt h i .register)) (contents start h P (eventAt h i .register))) (sym q)
 
   -- the places before t's, where J is cut at its place
-  cut-before : isOrder (begins h) J ≡ true → (P : List Place) (p : Place) (S : List Place) → J ≡ P ++ p ∷ S → before (p .transaction) J ≡ P
+  pub cut-before : isOrder (begins h) J ≡ true → (P : List Place) (p : Place) (S : List Place) → J ≡ P ++ p ∷ S → before (p .transaction) J ≡ P
   unfolding isOrder
   cut-before o P p S e =
       let d : distinct J ≡ true = and-l _ _ (and-r _ _ o) in

@@ -21,9 +21,10 @@ use Rattle.opacity.specs.Transactions.{precedes, EndedBefore, ownRight}
 use Rattle.opacity.specs.Justification.{Place, Justified, justifies, placed, before, preceded, realTimeKept, distinct, isOrder, OnePlace}
 use Rattle.opacity.specs.Lowest.{notAbove, lower, lowestOf, LowestJustified, PlaceByPlace}
 use Rattle.opacity.specs.Serial.{Serial, LowestSerial, AllSerial, SerialFaultsAt}
+use Rattle.opacity.specs.Explains.{Explains}
 use Rattle.opacity.specs.Marking.{Marking, ReadableFor, marked, RuleD, Rule, Accepted, Broken, verdict, ruleHolds, AllHold, FirstBroken, LastOf, BeginOf, namedEvent, namedTransaction, A, B}
 use Rattle.opacity.specs.Scan.{scan, Opaque, Faulted, AllJustified, FaultsAt}
-use Rattle.opacity.proofs.Orders.{fills, filled, distinct-at, split}
+use Rattle.opacity.proofs.Orders.{fills, filled, one-place}
 use Rattle.opacity.proofs.Steps.{steps, known-apart, justified, justified-test}
 use Rattle.opacity.proofs.Compare.{orders-ordered}
 use Rattle.opacity.proofs.Least.{lowest-justifies, lowest-least, none-iff}
@@ -32,6 +33,7 @@ use Rattle.opacity.proofs.Rules.{accepted-justified, justified-accepted
 use Rattle.opacity.proofs.Finder.{marked-readable, marked-accepted}
 use Rattle.opacity.proofs.Opacity.{opaque-prefixes, prefixes-opaque, faulted-prefix, prefix-faulted}
 use Rattle.opacity.proofs.Serial.{Known, justified-is-serial, prefix-is-serial, opaque-is-serial}
+use Rattle.opacity.proofs.Explained.{explains-iff}
 use Rattle.opacity.proofs.LowestSerial.{not-lower, found-is-lowest, none-is-none}
 use Rattle.opacity.proofs.Meanings.{precedes-means, last-event-means, begin-of-means}
 use Rattle.opacity.proofs.FirstLaws.{every-fails, implies-false}
@@ -44,20 +46,7 @@ pub places-are-n : (n : ℕ) (J : List Place) → isOrder n J ≡ true → lengt
 places-are-n = filled
 
 pub one-place-each : (n : ℕ) (J : List Place) → isOrder n J ≡ true → (t : ℕ) → t < n → OnePlace t J
-unfolding isOrder
-one-place-each n J o t l =
-    let d = and-r (all (λ p. ltb (p .transaction) n) J) _ o in
-    let s = split t J (every-e (λ u. placed u J) n (and-r (distinct J) _ d) t l) in
-    let f = distinct-at (s .front) (s .here) (s .back) (ap distinct (sym (s .cut)) ∙ and-l _ _ d) in
-    record {
-      front = s .front;
-      here = s .here;
-      back = s .back;
-      cut = s .cut;
-      names = s .names;
-      not-before = s .fresh;
-      not-behind = subst (λ (u : ℕ). placed u (s .back) ≡ false) (s .names) (f .1);
-    }
+one-place-each = one-place
 
 -- The test and the record of a justification agree.
 pub test-agrees : (start : ℕ → ℕ) (h : List Event) (J : List Place) → (justifies start h J ≡ true) ↔ Justified start h J
@@ -85,6 +74,10 @@ module _ (start : ℕ → ℕ) (h : List Event) (r : readable h ≡ true) where
   -- those of aborted transactions included, gets its value.
   pub justified-iff-serial : (J : List Place) → Justified start h J ↔ Serial start h J
   justified-iff-serial J = justified-is-serial start h J (begun h r)
+
+  -- The same in the words of the events, with no notion of status, precedence, own reads or legality.
+  pub justified-iff-explains : (J : List Place) → Justified start h J ↔ Explains start h J
+  justified-iff-explains J = explains-iff start h J r
 
   -- ---- the lowest justification
 

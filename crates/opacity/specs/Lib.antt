@@ -7,3 +7,4 @@ pub mod Scan
 pub mod Store
 pub mod Serial
 pub mod Counts
+pub mod Explains
