@@ -4,7 +4,7 @@ use Prim.Native.Nat.{ℕ, suc, _<_}
 use native.Mathlib.Nat.{lt-of-lt-of-le, lt-trans}
 use mathlib.Core.Path.{_≡_, refl, sym, ap, _∙_, subst}
 use mathlib.Core.Logic.{_↔_}
-use mathlib.Core.Bool.{Bool, true, false, not}
+use mathlib.Core.Bool.{Bool, true, not}
 use mathlib.Core.List.{List, _∷_}
 use lib.ListN.{length}
 use borrow.Author.Tests.{eqb-true, eq-eqb}
@@ -15,10 +15,11 @@ use Rattle.events.specs.Questions.{readable}
 use Rattle.events.proofs.ListLaws.{and-l, imp-e, imp-i, every-e, every-i, or-l, or-r, not-true, any-append}
 use Rattle.events.proofs.ColumnLaws.{begins-take}
 use Rattle.events.proofs.QuestionLaws.{begun}
-use Rattle.opacity.specs.Transactions.{Status, committed, aborted, pending, live, Stands, status, allows, precedes, EndedBefore}
-use Rattle.opacity.specs.Justification.{Place, isOf, placed, before, outcome, isOrder, OnePlace, outcomeKept, preceded, realTimeKept, Justified}
+use Rattle.opacity.specs.Transactions.{Status, committed, aborted, pending, live, Stands, status, allows, precedes}
+use Rattle.opacity.specs.Transactions.{EndedBefore}
+use Rattle.opacity.specs.Justification.{Place, isOf, placed, before, outcome, isOrder, OnePlace}
+use Rattle.opacity.specs.Justification.{outcomeKept, preceded, realTimeKept, Justified}
 use Rattle.opacity.specs.Store.{Store}
-use Rattle.opacity.specs.Serial.{Serial}
 use Rattle.opacity.specs.Explains.{PlacedBefore, Explains}
 use Rattle.opacity.proofs.Orders.{orders, filled, one-place}
 use Rattle.opacity.proofs.Meanings.{precedes-means}
@@ -52,6 +53,10 @@ module _ (start : Store) (h : List Event) (J : List Place) (r : readable h ≡ t
   unfolding by
   by-known p t i l b = subst (λ (u : ℕ). u < begins h) (eqb-true _ _ (and-l _ _ b)) (known i l)
 
+  -- real time, asked of one transaction
+  abbrev inFront : ℕ → ℕ → Bool
+  inFront u t = precedes h t u implies placed t (before u J)
+
   in-time : Justified start h J → (t u : ℕ) → EndedBefore h t u → PlacedBefore t u J
   unfolding realTimeKept preceded
   in-time j t u e =
@@ -59,7 +64,7 @@ module _ (start : Store) (h : List Event) (J : List Place) (r : readable h ≡ t
       let b = by-known isBegin u (e .beginning) (e .inside) (e .begins) in
       let w = one-place (begins h) J (j .order) u b in
       let k : placed t (before u J) ≡ true =
-      imp-e _ _ (every-e (λ s. precedes h s u implies placed s (before u J)) (begins h) (j .realTime u b) t a) (precedes-means h t u .1 e) in
+      imp-e _ _ (every-e (inFront u) (begins h) (j .realTime u b) t a) (precedes-means h t u .1 e) in
       let c : before u J ≡ w .front =
       ap (λ (v : ℕ). before v J) (sym (w .names)) ∙ cut-before start h J (j .order) (w .front) (w .here) (w .back) (w .cut) in
       record { front = w .front; here = w .here; back = w .back; cut = w .cut; names = w .names; earlier = ap (placed t) (sym c) ∙ k }
@@ -94,7 +99,7 @@ module _ (start : Store) (h : List Event) (J : List Place) (r : readable h ≡ t
 
   timed : Explains start h J → (u : ℕ) → u < begins h → realTimeKept h J u ≡ true
   unfolding realTimeKept preceded
-  timed x u l = every-i (λ t. precedes h t u implies placed t (before u J)) (begins h) (λ t m. imp-i _ _ (λ e. go t (x .realTime t u (precedes-means h t u .0 e))))
+  timed x u l = every-i (inFront u) (begins h) (λ t m. imp-i _ _ (λ e. go t (x .realTime t u (precedes-means h t u .0 e))))
     where
       go : (t : ℕ) → PlacedBefore t u J → placed t (before u J) ≡ true
       go t w =

@@ -14,7 +14,7 @@ use Rattle.events.specs.Lists.{all, _or_, orElse, any, keep, latest}
 use Rattle.events.specs.declared.event.Event.{Event}
 use Rattle.events.specs.Events.{eventAt, begins}
 use Rattle.opacity.specs.Transactions.{isStoreRead, storeReads}
-use Rattle.opacity.specs.Justification.{Place, isOf, stop, before, Justified}
+use Rattle.opacity.specs.Justification.{Place, isOf, before, Justified}
 use Rattle.opacity.specs.Marking.{ReadableFor, Point, gapOf, placeOf, marked, others, between, noWriterBetween, Accepted, verdict, RuleD}
 use Rattle.events.proofs.ListLaws.{and-i, imp-i, nor-l, nor-r, keep-member}
 use Rattle.opacity.proofs.Orders.{filled}
@@ -73,7 +73,7 @@ unfolding before
 before-le t [] = le-refl 0
 before-le t (p ∷ J) = go (isOf t p) (before-le t J)
   where
-    go : (b : Bool) → length (before t J) ≤ length J → length (stop b p (before t J)) ≤ length (p ∷ J)
+    go : (b : Bool) → length (before t J) ≤ length J → length (cond b [] (p ∷ before t J)) ≤ length (p ∷ J)
     go true i = omega arith
     go false i = omega arith
 

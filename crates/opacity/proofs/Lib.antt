@@ -10,6 +10,7 @@ pub mod Least
 pub mod FirstLaws
 pub mod VerdictLaws
 pub mod Rules
+pub mod Between
 pub mod Opacity
 pub mod Finder
 pub mod MarkingBytes

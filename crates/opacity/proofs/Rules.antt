@@ -4,7 +4,7 @@ use Prim.Native.Nat.{ℕ, _≤_}
 use native.Mathlib.Nat.{min-eq-left, min-eq-right, max-eq-left, max-eq-right, lt-of-not-le, le-of-lt}
 use native.Mathlib.Decide.{decLe}
 use mathlib.Core.Path.{_≡_, refl, sym, ap, _∙_}
-use mathlib.Core.Bool.{Bool, true, false}
+use mathlib.Core.Bool.{Bool, true, false, cond}
 use mathlib.Core.List.{List, [], _∷_, _++_}
 use mathlib.Core.Option.{Option, none, Option·getD}
 use lib.ListN.{length, take, drop, take-append-drop}
@@ -12,7 +12,7 @@ use lib.Seq.{take-take}
 use Rattle.events.specs.Lists.{isNone, keep, latest}
 use Rattle.events.specs.declared.event.Event.{Event}
 use Rattle.events.specs.Events.{eventAt, begins}
-use Rattle.opacity.specs.Justification.{Place, isOf, stop, before, written, contents, isOrder, legalOver, legal, Justified}
+use Rattle.opacity.specs.Justification.{Place, isOf, before, written, contents, isOrder, legalOver, legal, Justified}
 use Rattle.opacity.specs.Marking.{Marking, placeOf, others, between, noWriterBetween, valueAtGap, A, B, C, D, E, Accepted, verdict, ruleHolds, AllHold, RuleD}
 use Rattle.events.proofs.ListLaws.{imp-e, imp-i, isNone-none, keep-append, latest-append}
 use Rattle.opacity.proofs.VerdictLaws.{accepted-rules}
@@ -23,7 +23,7 @@ unfolding placeOf before
 take-before t [] = refl
 take-before t (p ∷ J) = go (isOf t p) (take-before t J)
   where
-    go : (b : Bool) → take (placeOf t J) J ≡ before t J → take (length (stop b p (before t J))) (p ∷ J) ≡ stop b p (before t J)
+    go : (b : Bool) → take (placeOf t J) J ≡ before t J → take (length (cond b [] (p ∷ before t J))) (p ∷ J) ≡ cond b [] (p ∷ before t J)
     go true ih = refl
     go false ih = ap (λ (l : List Place). p ∷ l) ih
 
@@ -32,7 +32,7 @@ unfolding others keep before
 others-before t [] = refl
 others-before t (p ∷ J) = go (isOf t p) refl (others-before t J)
   where
-    go : (b : Bool) → isOf t p ≡ b → others t (before t J) ≡ before t J → others t (stop b p (before t J)) ≡ stop b p (before t J)
+    go : (b : Bool) → isOf t p ≡ b → others t (before t J) ≡ before t J → others t (cond b [] (p ∷ before t J)) ≡ cond b [] (p ∷ before t J)
     go true e ih = refl
     go false e ih = rw (e, ih)
 

@@ -8,21 +8,22 @@ use mathlib.Core.Logic.{inl, inr, ⊎-elim, _↔_}
 use mathlib.Core.Bool.{true, false}
 use mathlib.Core.List.{List, []}
 use mathlib.Core.Option.{none, some, Option·some-injective}
-use lib.Dec.{ltb}
 use lib.ListN.{length, take}
-use Rattle.events.specs.Lists.{_implies_, StrictTotal, all}
+use Rattle.events.specs.Lists.{_implies_, StrictTotal}
 use Rattle.events.specs.declared.event.Event.{Event}
 use Rattle.events.specs.Events.{begins}
 use Rattle.events.specs.Questions.{readable}
-use Rattle.events.proofs.ListLaws.{and-l, and-r, every-e, every-i, clash}
+use Rattle.events.proofs.ListLaws.{every-i, clash}
 use Rattle.events.proofs.ColumnLaws.{begins-take}
 use Rattle.events.proofs.QuestionLaws.{begun}
-use Rattle.opacity.specs.Transactions.{precedes, EndedBefore, ownRight}
-use Rattle.opacity.specs.Justification.{Place, Justified, justifies, placed, before, preceded, realTimeKept, distinct, isOrder, OnePlace}
+use Rattle.opacity.specs.Transactions.{precedes, EndedBefore, isStoreRead, ownRight}
+use Rattle.opacity.specs.Justification.{Place, Justified, justifies, placed, before, preceded, realTimeKept, isOrder, OnePlace}
 use Rattle.opacity.specs.Lowest.{notAbove, lower, lowestOf, LowestJustified, PlaceByPlace}
 use Rattle.opacity.specs.Serial.{Serial, LowestSerial, AllSerial, SerialFaultsAt}
 use Rattle.opacity.specs.Explains.{Explains}
-use Rattle.opacity.specs.Marking.{Marking, ReadableFor, marked, RuleD, Rule, Accepted, Broken, verdict, ruleHolds, AllHold, FirstBroken, LastOf, BeginOf, namedEvent, namedTransaction, A, B}
+use Rattle.opacity.specs.Marking.{Marking, ReadableFor, marked, gapOf, noWriterBetween, RuleD, Rule, A, B, D, Accepted, Broken}
+use Rattle.opacity.specs.Marking.{verdict, ruleHolds, Holds, AllHold, FirstBroken, LastOf, BeginOf, namedEvent, namedTransaction}
+use Rattle.opacity.specs.Verdicts.{WriterBetween}
 use Rattle.opacity.specs.Scan.{scan, Opaque, Faulted, AllJustified, FaultsAt}
 use Rattle.opacity.proofs.Orders.{fills, filled, one-place}
 use Rattle.opacity.proofs.Steps.{steps, known-apart, justified, justified-test}
@@ -30,6 +31,7 @@ use Rattle.opacity.proofs.Compare.{orders-ordered}
 use Rattle.opacity.proofs.Least.{lowest-justifies, lowest-least, none-iff}
 use Rattle.opacity.proofs.VerdictLaws.{accepted-rules, broken-names, names-broken}
 use Rattle.opacity.proofs.Rules.{accepted-justified, justified-accepted}
+use Rattle.opacity.proofs.Between.{writer-between-iff, D-means}
 use Rattle.opacity.proofs.Finder.{marked-readable, marked-accepted}
 use Rattle.opacity.proofs.Opacity.{opaque-prefixes, prefixes-opaque, faulted-prefix, prefix-faulted}
 use Rattle.opacity.proofs.Serial.{Known, justified-is-serial, prefix-is-serial, opaque-is-serial}
@@ -55,6 +57,15 @@ test-agrees = justified-test
 -- The comparison is a strict total order.
 pub comparison-ordered : StrictTotal lower
 comparison-ordered = orders-ordered
+
+-- Rule D says no at a store read exactly if a writer other than the reader stands between point and reader,
+pub no-writer-means : (h : List Event) (J : List Place) (g i : ℕ) → isStoreRead h i ≡ true → (noWriterBetween h J g i ≡ false) ↔ WriterBetween h J g i
+no-writer-means = writer-between-iff
+
+-- and it holds exactly if no store read has such a writer.
+pub rule-D-means : (start : ℕ → ℕ) (h : List Event) (m : Marking)
+    → Holds start h m D ↔ ((i : ℕ) → i < length h → isStoreRead h i ≡ true → WriterBetween h (m .places) (gapOf (m .points) i) i → ⊥)
+rule-D-means = D-means
 
 module _ (start : ℕ → ℕ) (h : List Event) (r : readable h ≡ true) where
   -- every event of a readable history is of one of its transactions

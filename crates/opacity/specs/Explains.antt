@@ -1,5 +1,5 @@
--- To be believed: a justification in the words of the events (the paper, "Justification", and demand 2), said with nothing but the events, the
--- places and running one at a time. `proofs/Explained.antt` proves that it is what `Justified` says of every readable history.
+-- To be believed: a justification in the words of the events (the paper, "Justification"), said with nothing but the events, the places and
+-- running one at a time. `proofs/Explained.antt` proves that it is what `Justified` says of every readable history.
 -- Assumes nothing.
 use Prim.Native.Nat.{ℕ, _<_}
 use mathlib.Core.Path.{_≡_}
@@ -22,9 +22,9 @@ pub record PlacedBefore (t u : ℕ) (J : List Place) : Type 0 where
   pub names : here .transaction ≡ u
   pub earlier : placed t front ≡ true
 
--- Each transaction has one place, and there are no more. Its outcome is the recorded one, and aborted if it is otherwise unfinished: neither
--- has it ended nor is its commit called. A pending commit may have either outcome, so nothing is asked of it. One that ended before another
--- began is placed before it, and every read gets the value that running the places one at a time from the start values gives.
+-- Each transaction has one place, and there are no more. Its outcome is the recorded one, and aborted if it is otherwise unfinished: it has
+-- not ended, and its commit is not called. A pending commit may have either outcome, so nothing is asked of it. One that ended before
+-- another began is placed before it, and every read gets the value that running them one at a time from the start values would give.
 pub record Explains (start : Store) (h : List Event) (J : List Place) : Type 0 where
   pub places : (t : ℕ) → t < begins h → OnePlace t J
   pub no-more : length J ≡ begins h

@@ -27,14 +27,10 @@ isOf t p = eqb (p .transaction) t
 unfoldable pub placed : ℕ → List Place → Bool
 placed t J = any (isOf t) J
 
-abbrev pub stop : Bool → Place → List Place → List Place
-stop true p ps = []
-stop false p ps = p ∷ ps
-
 -- the places before that of t
 unfoldable pub before : ℕ → List Place → List Place
 before t [] = []
-before t (p ∷ ps) = stop (isOf t p) p (before t ps)
+before t (p ∷ ps) = cond (isOf t p) [] (p ∷ before t ps)
 
 -- the outcome of t
 unfoldable pub outcome : ℕ → List Place → Bool

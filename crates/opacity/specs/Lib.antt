@@ -8,3 +8,4 @@ pub mod Store
 pub mod Serial
 pub mod Counts
 pub mod Explains
+pub mod Verdicts
