@@ -18,8 +18,8 @@ use Rattle.events.specs.Events.{eventAt}
 use Rattle.events.proofs.ListLaws.{not-true, clash}
 use Rattle.opacity.specs.Transactions.{lastWrite, writes, isStoreRead, LastWrite}
 use Rattle.opacity.specs.Justification.{Place, isOf, before, written}
-use Rattle.opacity.specs.Marking.{Marking, gapOf, placeOf, others, between, noWriterBetween, ruleHolds, D, Holds}
-use Rattle.opacity.specs.Verdicts.{Between, WriterBetween}
+use Rattle.opacity.specs.Marking.{Marking, gapOf, placeOf, others, between, noWriterBetween, ruleHolds, D}
+use Rattle.opacity.specs.Verdicts.{Holds, Between, WriterBetween}
 use Rattle.opacity.proofs.Meanings.{no-write-means, last-write-means}
 use Rattle.opacity.proofs.FirstLaws.{implies-false}
 

@@ -13,7 +13,8 @@ use Rattle.events.specs.Lists.{isNone, keep, latest}
 use Rattle.events.specs.declared.event.Event.{Event}
 use Rattle.events.specs.Events.{eventAt, begins}
 use Rattle.opacity.specs.Justification.{Place, isOf, before, written, contents, isOrder, legalOver, legal, Justified}
-use Rattle.opacity.specs.Marking.{Marking, placeOf, others, between, noWriterBetween, valueAtGap, A, B, C, D, E, Accepted, verdict, ruleHolds, AllHold, RuleD}
+use Rattle.opacity.specs.Marking.{Marking, placeOf, others, between, noWriterBetween, valueAtGap, A, B, C, D, E, Accepted, verdict, ruleHolds}
+use Rattle.opacity.specs.Verdicts.{AllHold, RuleD}
 use Rattle.events.proofs.ListLaws.{imp-e, imp-i, isNone-none, keep-append, latest-append}
 use Rattle.opacity.proofs.VerdictLaws.{accepted-rules}
 
@@ -58,7 +59,8 @@ module _ (h : List Event) (r t : ℕ) (J : List Place) where
             longer b a l (rw (min-eq-right l, max-eq-left l) at e)
       ]
 
-  at-gap : (start : ℕ → ℕ) (g : ℕ) → isNone (latest (written h r) (others t (between g (placeOf t J) J))) ≡ true → contents start h (others t (take g J)) r ≡ contents start h (before t J) r
+  at-gap : (start : ℕ → ℕ) (g : ℕ) → isNone (latest (written h r) (others t (between g (placeOf t J) J))) ≡ true
+      → Option·getD (latest (written h r) (others t (take g J))) (start r) ≡ contents start h (before t J) r
   unfolding contents upTo
   at-gap start g n =
       ap (λ (o : Option ℕ). Option·getD o (start r))

@@ -18,17 +18,17 @@ use Rattle.events.proofs.ColumnLaws.{begins-take}
 use Rattle.events.proofs.QuestionLaws.{begun}
 use Rattle.opacity.specs.Transactions.{precedes, EndedBefore, isStoreRead, ownRight}
 use Rattle.opacity.specs.Justification.{Place, Justified, justifies, placed, before, preceded, realTimeKept, isOrder, OnePlace}
-use Rattle.opacity.specs.Lowest.{notAbove, lower, lowestOf, LowestJustified, PlaceByPlace}
+use Rattle.opacity.specs.Lowest.{lower, lowestOf, LowestJustified, PlaceByPlace}
 use Rattle.opacity.specs.Serial.{Serial, LowestSerial, AllSerial, SerialFaultsAt}
 use Rattle.opacity.specs.Explains.{Explains}
-use Rattle.opacity.specs.Marking.{Marking, ReadableFor, marked, gapOf, noWriterBetween, RuleD, Rule, A, B, D, Accepted, Broken}
-use Rattle.opacity.specs.Marking.{verdict, ruleHolds, Holds, AllHold, FirstBroken, LastOf, BeginOf, namedEvent, namedTransaction}
-use Rattle.opacity.specs.Verdicts.{WriterBetween}
+use Rattle.opacity.specs.Marking.{Marking, ReadableFor, marked, gapOf, noWriterBetween, Rule, A, B, D, Accepted, Broken}
+use Rattle.opacity.specs.Marking.{verdict, ruleHolds, namedEvent, namedTransaction}
+use Rattle.opacity.specs.Verdicts.{Holds, AllHold, FirstBroken, LastOf, BeginOf, RuleD, WriterBetween}
 use Rattle.opacity.specs.Scan.{scan, Opaque, Faulted, AllJustified, FaultsAt}
 use Rattle.opacity.proofs.Orders.{fills, filled, one-place}
 use Rattle.opacity.proofs.Steps.{steps, known-apart, justified, justified-test}
 use Rattle.opacity.proofs.Compare.{orders-ordered}
-use Rattle.opacity.proofs.Least.{lowest-justifies, lowest-least, none-iff}
+use Rattle.opacity.proofs.Least.{none-iff}
 use Rattle.opacity.proofs.VerdictLaws.{accepted-rules, broken-names, names-broken}
 use Rattle.opacity.proofs.Rules.{accepted-justified, justified-accepted}
 use Rattle.opacity.proofs.Between.{writer-between-iff, D-means}
@@ -36,7 +36,7 @@ use Rattle.opacity.proofs.Finder.{marked-readable, marked-accepted}
 use Rattle.opacity.proofs.Opacity.{opaque-prefixes, prefixes-opaque, faulted-prefix, prefix-faulted}
 use Rattle.opacity.proofs.Serial.{Known, justified-is-serial, prefix-is-serial, opaque-is-serial}
 use Rattle.opacity.proofs.Explained.{explains-iff}
-use Rattle.opacity.proofs.LowestSerial.{not-lower, found-is-lowest, none-is-none}
+use Rattle.opacity.proofs.LowestSerial.{one-lowest, found-iff-lowest, found-is-lowest, none-is-none}
 use Rattle.opacity.proofs.Meanings.{precedes-means, last-event-means, begin-of-means}
 use Rattle.opacity.proofs.FirstLaws.{every-fails, implies-false}
 use Rattle.opacity.proofs.CauseFour.{never-four}
@@ -92,35 +92,16 @@ module _ (start : ℕ → ℕ) (h : List Event) (r : readable h ≡ true) where
 
   -- ---- the lowest justification
 
-  lowest-of : (J : List Place) → lowestOf start h ≡ some J → LowestJustified start h J
-  lowest-of J e =
-      record {
-        justifies = lowest-justifies start h known e;
-        least = λ K k.
-            let l = lowest-least start h k in
-            let q : l .0 ≡ J = Option·some-injective (l .0) J (sym (l .1) ∙ e) in
-            let n : lower K J ≡ false = not-lower J K (subst (λ (L : List Place). notAbove L K ≡ true) q (l .2)) in
-            ⊎-elim inl (⊎-elim inr (λ t. absurd (clash t n))) (comparison-ordered .total J K);
-      }
-
   -- There is one lowest justification at most.
   pub lowest-unique : (J K : List Place) → LowestJustified start h J → LowestJustified start h K → J ≡ K
-  lowest-unique J K j k =
-      ⊎-elim
-      (λ a.
-      ⊎-elim
-      (λ b. absurd (clash (comparison-ordered .transitive J K J a b) (comparison-ordered .irreflexive J)))
-      (λ q. sym q)
-      (k .least J (j .justifies)))
-      (λ q. q)
-      (j .least K (k .justifies))
+  lowest-unique = one-lowest start h
 
   -- `lowestOf` is a justification and below every other, and it is none exactly if there is none.
   pub lowest-none : (lowestOf start h ≡ none) ↔ ((K : List Place) → Justified start h K → ⊥)
   lowest-none = none-iff start h known
 
   pub lowest-some : (J : List Place) → (lowestOf start h ≡ some J) ↔ LowestJustified start h J
-  lowest-some J = (lowest-of J, λ j. let l = lowest-least start h (j .justifies) in l .1 ∙ ap some (lowest-unique (l .0) J (lowest-of (l .0) (l .1)) j))
+  lowest-some = found-iff-lowest start h known
 
   -- The same of each prefix, with orders run one at a time.
   pub prefix-lowest-serial : (n : ℕ) → n ≤ length h → (J : List Place) → (lowestOf start (take n h) ≡ some J) ↔ LowestSerial start (take n h) J
