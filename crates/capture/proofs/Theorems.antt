@@ -19,7 +19,8 @@ use Rattle.opacity.specs.declared.verdict.Scanned.{Scanned}
 use Rattle.opacity.specs.declared.verdict.Verdict.{Verdict}
 use Rattle.opacity.specs.Transactions.{Status, committed, aborted, pending, live, Stands}
 use Rattle.opacity.specs.Justification.{Justified}
-use Rattle.opacity.specs.Marking.{Marking as Content, verdict, RuleD}
+use Rattle.opacity.specs.Marking.{Marking as Content, verdict}
+use Rattle.opacity.specs.Verdicts.{RuleD}
 use Rattle.opacity.specs.Scan.{scan, AllJustified, FaultsAt}
 use Rattle.opacity.specs.Counts.{counts}
 use Rattle.opacity.proofs.Theorems.{opaque-iff, faulted-iff, accepted-iff-justified}
