@@ -145,7 +145,7 @@ record Counted (n : ℕ) (p : Place) (J : List Place) : Type 0 where
 
 count-more : (n : ℕ) (p : Place) (J : List Place) → (howMany (λ t. placed t (p ∷ J)) n ≡ howMany (λ t. placed t J) n) ⊎ Counted n p J
 unfolding placed any _or_
-count-more n p J = 
+count-more n p J =
     elim (decLt (p .transaction) n) [
       | yes l ↦ inside l (placed (p .transaction) J) refl
       | no g ↦ inl (sym (outside g))

@@ -1,4 +1,4 @@
--- Justifications (the paper, "Justification"). The values before any writer are a parameter, `start`.
+-- To be believed: justifications (the paper, "Justification"). The values before any writer are a parameter, `start`.
 -- Assumes nothing.
 use Prim.Native.Nat.{ℕ, _<_}
 use mathlib.Core.Path.{_≡_}

@@ -1,4 +1,4 @@
--- Markings and the checker's rules (the paper, "Marking and checker"), for a history and a marking that are readable.
+-- To be believed: markings and the checker's rules (the paper, "Marking and checker"), for a history and a marking that are readable.
 -- Assumes nothing.
 use Prim.Native.Nat.{ℕ, min, max}
 use mathlib.Core.Path.{_≡_}

@@ -1,4 +1,4 @@
--- The scan (the paper, "Scan and report").
+-- To be believed: the scan (the paper, "Scan and report").
 -- Assumes nothing.
 use Prim.Native.Nat.{ℕ, suc, _≤_, _<_}
 use mathlib.Core.Path.{_≡_}

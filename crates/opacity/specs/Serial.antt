@@ -1,5 +1,6 @@
--- Running the transactions of an order one at a time. It is said by a machine with a store, and with no notion of writers, own reads or
--- legality: `proofs/Serial.antt` proves that justification demands exactly the reads that this machine gives.
+-- To be believed: running the transactions of an order one at a time (the paper, "Justification"). It is said by a machine with a store,
+-- and with no notion of writers, own reads or legality: `proofs/Serial.antt` proves that justification demands exactly the reads that
+-- this machine gives.
 -- Assumes nothing.
 use Prim.Native.Nat.{ℕ, _≤_, _<_, suc}
 use mathlib.Core.Path.{_≡_}

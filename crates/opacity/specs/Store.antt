@@ -1,5 +1,6 @@
--- What transactions leave in the registers: a store, and a fold of updates of the whole of it (change request 4). It is said with no notion
--- of a last writer: `proofs/Contents.antt` proves that what a register holds after some places is what this store has there.
+-- To be believed: what transactions leave in the registers (change request 4), a store, and a fold of updates of the whole of it. It is
+-- said with no notion of a last writer: `proofs/Contents.antt` proves that what a register holds after some places is what this store has
+-- there.
 -- Assumes nothing.
 use Prim.Native.Nat.{ℕ}
 use mathlib.Core.Bool.{cond}

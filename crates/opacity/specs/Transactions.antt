@@ -1,4 +1,5 @@
--- What a history says of its transactions ("Justification"): status and allowed outcomes, real time, writes, own reads and store reads.
+-- To be believed: what a history says of its transactions (the paper, "Justification"), that is status and allowed outcomes, real time,
+-- writes, own reads and store reads.
 -- Assumes nothing.
 use Prim.Native.Nat.{ℕ, _<_}
 use mathlib.Core.Path.{_≡_}

@@ -1,5 +1,5 @@
--- Straightened read points: outcomes and order are kept, and so is every point that breaks neither D nor E; each other one is moved to its
--- reader's place. The start values are a parameter.
+-- To be believed: straightened read points (change request 1). Outcomes and order are kept, and so is every point that breaks neither D
+-- nor E; each other one is moved to its reader's place. The start values are a parameter.
 -- Assumes nothing.
 use Prim.Native.Nat.{ℕ, suc, _<_}
 use mathlib.Core.Path.{_≡_}
