@@ -21,7 +21,8 @@ use Rattle.opacity.specs.declared.verdict.Verdict.{Verdict}
 use Rattle.opacity.specs.Transactions.{Status, committed, aborted, pending, live, Stands}
 use Rattle.opacity.specs.Justification.{Justified}
 use Rattle.opacity.specs.declared.verdict.Rule.{Rule}
-use Rattle.opacity.specs.Marking.{Marking as Content, verdict, RuleD, FirstBroken, namedEvent, namedTransaction}
+use Rattle.opacity.specs.Marking.{Marking as Content, verdict, namedEvent, namedTransaction}
+use Rattle.opacity.specs.Verdicts.{RuleD, FirstBroken}
 use Rattle.opacity.specs.Scan.{scan, AllJustified, FaultsAt}
 use Rattle.opacity.specs.Counts.{counts}
 use Rattle.opacity.proofs.Theorems.{opaque-iff, faulted-iff, accepted-iff-justified, broken-iff-first}

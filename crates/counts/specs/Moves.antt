@@ -1,3 +1,4 @@
+-- Vocabulary between crates: it need not be believed, the public contracts end in the paper's definitions.
 -- The counts of a tally while the events are gone through, by the numbers of how a transaction stands: 3 committed, 2 aborted, 1 pending,
 -- 0 live.
 -- Assumes nothing.

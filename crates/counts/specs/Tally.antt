@@ -1,4 +1,4 @@
--- The tally of a history ("Tally line"): how many of its transactions are committed, aborted, pending and live.
+-- To be believed: the tally of a history (change request 2), how many of its transactions are committed, aborted, pending and live.
 -- Each is defined from the events alone, by the status of a transaction that justifications go by.
 -- Assumes nothing.
 use Prim.Native.Nat.{ℕ}

@@ -1,3 +1,4 @@
+-- Vocabulary between crates: it need not be believed, the public contracts end in the paper's definitions.
 -- The read points of the finder's marking, as its writer goes through the events.
 -- Assumes nothing.
 use Prim.Native.Nat.{ℕ}

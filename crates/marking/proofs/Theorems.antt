@@ -21,7 +21,8 @@ use Rattle.opacity.specs.declared.verdict.Verdict.{Verdict}
 use Rattle.opacity.specs.declared.verdict.Verdict.the-variants.{Accepted, Broken}
 use Rattle.opacity.specs.declared.verdict.Rule.{Rule}
 use Rattle.opacity.specs.Justification.{Justified}
-use Rattle.opacity.specs.Marking.{Marking, ReadableFor, markingBytes, verdict, AllHold, RuleD, FirstBroken, namedEvent, namedTransaction}
+use Rattle.opacity.specs.Marking.{Marking, ReadableFor, markingBytes, verdict, namedEvent, namedTransaction}
+use Rattle.opacity.specs.Verdicts.{AllHold, RuleD, FirstBroken}
 use Rattle.opacity.proofs.Theorems.{accepted-iff-rules, accepted-iff-justified, broken-iff-first}
 use Rattle.marking.specs.declared.check.Checking.the-variants.{Ruled, HistoryRefused, MarkingRefused}
 use Rattle.marking.specs.File.{known, FileRead, content, refused, fileRead}

@@ -11,7 +11,8 @@ use Rattle.events.specs.Starts.{startOf}
 use Rattle.events.specs.Said.{Said, eventRefused, byteRefused, refuse}
 use Rattle.events.specs.Questions.{columnsAnswer, historyAnswer}
 use Rattle.opacity.specs.Said.{verdictSaid}
-use Rattle.opacity.specs.Marking.{Marking, verdict, RuleD}
+use Rattle.opacity.specs.Marking.{Marking, verdict}
+use Rattle.opacity.specs.Verdicts.{RuleD}
 use Rattle.opacity.specs.Justification.{Justified, zeros}
 use Rattle.marking.specs.declared.check.Checking.{Checking}
 use Rattle.marking.specs.declared.check.Checking.the-variants.{Ruled, HistoryRefused, MarkingRefused}

@@ -1,4 +1,4 @@
--- Marking files (the paper, "Marking and checker"): the questions 1, 2 and 21 to 29, and the content of a file.
+-- To be believed: marking files (the paper, "Marking and checker"), that is the questions 1, 2 and 21 to 29, and the content of a file.
 -- Assumes nothing.
 use Prim.Native.Nat.{ℕ, zero, suc, _+_, _-_}
 use mathlib.Core.Bool.{Bool, not, cond}

@@ -15,7 +15,7 @@ use Rattle.events.specs.Lists.{_and_, _or_, any, all}
 use Rattle.events.specs.declared.event.Event.{Event}
 use Rattle.events.specs.Events.{noEvent, eventAt, isBegin, isRead, isWrite, asksCommit, isCommit, isAbort, isEnd, by, has, begins}
 use Rattle.opacity.specs.Transactions.{precedes, status, aborted, pending, live, allows}
-use Rattle.opacity.specs.Justification.{Place, isOf, placed, stop, before, outcome, isOrder, outcomeKept, preceded, realTimeKept, Justified}
+use Rattle.opacity.specs.Justification.{Place, isOf, placed, before, outcome, isOrder, outcomeKept, preceded, realTimeKept, Justified}
 use Rattle.opacity.specs.Lowest.{place}
 use Rattle.events.proofs.ListLaws.{imp-e, and-l, and-r, and-i, and-false-l, and-false-r, imp-i, nor-i, nor-l, nor-r, or-l, or-r, clash, every-e, every-i, any-append, all-append, all-weaken, below-cases}
 use Rattle.opacity.proofs.Orders.{Fresh, before-here, no-outcome, distinct-snoc}
@@ -35,7 +35,7 @@ unfolding before placed any _or_
 before-append u [] S t = absurd (false≢true t)
 before-append u (p ∷ J) S t = go (isOf u p) t (before-append u J S)
   where
-    go : (b : Bool) → (b or placed u J) ≡ true → (placed u J ≡ true → before u (J ++ S) ≡ before u J) → stop b p (before u (J ++ S)) ≡ stop b p (before u J)
+    go : (b : Bool) → (b or placed u J) ≡ true → (placed u J ≡ true → before u (J ++ S) ≡ before u J) → cond b [] (p ∷ before u (J ++ S)) ≡ cond b [] (p ∷ before u J)
     go true s ih = refl
     go false s ih = ap (λ (l : List Place). p ∷ l) (ih s)
 

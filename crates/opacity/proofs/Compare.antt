@@ -1,4 +1,4 @@
--- The comparison of orders: two orders of which neither is above the other are the same, so there is one lowest justification; and lower is a strict total order.
+-- The comparison of orders: lower is a strict total order, and what is not above an order is lower or the same.
 -- Assumes nothing.
 use Prim.Native.Nat.{_<_}
 use native.Mathlib.Decide.{decLt}
@@ -10,7 +10,7 @@ use mathlib.Core.List.{List, [], _∷_}
 use borrow.Author.Tests.{eqb-true, eq-eqb, ltb-true, lt-ltb}
 use Rattle.events.specs.Lists.{_and_, _or_, StrictTotal}
 use Rattle.opacity.specs.Justification.{Place}
-use Rattle.opacity.specs.Lowest.{below, samePlace, notAbove, lower}
+use Rattle.opacity.specs.Lowest.{below, samePlace, lower}
 use Rattle.events.proofs.ListLaws.{and-l, and-r, and-i, and-false-l, and-false-r, or-l, or-r, nor-i, not-true, clash, eqb-self}
 
 or-e : (a b : Bool) → (a or b) ≡ true → (a ≡ true) ⊎ (b ≡ true)
@@ -40,20 +40,6 @@ one-way p q s t =
 
 not-self : (p q : Place) → below p q ≡ true → q ≡ p → ⊥
 not-self p q s e = one-way p q s (subst (λ (r : Place). below r p ≡ true) (sym e) (subst (λ (r : Place). below p r ≡ true) e s))
-
-pub antisym : (J K : List Place) → notAbove J K ≡ true → notAbove K J ≡ true → J ≡ K
-unfolding notAbove
-antisym [] [] s t = refl
-antisym [] (q ∷ K) s t = absurd (false≢true t)
-antisym (p ∷ J) [] s t = absurd (false≢true s)
-antisym (p ∷ J) (q ∷ K) s t =
-    ⊎-elim
-    (λ a. absurd (⊎-elim (one-way p q a) (λ b. not-self p q a (same-e q p (and-l _ _ b))) (or-e _ _ t)))
-    (λ a.
-    ⊎-elim (λ b. absurd (not-self q p b (same-e p q (and-l _ _ a))))
-    (λ b. ap₂ (λ (r : Place) (l : List Place). r ∷ l) (same-e p q (and-l _ _ a)) (antisym J K (and-r _ _ a) (and-r _ _ b)))
-    (or-e _ _ t))
-    (or-e _ _ s)
 
 -- ---- a strict total order: of places, and place by place of orders
 
@@ -142,21 +128,25 @@ lower-total (p ∷ J) (q ∷ K) =
 pub orders-ordered : StrictTotal lower
 orders-ordered = record { irreflexive = lower-self; transitive = lower-trans; total = lower-total }
 
--- J is not above K exactly if K is not lower than J
-pub not-above-lower : (J K : List Place) → notAbove J K ≡ not (lower K J)
-unfolding notAbove lower _and_ _or_
-not-above-lower [] [] = refl
-not-above-lower [] (q ∷ K) = refl
-not-above-lower (p ∷ J) [] = refl
-not-above-lower (p ∷ J) (q ∷ K) =
+-- ---- not above
+
+-- J is lower than K, or K itself
+unfoldable pub notAbove : List Place → List Place → Bool
+notAbove [] K = true
+notAbove (p ∷ J) [] = false
+notAbove (p ∷ J) (q ∷ K) = below p q or samePlace p q and notAbove J K
+
+pub lower-or-same : (J K : List Place) → notAbove J K ≡ true → (lower J K ≡ true) ⊎ (J ≡ K)
+unfolding notAbove lower
+lower-or-same [] [] t = inr refl
+lower-or-same [] (q ∷ K) t = inl refl
+lower-or-same (p ∷ J) [] t = absurd (false≢true t)
+lower-or-same (p ∷ J) (q ∷ K) t =
     ⊎-elim
-    (λ a. or-l _ _ a ∙ sym (ap not (nor-i _ _ (refuted _ (one-way p q a)) (and-false-l _ _ (refuted _ (λ c. not-self p q a (same-e q p c)))))))
-    (⊎-elim
-    (λ e.
-    let s : samePlace p q ≡ true = same-i p q e in
-    let t : samePlace q p ≡ true = same-i q p (sym e) in
-    let m : below p q ≡ false = refuted _ (λ a. not-self p q a (sym e)) in
-    let n : below q p ≡ false = refuted _ (λ a. not-self q p a e) in
-    rw (s, t, m, n) (not-above-lower J K))
-    (λ b. nor-i _ _ (refuted _ (one-way q p b)) (and-false-l _ _ (refuted _ (λ c. not-self q p b (same-e p q c)))) ∙ sym (ap not (or-l _ _ b))))
-    (below-total p q)
+    (λ a. inl (or-l _ _ a))
+    (λ a.
+    ⊎-elim
+    (λ l. inl (or-r _ _ (and-i _ _ (and-l _ _ a) l)))
+    (λ e. inr (ap₂ (λ (r : Place) (l : List Place). r ∷ l) (same-e p q (and-l _ _ a)) e))
+    (lower-or-same J K (and-r _ _ a)))
+    (or-e _ _ t)

@@ -11,7 +11,7 @@ use Rattle.events.specs.Lists.{_and_, push, keep, latest}
 use Rattle.events.specs.declared.event.Event.{Event}
 use Rattle.events.specs.Events.{isWrite, by}
 use Rattle.opacity.specs.Justification.{Place, written, contents}
-use Rattle.opacity.specs.Store.{Store, put, writes, afterWrite, afterPlace, applied}
+use Rattle.opacity.specs.Store.{Store, put, writesOf, afterWrite, afterPlace, applied}
 use Rattle.opacity.specs.Serial.{does, eventsOf, run, after, serialStore}
 use Rattle.opacity.proofs.Serial.{orElse-getD, serial-contents}
 use Rattle.events.proofs.ListLaws.{latest-snoc}
@@ -25,15 +25,15 @@ unfolding does
 does-nothing e s q = rw q
 
 -- running the events of t is applying its writes: the other events leave the view as it is
-run-writes : (t : ℕ) (h : List Event) (s : Store) → run (eventsOf t h) s ≡ foldl afterWrite s (writes h t)
-unfolding eventsOf writes keep run afterWrite by _and_
+run-writes : (t : ℕ) (h : List Event) (s : Store) → run (eventsOf t h) s ≡ foldl afterWrite s (writesOf h t)
+unfolding eventsOf writesOf keep run afterWrite by _and_
 run-writes t [] s = refl
 run-writes t (e ∷ h) s = go (eqb (e .transaction) t) (isWrite e) refl (λ (v : Store). run-writes t h v)
   where
-    go : (b w : Bool) → isWrite e ≡ w → ((v : Store) → run (eventsOf t h) v ≡ foldl afterWrite v (writes h t))
-        → run (push b e (eventsOf t h)) s ≡ foldl afterWrite s (push (b and w) e (writes h t))
-    go true true q ih = ih (does e s) ∙ ap (λ (v : Store). foldl afterWrite v (writes h t)) (does-write e s q)
-    go true false q ih = ih (does e s) ∙ ap (λ (v : Store). foldl afterWrite v (writes h t)) (does-nothing e s q)
+    go : (b w : Bool) → isWrite e ≡ w → ((v : Store) → run (eventsOf t h) v ≡ foldl afterWrite v (writesOf h t))
+        → run (push b e (eventsOf t h)) s ≡ foldl afterWrite s (push (b and w) e (writesOf h t))
+    go true true q ih = ih (does e s) ∙ ap (λ (v : Store). foldl afterWrite v (writesOf h t)) (does-write e s q)
+    go true false q ih = ih (does e s) ∙ ap (λ (v : Store). foldl afterWrite v (writesOf h t)) (does-nothing e s q)
     go false w q ih = ih s
 
 -- The store of the run one at a time is the store of the places applied in order.

@@ -11,9 +11,9 @@ use Rattle.events.specs.Events.{isBegin, isRead, isWrite, asksCommit, isCommit,
 use Rattle.opacity.specs.Transactions.{status, allows, precedes, lastWrite, ownWrite, isOwnRead, isStoreRead, ownRight}
 use Rattle.opacity.specs.Justification.{Place, placed, before, outcome, written, contents, outcomeKept, preceded, legalOver, realTimeKept}
 use Rattle.opacity.specs.Lowest.{place, fits, lowestPlace, goOn, lowestOf}
-use Rattle.opacity.specs.Marking.{Marking, gapOf, placeOf, others, between, noWriterBetween, valueAtGap, Accepted, lastEvent, beginOf, broke, verdict}
+use Rattle.opacity.specs.Marking.{Marking, gapOf, placeOf, others, between, noWriterBetween, valueAtGap, Accepted, lastEvent, beginOf, ruleHolds, broke, tries, verdict}
 use Rattle.opacity.specs.Scan.{Opaque, cause, scan}
-use Rattle.opacity.specs.Store.{put, writes, afterWrite, afterPlace, applied}
+use Rattle.opacity.specs.Store.{put, writesOf, afterWrite, afterPlace, applied}
 
 event : ℕ → ℕ → ℕ → ℕ → Event
 event k t r v = record { kind = k; transaction = t; register = r; value = v }
@@ -39,7 +39,7 @@ pub behind : Marking
 behind = record { places = place 0 true ∷ []; points = record { event = 2; gap = 1 } ∷ [] }
 
 pub reader-is-no-writer : verdict (λ r. 0) reader behind ≡ Accepted
-unfolding _and_ _or_ _implies_ any all keep latest every lowest first last range isBegin isRead isWrite asksCommit isCommit isAbort isEnd by has begins status allows precedes lastWrite ownWrite isOwnRead isStoreRead ownRight placed before outcome written contents outcomeKept preceded legalOver realTimeKept gapOf placeOf others between noWriterBetween valueAtGap lastEvent beginOf broke verdict reader behind
+unfolding _and_ _or_ _implies_ any all keep latest every lowest first last range isBegin isRead isWrite asksCommit isCommit isAbort isEnd by has begins status allows precedes lastWrite ownWrite isOwnRead isStoreRead ownRight placed before outcome written contents outcomeKept preceded legalOver realTimeKept gapOf placeOf others between noWriterBetween valueAtGap lastEvent beginOf ruleHolds broke tries verdict reader behind
 reader-is-no-writer = refl
 
 -- T0 writes 5 and then 6 to register 0 and commits; T1 writes 7 to registers 0 and 1 and is aborted; T2 writes 8 to register 1 and calls
@@ -55,9 +55,9 @@ abbrev pub left-by : List Place → List ℕ
 left-by P = applied (λ r. 9) writers P 0 ∷ applied (λ r. 9) writers P 1 ∷ applied (λ r. 9) writers P 2 ∷ []
 
 pub last-writes-left : left-by (place 0 true ∷ place 1 false ∷ place 2 true ∷ []) ≡ 6 ∷ 8 ∷ 9 ∷ []
-unfolding applied afterPlace afterWrite put writes keep by isWrite _and_ writers
+unfolding applied afterPlace afterWrite put writesOf keep by isWrite _and_ writers
 last-writes-left = refl
 
 pub pending-not-taken : left-by (place 0 true ∷ place 1 false ∷ place 2 false ∷ []) ≡ 6 ∷ 9 ∷ 9 ∷ []
-unfolding applied afterPlace afterWrite put writes keep by isWrite _and_ writers
+unfolding applied afterPlace afterWrite put writesOf keep by isWrite _and_ writers
 pending-not-taken = refl

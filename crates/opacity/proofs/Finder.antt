@@ -14,8 +14,9 @@ use Rattle.events.specs.Lists.{all, _or_, orElse, any, keep, latest}
 use Rattle.events.specs.declared.event.Event.{Event}
 use Rattle.events.specs.Events.{eventAt, begins}
 use Rattle.opacity.specs.Transactions.{isStoreRead, storeReads}
-use Rattle.opacity.specs.Justification.{Place, isOf, stop, before, Justified}
-use Rattle.opacity.specs.Marking.{ReadableFor, Point, gapOf, placeOf, marked, others, between, noWriterBetween, Accepted, verdict, RuleD}
+use Rattle.opacity.specs.Justification.{Place, isOf, before, Justified}
+use Rattle.opacity.specs.Marking.{ReadableFor, Point, gapOf, placeOf, marked, others, between, noWriterBetween, Accepted, verdict, ruleHolds}
+use Rattle.opacity.specs.Verdicts.{RuleD}
 use Rattle.events.proofs.ListLaws.{and-i, imp-i, nor-l, nor-r, keep-member}
 use Rattle.opacity.proofs.Orders.{filled}
 use Rattle.opacity.proofs.Rules.{justified-accepted}
@@ -54,7 +55,7 @@ unfolding between
 here k J = rw (min-eq-left (le-refl k), max-eq-left (le-refl k)) (drop-of-length-le (take k J) {i = k} (rw length-take (min-le-left k (length J))))
 
 pub marked-keeps-D : (h : List Event) (J : List Place) → RuleD h (marked h J)
-unfolding noWriterBetween marked gapOf storeReads found point others keep latest
+unfolding ruleHolds noWriterBetween marked gapOf storeReads found point others keep latest
 marked-keeps-D h J i l =
     imp-i _ _ (λ s. rw (gap-at (λ k. placeOf (eventAt h k .transaction) J) (storeReads h) i (keep-member (isStoreRead h) (length h) i l s), here))
 
@@ -73,7 +74,7 @@ unfolding before
 before-le t [] = le-refl 0
 before-le t (p ∷ J) = go (isOf t p) (before-le t J)
   where
-    go : (b : Bool) → length (before t J) ≤ length J → length (stop b p (before t J)) ≤ length (p ∷ J)
+    go : (b : Bool) → length (before t J) ≤ length J → length (cond b [] (p ∷ before t J)) ≤ length (p ∷ J)
     go true i = omega arith
     go false i = omega arith
 

@@ -15,7 +15,7 @@ use Rattle.events.proofs.ListLaws.{and-false-l, and-false-r, and-l, and-r, and-
 use Rattle.events.proofs.ColumnLaws.{begins-same}
 use Rattle.events.proofs.StateLaws.{has-snoc}
 use Rattle.opacity.specs.Transactions.{committed, aborted, pending, live, status, allows, lastWrite}
-use Rattle.opacity.specs.Justification.{Place, isOf, stop, before, outcome, contents, isOrder, outcomeKept, preceded, realTimeKept, Justified}
+use Rattle.opacity.specs.Justification.{Place, isOf, before, outcome, contents, isOrder, outcomeKept, preceded, realTimeKept, Justified}
 use Rattle.opacity.specs.Carry.{seen}
 use Rattle.opacity.proofs.EventKinds.{read-alone, end-alone}
 use Rattle.opacity.proofs.Statuses.{not-committed, not-aborted}
@@ -27,7 +27,7 @@ unfolding any before
 before-none q u [] n = refl
 before-none q u (p ∷ J) n = go (isOf u p) (before-none q u J (nor-r _ _ n))
   where
-    go : (b : Bool) → any q (before u J) ≡ false → any q (stop b p (before u J)) ≡ false
+    go : (b : Bool) → any q (before u J) ≡ false → any q (cond b [] (p ∷ before u J)) ≡ false
     go true i = refl
     go false i = nor-i _ _ (nor-l _ _ n) i
 

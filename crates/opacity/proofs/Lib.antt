@@ -10,12 +10,14 @@ pub mod Least
 pub mod FirstLaws
 pub mod VerdictLaws
 pub mod Rules
+pub mod Between
 pub mod Opacity
 pub mod Finder
 pub mod MarkingBytes
 pub mod Serial
 pub mod Contents
 pub mod LowestSerial
+pub mod Explained
 pub mod EventKinds
 pub mod Statuses
 pub mod Pending

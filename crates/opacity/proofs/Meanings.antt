@@ -22,7 +22,8 @@ use Rattle.events.proofs.ListLaws.{and-l, and-r, and-i, or-l, or-r, or-cases, c
 use Rattle.events.proofs.ColumnLaws.{begins-snoc, begins-same}
 use Rattle.events.proofs.QuestionLaws.{any-index, asked-at}
 use Rattle.opacity.specs.Transactions.{precedes, lastWrite, writes, EndedBefore, LastWrite}
-use Rattle.opacity.specs.Marking.{lastEvent, beginOf, LastOf, BeginOf}
+use Rattle.opacity.specs.Marking.{lastEvent, beginOf}
+use Rattle.opacity.specs.Verdicts.{LastOf, BeginOf}
 
 -- ---- searches
 

@@ -13,7 +13,6 @@ use lib.Seq.{take-take, getD-take, length-take-le}
 use Rattle.events.specs.Lists.{_and_, isNone, all, keep, every, first}
 use Rattle.events.specs.declared.event.Event.{Event}
 use Rattle.events.specs.Events.{noEvent, eventAt, begins}
-use Rattle.opacity.specs.Transactions.{Begun}
 use Rattle.opacity.specs.Justification.{Place, distinct, isOrder, Justified}
 use Rattle.opacity.specs.Lowest.{lowestOf}
 use Rattle.opacity.specs.Scan.{Opaque, Faulted, answer, scan, AllJustified, FaultsAt, cause}
@@ -21,6 +20,10 @@ use Rattle.events.proofs.ListLaws.{none-first, first-none, isNone-none, none-is
 use Rattle.events.proofs.ColumnLaws.{begins-take}
 use Rattle.opacity.proofs.Least.{lowest-justifies, lowest-least, none-iff}
 use Rattle.opacity.proofs.FirstLaws.{first-found}
+
+-- every event is of a transaction that has begun: true of each readable history (question 11) and of its prefixes
+abbrev pub Begun : List Event → Type 0
+Begun h = (i : ℕ) → i < length h → eventAt h i .transaction < begins (take (suc i) h)
 
 -- in a prefix of a readable history every event is of one of the prefix's transactions
 pub begun-prefix : (h : List Event) → Begun h → (n : ℕ) → n ≤ length h → (i : ℕ) → i < length (take n h) → eventAt (take n h) i .transaction < begins (take n h)

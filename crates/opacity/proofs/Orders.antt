@@ -1,19 +1,22 @@
 -- Laws of orders of places: where a transaction's place is, and that an order of n places fills all.
 -- Assumes nothing.
-use Prim.Native.Nat.{ℕ, zero, suc, _+_, _≤_}
+use Prim.Native.Nat.{ℕ, zero, suc, _+_, _≤_, _<_}
+use native.Mathlib.Nat.{le-of-eq}
+use native.Mathlib.Decide.{decLt}
 use native.Mathlib.Omega.{arith}
-use mathlib.Core.Path.{_≡_, refl, sym, ap, _∙_}
+use mathlib.Core.Path.{_≡_, refl, sym, ap, _∙_, subst}
+use mathlib.Core.Logic.{_⊎_, inl, inr, ⊎-elim}
 use mathlib.Core.Bool.{Bool, true, false, not, false≢true}
 use mathlib.Core.List.{List, [], _∷_, _++_, append-nil, append-assoc}
 use lib.Dec.{eqb, ltb}
 use lib.ListN.{length}
-use borrow.Author.Tests.{ne-eqb, eqb-true, ltb-true}
+use borrow.Author.Tests.{ne-eqb, eqb-true, ltb-true, lt-ltb}
 use Rattle.events.specs.Lists.{_or_, _and_, any, all, keep, every, range}
-use Rattle.opacity.specs.Justification.{Place, isOf, placed, before, outcome, distinct, isOrder}
+use Rattle.opacity.specs.Justification.{Place, isOf, placed, before, outcome, distinct, isOrder, OnePlace}
 use Rattle.opacity.specs.Lowest.{follows}
 use Rattle.opacity.specs.Counts.{one}
-use Rattle.opacity.proofs.HowMany.{howMany, how-many-suc, how-many-low, how-many-none, how-many-moved}
-use Rattle.events.proofs.ListLaws.{and-l, and-r, and-i, nor-l, nor-r, nor-i, or-false, not-true, eqb-self, eqb-sym, contra, any-append, any-weaken, none-append, none-back}
+use Rattle.opacity.proofs.HowMany.{howMany, how-many-suc, how-many-low, how-many-none, how-many-same, how-many-moved}
+use Rattle.events.proofs.ListLaws.{and-l, and-r, and-i, every-e, nor-l, nor-r, nor-i, or-false, not-true, eqb-self, eqb-sym, contra, any-append, any-weaken, none-append, none-back}
 
 -- t has no place in P
 abbrev pub Fresh : ℕ → List Place → Type 0
@@ -133,3 +136,75 @@ unfolding isOrder
 filled n J o =
     let d = and-r (all (λ p. ltb (p .transaction) n) J) _ o in
     sym (count-places n J (and-l _ _ o) (and-l _ _ d)) ∙ all-count (λ t. placed t J) n (and-r _ _ d)
+
+-- One place more is counted at most once, and only if its transaction is below n and had no place.
+record Counted (n : ℕ) (p : Place) (J : List Place) : Type 0 where
+  more : howMany (λ t. placed t (p ∷ J)) n ≡ suc (howMany (λ t. placed t J) n)
+  low : ltb (p .transaction) n ≡ true
+  fresh : Fresh (p .transaction) J
+
+count-more : (n : ℕ) (p : Place) (J : List Place) → (howMany (λ t. placed t (p ∷ J)) n ≡ howMany (λ t. placed t J) n) ⊎ Counted n p J
+unfolding placed any _or_
+count-more n p J =
+    elim (decLt (p .transaction) n) [
+      | yes l ↦ inside l (placed (p .transaction) J) refl
+      | no g ↦ inl (sym (outside g))
+    ]
+  where
+    outside : (p .transaction < n → ⊥) → howMany (λ t. placed t J) n ≡ howMany (λ t. placed t (p ∷ J)) n
+    outside g = how-many-same (λ t. placed t J) (λ t. placed t (p ∷ J)) n (λ t l. rw (ne-eqb (p .transaction) t (λ e. omega arith)))
+
+    moved : p .transaction < n
+        → howMany (λ t. placed t (p ∷ J)) n + one (placed (p .transaction) J) ≡ howMany (λ t. placed t J) n + one (placed (p .transaction) (p ∷ J))
+    moved l = how-many-moved (λ t. placed t J) (λ t. placed t (p ∷ J)) (p .transaction) (λ t u. rw (ne-eqb (p .transaction) t u)) n l
+
+    now : one (placed (p .transaction) (p ∷ J)) ≡ 1
+    now = ap (λ (b : Bool). one (b or placed (p .transaction) J)) (eqb-self (p .transaction))
+
+    inside : p .transaction < n → (b : Bool) → placed (p .transaction) J ≡ b
+        → (howMany (λ t. placed t (p ∷ J)) n ≡ howMany (λ t. placed t J) n) ⊎ Counted n p J
+    inside l true e = inl (let was : one (placed (p .transaction) J) ≡ 1 = ap one e in omega (arith, moved l, now))
+    inside l false e =
+        let was : one (placed (p .transaction) J) ≡ 0 = ap one e in
+        inr (record { more = omega (arith, moved l, now); low = lt-ltb (p .transaction) n l; fresh = e })
+
+count-most : (n : ℕ) (J : List Place) → howMany (λ t. placed t J) n ≤ length J
+unfolding placed any
+count-most n [] = le-of-eq (how-many-none (λ t. false) n (λ t l. refl))
+count-most n (p ∷ J) =
+    ⊎-elim (λ e. omega (arith, e, count-most n J)) (λ c. omega (arith, c .more, count-most n J)) (count-more n p J)
+
+count-tight : (n : ℕ) (J : List Place) → length J ≤ howMany (λ t. placed t J) n → (all (λ p. ltb (p .transaction) n) J ≡ true) × (distinct J ≡ true)
+unfolding all distinct
+count-tight n [] l = (refl, refl)
+count-tight n (p ∷ J) l =
+    ⊎-elim
+    (λ e. absurd (omega (arith, e, count-most n J)))
+    (λ c.
+    let r = count-tight n J (omega (arith, c .more)) in
+    (and-i _ _ (c .low) (r .0), and-i _ _ (ap not (c .fresh)) (r .1)))
+    (count-more n p J)
+
+-- n places that fill all n are an order: none is left over for another transaction or for a second place
+pub orders : (n : ℕ) (J : List Place) → every (λ t. placed t J) n ≡ true → length J ≡ n → isOrder n J ≡ true
+unfolding isOrder
+orders n J f e =
+    let r = count-tight n J (omega (arith, all-count (λ t. placed t J) n f)) in
+    and-i _ _ (r .0) (and-i _ _ (r .1) f)
+
+-- and in an order each transaction has one place, and no other
+pub one-place : (n : ℕ) (J : List Place) → isOrder n J ≡ true → (t : ℕ) → t < n → OnePlace t J
+unfolding isOrder
+one-place n J o t l =
+    let d = and-r (all (λ p. ltb (p .transaction) n) J) _ o in
+    let s = split t J (every-e (λ u. placed u J) n (and-r (distinct J) _ d) t l) in
+    let f = distinct-at (s .front) (s .here) (s .back) (ap distinct (sym (s .cut)) ∙ and-l _ _ d) in
+    record {
+      front = s .front;
+      here = s .here;
+      back = s .back;
+      cut = s .cut;
+      names = s .names;
+      not-before = s .fresh;
+      not-behind = subst (λ (u : ℕ). placed u (s .back) ≡ false) (s .names) (f .1);
+    }

@@ -4,7 +4,7 @@ use Prim.Native.Nat.{ℕ, _≤_}
 use native.Mathlib.Nat.{min-eq-left, min-eq-right, max-eq-left, max-eq-right, lt-of-not-le, le-of-lt}
 use native.Mathlib.Decide.{decLe}
 use mathlib.Core.Path.{_≡_, refl, sym, ap, _∙_}
-use mathlib.Core.Bool.{Bool, true, false}
+use mathlib.Core.Bool.{Bool, true, false, cond}
 use mathlib.Core.List.{List, [], _∷_, _++_}
 use mathlib.Core.Option.{Option, none, Option·getD}
 use lib.ListN.{length, take, drop, take-append-drop}
@@ -12,8 +12,9 @@ use lib.Seq.{take-take}
 use Rattle.events.specs.Lists.{isNone, keep, latest}
 use Rattle.events.specs.declared.event.Event.{Event}
 use Rattle.events.specs.Events.{eventAt, begins}
-use Rattle.opacity.specs.Justification.{Place, isOf, stop, before, written, contents, isOrder, legalOver, legal, Justified}
-use Rattle.opacity.specs.Marking.{Marking, placeOf, others, between, noWriterBetween, valueAtGap, A, B, C, D, E, Accepted, verdict, ruleHolds, AllHold, RuleD}
+use Rattle.opacity.specs.Justification.{Place, isOf, before, written, contents, isOrder, legalOver, legal, Justified}
+use Rattle.opacity.specs.Marking.{Marking, placeOf, others, between, noWriterBetween, valueAtGap, A, B, C, D, E, Accepted, verdict, ruleHolds}
+use Rattle.opacity.specs.Verdicts.{AllHold, RuleD}
 use Rattle.events.proofs.ListLaws.{imp-e, imp-i, isNone-none, keep-append, latest-append}
 use Rattle.opacity.proofs.VerdictLaws.{accepted-rules}
 
@@ -23,7 +24,7 @@ unfolding placeOf before
 take-before t [] = refl
 take-before t (p ∷ J) = go (isOf t p) (take-before t J)
   where
-    go : (b : Bool) → take (placeOf t J) J ≡ before t J → take (length (stop b p (before t J))) (p ∷ J) ≡ stop b p (before t J)
+    go : (b : Bool) → take (placeOf t J) J ≡ before t J → take (length (cond b [] (p ∷ before t J))) (p ∷ J) ≡ cond b [] (p ∷ before t J)
     go true ih = refl
     go false ih = ap (λ (l : List Place). p ∷ l) ih
 
@@ -32,7 +33,7 @@ unfolding others keep before
 others-before t [] = refl
 others-before t (p ∷ J) = go (isOf t p) refl (others-before t J)
   where
-    go : (b : Bool) → isOf t p ≡ b → others t (before t J) ≡ before t J → others t (stop b p (before t J)) ≡ stop b p (before t J)
+    go : (b : Bool) → isOf t p ≡ b → others t (before t J) ≡ before t J → others t (cond b [] (p ∷ before t J)) ≡ cond b [] (p ∷ before t J)
     go true e ih = refl
     go false e ih = rw (e, ih)
 
@@ -58,7 +59,8 @@ module _ (h : List Event) (r t : ℕ) (J : List Place) where
             longer b a l (rw (min-eq-right l, max-eq-left l) at e)
       ]
 
-  at-gap : (start : ℕ → ℕ) (g : ℕ) → isNone (latest (written h r) (others t (between g (placeOf t J) J))) ≡ true → contents start h (others t (take g J)) r ≡ contents start h (before t J) r
+  at-gap : (start : ℕ → ℕ) (g : ℕ) → isNone (latest (written h r) (others t (between g (placeOf t J) J))) ≡ true
+      → Option·getD (latest (written h r) (others t (take g J))) (start r) ≡ contents start h (before t J) r
   unfolding contents upTo
   at-gap start g n =
       ap (λ (o : Option ℕ). Option·getD o (start r))

@@ -14,7 +14,7 @@ use borrow.Author.Tests.{eqb-true, eq-eqb}
 use Rattle.events.specs.Lists.{_and_, _implies_, orElse, isNone, keep, push, latest}
 use Rattle.events.specs.declared.event.Event.{Event}
 use Rattle.events.specs.Events.{eventAt, isRead, isWrite, by, begins}
-use Rattle.opacity.specs.Transactions.{isValue, Begun, lastWrite, ownWrite, isOwnRead, isStoreRead, ownRight}
+use Rattle.opacity.specs.Transactions.{isValue, lastWrite, ownWrite, isOwnRead, isStoreRead, ownRight}
 use Rattle.opacity.specs.Justification.{Place, placed, before, distinct, isOrder, written, contents, legalOver, legal, Justified}
 use Rattle.opacity.specs.Store.{Store, put}
 use Rattle.opacity.specs.Serial.{does, eventsOf, run, readsRight, after, serialStore, runsRight, Serial, AllSerial}
@@ -22,7 +22,7 @@ use Rattle.events.proofs.ListLaws.{and-l, and-r, and-i, imp-e, imp-i, every-e}
 use Rattle.opacity.proofs.Orders.{before-here, distinct-at, Split, split}
 use Rattle.opacity.specs.Scan.{scan, Opaque}
 use Rattle.events.proofs.ColumnLaws.{begins-take}
-use Rattle.opacity.proofs.Opacity.{begun-prefix, opaque-prefixes, prefixes-opaque}
+use Rattle.opacity.proofs.Opacity.{Begun, begun-prefix, opaque-prefixes, prefixes-opaque}
 
 -- ---- the view and the store
 
@@ -152,7 +152,7 @@ module _ (start : Store) (h : List Event) (J : List Place) where
       ∙ ap (λ (u : ℕ). Option·getD (lastWrite (take i h) u (eventAt h i .register)) (contents start h P (eventAt h i .register))) (sym q)
 
   -- the places before t's, where J is cut at its place
-  cut-before : isOrder (begins h) J ≡ true → (P : List Place) (p : Place) (S : List Place) → J ≡ P ++ p ∷ S → before (p .transaction) J ≡ P
+  pub cut-before : isOrder (begins h) J ≡ true → (P : List Place) (p : Place) (S : List Place) → J ≡ P ++ p ∷ S → before (p .transaction) J ≡ P
   unfolding isOrder
   cut-before o P p S e =
       let d : distinct J ≡ true = and-l _ _ (and-r _ _ o) in

@@ -8,31 +8,35 @@ use mathlib.Core.Logic.{inl, inr, ⊎-elim, _↔_}
 use mathlib.Core.Bool.{true, false}
 use mathlib.Core.List.{List, []}
 use mathlib.Core.Option.{none, some, Option·some-injective}
-use lib.Dec.{ltb}
 use lib.ListN.{length, take}
-use Rattle.events.specs.Lists.{_implies_, StrictTotal, all}
+use Rattle.events.specs.Lists.{_implies_, StrictTotal}
 use Rattle.events.specs.declared.event.Event.{Event}
 use Rattle.events.specs.Events.{begins}
 use Rattle.events.specs.Questions.{readable}
-use Rattle.events.proofs.ListLaws.{and-l, and-r, every-e, every-i, clash}
+use Rattle.events.proofs.ListLaws.{every-i, clash}
 use Rattle.events.proofs.ColumnLaws.{begins-take}
 use Rattle.events.proofs.QuestionLaws.{begun}
-use Rattle.opacity.specs.Transactions.{precedes, EndedBefore, ownRight}
-use Rattle.opacity.specs.Justification.{Place, Justified, justifies, placed, before, preceded, realTimeKept, distinct, isOrder, OnePlace}
-use Rattle.opacity.specs.Lowest.{notAbove, lower, lowestOf, LowestJustified, PlaceByPlace}
+use Rattle.opacity.specs.Transactions.{precedes, EndedBefore, isStoreRead, ownRight}
+use Rattle.opacity.specs.Justification.{Place, Justified, justifies, placed, before, preceded, realTimeKept, isOrder, OnePlace}
+use Rattle.opacity.specs.Lowest.{lower, lowestOf, LowestJustified, PlaceByPlace}
 use Rattle.opacity.specs.Serial.{Serial, LowestSerial, AllSerial, SerialFaultsAt}
-use Rattle.opacity.specs.Marking.{Marking, ReadableFor, marked, RuleD, Rule, Accepted, Broken, verdict, ruleHolds, AllHold, FirstBroken, LastOf, BeginOf, namedEvent, namedTransaction, A, B}
+use Rattle.opacity.specs.Explains.{Explains}
+use Rattle.opacity.specs.Marking.{Marking, ReadableFor, marked, gapOf, noWriterBetween, Rule, A, B, D, Accepted, Broken}
+use Rattle.opacity.specs.Marking.{verdict, ruleHolds, namedEvent, namedTransaction}
+use Rattle.opacity.specs.Verdicts.{Holds, AllHold, FirstBroken, LastOf, BeginOf, RuleD, WriterBetween}
 use Rattle.opacity.specs.Scan.{scan, Opaque, Faulted, AllJustified, FaultsAt}
-use Rattle.opacity.proofs.Orders.{fills, filled, distinct-at, split}
+use Rattle.opacity.proofs.Orders.{fills, filled, one-place}
 use Rattle.opacity.proofs.Steps.{steps, known-apart, justified, justified-test}
 use Rattle.opacity.proofs.Compare.{orders-ordered}
-use Rattle.opacity.proofs.Least.{lowest-justifies, lowest-least, none-iff}
+use Rattle.opacity.proofs.Least.{none-iff}
 use Rattle.opacity.proofs.VerdictLaws.{accepted-rules, broken-names, names-broken}
 use Rattle.opacity.proofs.Rules.{accepted-justified, justified-accepted}
+use Rattle.opacity.proofs.Between.{writer-between-iff, D-means}
 use Rattle.opacity.proofs.Finder.{marked-readable, marked-accepted}
 use Rattle.opacity.proofs.Opacity.{opaque-prefixes, prefixes-opaque, faulted-prefix, prefix-faulted}
 use Rattle.opacity.proofs.Serial.{Known, justified-is-serial, prefix-is-serial, opaque-is-serial}
-use Rattle.opacity.proofs.LowestSerial.{not-lower, found-is-lowest, none-is-none}
+use Rattle.opacity.proofs.Explained.{explains-iff}
+use Rattle.opacity.proofs.LowestSerial.{one-lowest, found-iff-lowest, found-is-lowest, none-is-none}
 use Rattle.opacity.proofs.Meanings.{precedes-means, last-event-means, begin-of-means}
 use Rattle.opacity.proofs.FirstLaws.{every-fails, implies-false}
 use Rattle.opacity.proofs.CauseFour.{never-four}
@@ -44,20 +48,7 @@ pub places-are-n : (n : ℕ) (J : List Place) → isOrder n J ≡ true → lengt
 places-are-n = filled
 
 pub one-place-each : (n : ℕ) (J : List Place) → isOrder n J ≡ true → (t : ℕ) → t < n → OnePlace t J
-unfolding isOrder
-one-place-each n J o t l =
-    let d = and-r (all (λ p. ltb (p .transaction) n) J) _ o in
-    let s = split t J (every-e (λ u. placed u J) n (and-r (distinct J) _ d) t l) in
-    let f = distinct-at (s .front) (s .here) (s .back) (ap distinct (sym (s .cut)) ∙ and-l _ _ d) in
-    record {
-      front = s .front;
-      here = s .here;
-      back = s .back;
-      cut = s .cut;
-      names = s .names;
-      not-before = s .fresh;
-      not-behind = subst (λ (u : ℕ). placed u (s .back) ≡ false) (s .names) (f .1);
-    }
+one-place-each = one-place
 
 -- The test and the record of a justification agree.
 pub test-agrees : (start : ℕ → ℕ) (h : List Event) (J : List Place) → (justifies start h J ≡ true) ↔ Justified start h J
@@ -66,6 +57,15 @@ test-agrees = justified-test
 -- The comparison is a strict total order.
 pub comparison-ordered : StrictTotal lower
 comparison-ordered = orders-ordered
+
+-- Rule D says no at a store read exactly if a writer other than the reader stands between point and reader,
+pub no-writer-means : (h : List Event) (J : List Place) (g i : ℕ) → isStoreRead h i ≡ true → (noWriterBetween h J g i ≡ false) ↔ WriterBetween h J g i
+no-writer-means = writer-between-iff
+
+-- and it holds exactly if no store read has such a writer.
+pub rule-D-means : (start : ℕ → ℕ) (h : List Event) (m : Marking)
+    → Holds start h m D ↔ ((i : ℕ) → i < length h → isStoreRead h i ≡ true → WriterBetween h (m .places) (gapOf (m .points) i) i → ⊥)
+rule-D-means = D-means
 
 module _ (start : ℕ → ℕ) (h : List Event) (r : readable h ≡ true) where
   -- every event of a readable history is of one of its transactions
@@ -86,37 +86,22 @@ module _ (start : ℕ → ℕ) (h : List Event) (r : readable h ≡ true) where
   pub justified-iff-serial : (J : List Place) → Justified start h J ↔ Serial start h J
   justified-iff-serial J = justified-is-serial start h J (begun h r)
 
-  -- ---- the lowest justification
+  -- The same in the words of the events, with no notion of status, precedence, own reads or legality.
+  pub justified-iff-explains : (J : List Place) → Justified start h J ↔ Explains start h J
+  justified-iff-explains J = explains-iff start h J r
 
-  lowest-of : (J : List Place) → lowestOf start h ≡ some J → LowestJustified start h J
-  lowest-of J e =
-      record {
-        justifies = lowest-justifies start h known e;
-        least = λ K k.
-            let l = lowest-least start h k in
-            let q : l .0 ≡ J = Option·some-injective (l .0) J (sym (l .1) ∙ e) in
-            let n : lower K J ≡ false = not-lower J K (subst (λ (L : List Place). notAbove L K ≡ true) q (l .2)) in
-            ⊎-elim inl (⊎-elim inr (λ t. absurd (clash t n))) (comparison-ordered .total J K);
-      }
+  -- ---- the lowest justification
 
   -- There is one lowest justification at most.
   pub lowest-unique : (J K : List Place) → LowestJustified start h J → LowestJustified start h K → J ≡ K
-  lowest-unique J K j k =
-      ⊎-elim
-      (λ a.
-      ⊎-elim
-      (λ b. absurd (clash (comparison-ordered .transitive J K J a b) (comparison-ordered .irreflexive J)))
-      (λ q. sym q)
-      (k .least J (j .justifies)))
-      (λ q. q)
-      (j .least K (k .justifies))
+  lowest-unique = one-lowest start h
 
   -- `lowestOf` is a justification and below every other, and it is none exactly if there is none.
   pub lowest-none : (lowestOf start h ≡ none) ↔ ((K : List Place) → Justified start h K → ⊥)
   lowest-none = none-iff start h known
 
   pub lowest-some : (J : List Place) → (lowestOf start h ≡ some J) ↔ LowestJustified start h J
-  lowest-some J = (lowest-of J, λ j. let l = lowest-least start h (j .justifies) in l .1 ∙ ap some (lowest-unique (l .0) J (lowest-of (l .0) (l .1)) j))
+  lowest-some = found-iff-lowest start h known
 
   -- The same of each prefix, with orders run one at a time.
   pub prefix-lowest-serial : (n : ℕ) → n ≤ length h → (J : List Place) → (lowestOf start (take n h) ≡ some J) ↔ LowestSerial start (take n h) J

@@ -13,7 +13,9 @@ use Rattle.events.specs.Lists.{first}
 use Rattle.events.specs.declared.event.Event.{Event}
 use Rattle.events.proofs.ListLaws.{not-true, not-false, below-cases, First, first-some}
 use Rattle.opacity.proofs.FirstLaws.{passes, none-fails, first-found}
-use Rattle.opacity.specs.Marking.{Marking, Rule, A, B, C, D, E, Verdict, Accepted, Broken, broke, verdict, ruleNumber, putTo, ruleHolds, namedEvent, namedTransaction, Holds, AllHold, FirstBroken}
+use Rattle.opacity.specs.Marking.{Marking, Rule, A, B, C, D, E, Verdict, Accepted, Broken, broke, tries, verdict}
+use Rattle.opacity.specs.Marking.{ruleNumber, putTo, ruleHolds, namedEvent, namedTransaction}
+use Rattle.opacity.specs.Verdicts.{Holds, AllHold, FirstBroken}
 
 -- ---- the rules one by one
 
@@ -35,28 +37,27 @@ not-accepted : {r : Rule} {i t : ℕ} → Broken r i t ≡ Accepted → ⊥
 not-accepted e = let z : _≡_ {A = ℕ} 0 1 = cc in omega arith
 
 module _ (start : ℕ → ℕ) (h : List Event) (m : Marking) where
-  -- rule r, and then what comes after it
-  step : Rule → Verdict → Verdict
-  step r v = broke (first (λ k. not (ruleHolds start h m r k)) (putTo h r)) (λ k. Broken r (namedEvent h r k) (namedTransaction h r k)) v
+  abbrev step : Rule → Verdict → Verdict
+  step r v = tries start h m r v
 
   verdict-steps : verdict start h m ≡ step A (step B (step C (step D (step E Accepted))))
-  unfolding verdict step ruleHolds
+  unfolding verdict
   verdict-steps = refl
 
   step-holds : (r : Rule) (v : Verdict) → Holds start h m r → step r v ≡ v
-  unfolding step broke
+  unfolding tries broke
   step-holds r v f = rw (none-fails (ruleHolds start h m r) (putTo h r) f)
 
   step-broken : (r : Rule) (v : Verdict) (k : ℕ) → k < putTo h r → ruleHolds start h m r k ≡ false
       → ((j : ℕ) → j < k → ruleHolds start h m r j ≡ true) → step r v ≡ Broken r (namedEvent h r k) (namedTransaction h r k)
-  unfolding step broke
+  unfolding tries broke
   step-broken r v k l n f =
       let w : First (λ j. not (ruleHolds start h m r j)) (putTo h r) k =
       record { inside = l; passes = ap not n; least = λ j b. ap not (f j b) } in
       rw (first-found (λ j. not (ruleHolds start h m r j)) (putTo h r) k w)
 
   step-accepted : (r : Rule) (v : Verdict) → step r v ≡ Accepted → Holds start h m r × (v ≡ Accepted)
-  unfolding step broke
+  unfolding tries broke
   step-accepted r v e = go (first (λ k. not (ruleHolds start h m r k)) (putTo h r)) refl e
     where
       go : (o : Option ℕ) → first (λ k. not (ruleHolds start h m r k)) (putTo h r) ≡ o
@@ -117,7 +118,7 @@ module _ (start : ℕ → ℕ) (h : List Event) (m : Marking) where
 
   down : (r q : Rule) (v : Verdict) (i t : ℕ) → Upto (ruleNumber r) → step r v ≡ Broken q i t
       → Names q i t ⊎ (Upto (suc (ruleNumber r)) × (v ≡ Broken q i t))
-  unfolding step broke Upto
+  unfolding tries broke Upto
   down r q v i t up e = go (first (λ k. not (ruleHolds start h m r k)) (putTo h r)) refl e
     where
       go : (o : Option ℕ) → first (λ k. not (ruleHolds start h m r k)) (putTo h r) ≡ o

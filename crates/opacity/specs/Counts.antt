@@ -1,4 +1,5 @@
--- What the counts of the report's first line add for an event ("Scan and report"), and what their functions ask of the columns.
+-- To be believed: the counts of the report's first line (the paper, "Scan and report"), `Counts` and `counts`. The rest is vocabulary:
+-- what the counts add for an event, and what their functions ask of the columns.
 -- Assumes nothing.
 use Prim.Native.Nat.{ℕ, _≤_}
 use mathlib.Core.Path.{_≡_}

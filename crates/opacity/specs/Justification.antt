@@ -1,4 +1,4 @@
--- Justifications (the paper, "Justification"). The values before any writer are a parameter, `start`.
+-- To be believed: justifications (the paper, "Justification"). The values before any writer are a parameter, `start`.
 -- Assumes nothing.
 use Prim.Native.Nat.{ℕ, _<_}
 use mathlib.Core.Path.{_≡_}
@@ -27,14 +27,10 @@ isOf t p = eqb (p .transaction) t
 unfoldable pub placed : ℕ → List Place → Bool
 placed t J = any (isOf t) J
 
-abbrev pub stop : Bool → Place → List Place → List Place
-stop true p ps = []
-stop false p ps = p ∷ ps
-
 -- the places before that of t
 unfoldable pub before : ℕ → List Place → List Place
 before t [] = []
-before t (p ∷ ps) = stop (isOf t p) p (before t ps)
+before t (p ∷ ps) = cond (isOf t p) [] (p ∷ before t ps)
 
 -- the outcome of t
 unfoldable pub outcome : ℕ → List Place → Bool

@@ -8,3 +8,5 @@ pub mod Store
 pub mod Serial
 pub mod Counts
 pub mod Said
+pub mod Explains
+pub mod Verdicts

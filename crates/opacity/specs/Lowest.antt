@@ -1,4 +1,4 @@
--- The lowest justification (the paper, "Finder").
+-- To be believed: the lowest justification (the paper, "Finder"), down to `LowestJustified`; what follows it is how it is computed.
 -- Assumes nothing.
 use Prim.Native.Nat.{ℕ, zero, suc, _<_}
 use mathlib.Core.Path.{_≡_}
@@ -21,17 +21,19 @@ below p q = ltb (p .transaction) (q .transaction) or eqb (p .transaction) (q .tr
 unfoldable pub samePlace : Place → Place → Bool
 samePlace p q = eqb (p .transaction) (q .transaction) and cond (p .committed) (q .committed) (not (q .committed))
 
-unfoldable pub notAbove : List Place → List Place → Bool
-notAbove [] K = true
-notAbove (p ∷ J) [] = false
-notAbove (p ∷ J) (q ∷ K) = below p q or samePlace p q and notAbove J K
-
 -- J is lower than K: at the first place where they differ, J's is below K's (or J ends there)
 unfoldable pub lower : List Place → List Place → Bool
 lower [] [] = false
 lower [] (q ∷ K) = true
 lower (p ∷ J) [] = false
 lower (p ∷ J) (q ∷ K) = below p q or samePlace p q and lower J K
+
+-- J is the lowest justification: any other is above it
+pub record LowestJustified (start : ℕ → ℕ) (h : List Event) (J : List Place) : Type 0 where
+  pub justifies : Justified start h J
+  pub least : (K : List Place) → Justified start h K → (lower J K ≡ true) ⊎ (J ≡ K)
+
+-- ---- How it is computed. Nobody need believe it: `lowest-some` and `lowest-none` (proofs/Theorems) say that `lowestOf` is the above.
 
 -- p may come right after the places P: its transaction is one of the history's and has no place yet, its outcome is allowed, all that
 -- precede it are placed, and its store reads are legal
@@ -64,11 +66,6 @@ unfoldable pub lowestOf : (ℕ → ℕ) → List Event → Option (List Place)
 lowestOf start h =
     let r = goOn (fits start h) (begins h) (begins h) [] in
     cond (every (ownRight h) (length h)) r none
-
--- J is the lowest justification: any other is above it
-pub record LowestJustified (start : ℕ → ℕ) (h : List Event) (J : List Place) : Type 0 where
-  pub justifies : Justified start h J
-  pub least : (K : List Place) → Justified start h K → (lower J K ≡ true) ⊎ (J ≡ K)
 
 -- J goes place by place: own reads are right, each place may come next after those before it, and there are as many as transactions
 pub record PlaceByPlace (start : ℕ → ℕ) (h : List Event) (J : List Place) : Type 0 where

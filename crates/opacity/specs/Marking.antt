@@ -1,6 +1,6 @@
--- Markings and the checker's rules (the paper, "Marking and checker"), for a history and a marking that are readable.
+-- To be believed: markings and the checker's rules (the paper, "Marking and checker"), for a history and a marking that are readable.
 -- Assumes nothing.
-use Prim.Native.Nat.{ℕ, _<_, min, max}
+use Prim.Native.Nat.{ℕ, min, max}
 use mathlib.Core.Path.{_≡_}
 use mathlib.Core.Bool.{Bool, true, false, not, cond}
 use mathlib.Core.List.{List, [], _∷_, _++_, map}
@@ -16,7 +16,7 @@ use Rattle.events.specs.Bytes.{u16Bytes, u32Bytes}
 use Rattle.events.specs.declared.event.Event.{Event}
 use Rattle.events.specs.Events.{eventAt, begins, isBegin, by}
 use Rattle.opacity.specs.Transactions.{isStoreRead, storeReads, ownRight}
-use Rattle.opacity.specs.Justification.{Place, isOrder, isOf, before, written, contents, outcomeKept, realTimeKept}
+use Rattle.opacity.specs.Justification.{Place, isOrder, isOf, before, written, outcomeKept, realTimeKept}
 
 -- A read point: gap g lies after the first g places.
 pub record Point : Type 0 where
@@ -80,17 +80,18 @@ others t P = keep (λ p. not (isOf t p)) P
 unfoldable pub between : ℕ → ℕ → List Place → List Place
 between a b J = drop (min a b) (take (max a b) J)
 
+-- what another than the reader of event i wrote last to its register, among the places P
+abbrev pub byOther : List Event → ℕ → List Place → Option ℕ
+byOther h i P = latest (written h (eventAt h i .register)) (others (eventAt h i .transaction) P)
+
 -- rule D at event i: no writer of the register but the reader is placed between the point and the reader
 unfoldable pub noWriterBetween : List Event → List Place → ℕ → ℕ → Bool
-noWriterBetween h J g i =
-    isStoreRead h i
-    implies isNone (latest (written h (eventAt h i .register)) (others (eventAt h i .transaction) (between g (placeOf (eventAt h i .transaction) J) J)))
+noWriterBetween h J g i = isStoreRead h i implies isNone (byOther h i (between g (placeOf (eventAt h i .transaction) J) J))
 
 -- rule E at event i: the value is that of the last writer before the gap other than the reader, or the start value
 unfoldable pub valueAtGap : (ℕ → ℕ) → List Event → List Place → ℕ → ℕ → Bool
 valueAtGap start h J g i =
-    isStoreRead h i
-    implies eqb (eventAt h i .value) (contents start h (others (eventAt h i .transaction) (take g J)) (eventAt h i .register))
+    isStoreRead h i implies eqb (eventAt h i .value) (Option·getD (byOther h i (take g J)) (start (eventAt h i .register)))
 
 unfoldable pub lastEvent : List Event → ℕ → ℕ
 lastEvent h t = Option·getD (last (λ i. eqb (eventAt h i .transaction) t) (length h)) 0
@@ -98,28 +99,8 @@ lastEvent h t = Option·getD (last (λ i. eqb (eventAt h i .transaction) t) (len
 unfoldable pub beginOf : List Event → ℕ → ℕ
 beginOf h t = Option·getD (first (λ i. by isBegin t (eventAt h i)) (length h)) 0
 
-unfoldable pub broke : Option ℕ → (ℕ → Verdict) → Verdict → Verdict
-broke none f v = v
-broke (some k) f v = f k
-
--- Rules go from A to E, and within one the lowest transaction (A, B) or event (C, D, E, with that event's transaction). A names the
--- transaction's last event, B the begin of the transaction that began after the other's end.
-unfoldable pub verdict : (ℕ → ℕ) → List Event → Marking → Verdict
-verdict start h m =
-    broke (first (λ t. not (outcomeKept h J t)) (begins h)) (λ t. Broken A (lastEvent h t) t)
-    (broke (first (λ u. not (realTimeKept h J u)) (begins h)) (λ u. Broken B (beginOf h u) u)
-    (broke (first (λ i. not (ownRight h i)) (length h)) (atEvent C)
-    (broke (first (λ i. not (noWriterBetween h J (gapOf (m .points) i) i)) (length h)) (atEvent D)
-    (broke (first (λ i. not (valueAtGap start h J (gapOf (m .points) i) i)) (length h)) (atEvent E)
-    Accepted))))
-  where
-    J : List Place
-    J = m .places
-
-    atEvent : Rule → ℕ → Verdict
-    atEvent r i = Broken r i (eventAt h i .transaction)
-
--- ---- What the verdict says, by rule: the words of the theorems about it.
+-- ---- The five rules. Each has a number, transactions (A, B) or events (C, D, E) that it is put to, a test, and an event and a transaction
+-- that it names where the test says no.
 
 -- the rules' numbers, in the order in which they are tried
 abbrev pub ruleNumber : Rule → ℕ
@@ -129,12 +110,7 @@ ruleNumber C = 3
 ruleNumber D = 4
 ruleNumber E = 5
 
--- the verdict's numbers: 0 for accepted, or the rule, its event and its transaction
-abbrev pub verdictNumbers : Verdict → List ℕ
-verdictNumbers Accepted = 0 ∷ []
-verdictNumbers (Broken r i t) = ruleNumber r ∷ i ∷ t ∷ []
-
--- a rule is put to the transactions (A, B) or to the events (C, D, E) below this number
+-- the rule is put to the transactions or events below this number
 abbrev pub putTo : List Event → Rule → ℕ
 putTo h A = begins h
 putTo h B = begins h
@@ -150,7 +126,8 @@ ruleHolds start h m C k = ownRight h k
 ruleHolds start h m D k = noWriterBetween h (m .places) (gapOf (m .points) k) k
 ruleHolds start h m E k = valueAtGap start h (m .places) (gapOf (m .points) k) k
 
--- the event and the transaction that are named where the rule is broken at k
+-- the event that is named where the rule is broken at k: the transaction's last (A), the begin of the transaction that began after the
+-- other's end (B), or k itself
 abbrev pub namedEvent : List Event → Rule → ℕ → ℕ
 namedEvent h A k = lastEvent h k
 namedEvent h B k = beginOf h k
@@ -158,6 +135,7 @@ namedEvent h C k = k
 namedEvent h D k = k
 namedEvent h E k = k
 
+-- and the transaction: k itself (A, B), or that of the event
 abbrev pub namedTransaction : List Event → Rule → ℕ → ℕ
 namedTransaction h A k = k
 namedTransaction h B k = k
@@ -165,32 +143,18 @@ namedTransaction h C k = eventAt h k .transaction
 namedTransaction h D k = eventAt h k .transaction
 namedTransaction h E k = eventAt h k .transaction
 
--- the rule holds wherever it is put to, and all five do
-abbrev pub Holds : (ℕ → ℕ) → List Event → Marking → Rule → Type 0
-Holds start h m r = (k : ℕ) → k < putTo h r → ruleHolds start h m r k ≡ true
+unfoldable pub broke : Option ℕ → (ℕ → Verdict) → Verdict → Verdict
+broke none f v = v
+broke (some k) f v = f k
 
-abbrev pub AllHold : (ℕ → ℕ) → List Event → Marking → Type 0
-AllHold start h m = (r : Rule) → Holds start h m r
+-- rule r, broken at the lowest transaction or event where it does not hold, or else what the rules after it say
+unfoldable pub tries : (ℕ → ℕ) → List Event → Marking → Rule → Verdict → Verdict
+tries start h m r rest =
+    broke (first (λ k. not (ruleHolds start h m r k)) (putTo h r)) (λ k. Broken r (namedEvent h r k) (namedTransaction h r k)) rest
 
--- k is where the first broken rule is broken lowest: nothing lower breaks it, and the rules before it hold
-pub record FirstBroken (start : ℕ → ℕ) (h : List Event) (m : Marking) (r : Rule) (k : ℕ) : Type 0 where
-  pub inside : k < putTo h r
-  pub broken : ruleHolds start h m r k ≡ false
-  pub lowest : (j : ℕ) → j < k → ruleHolds start h m r j ≡ true
-  pub earlier : (q : Rule) → ruleNumber q < ruleNumber r → Holds start h m q
-
--- i is the last event of t
-pub record LastOf (h : List Event) (t i : ℕ) : Type 0 where
-  pub inside : i < length h
-  pub names : eventAt h i .transaction ≡ t
-  pub later : (j : ℕ) → i < j → j < length h → eventAt h j .transaction ≡ t → ⊥
-
--- i is the begin of t
-pub record BeginOf (h : List Event) (t i : ℕ) : Type 0 where
-  pub inside : i < length h
-  pub begins : isBegin (eventAt h i) ≡ true
-  pub names : eventAt h i .transaction ≡ t
-
--- rule D at every event
-abbrev pub RuleD : List Event → Marking → Type 0
-RuleD h m = (i : ℕ) → i < length h → noWriterBetween h (m .places) (gapOf (m .points) i) i ≡ true
+-- rules go from A to E
+unfoldable pub verdict : (ℕ → ℕ) → List Event → Marking → Verdict
+verdict start h m = rule A (rule B (rule C (rule D (rule E Accepted))))
+  where
+    rule : Rule → Verdict → Verdict
+    rule r rest = tries start h m r rest

@@ -1,9 +1,9 @@
--- The scan (the paper, "Scan and report").
+-- To be believed: the scan (the paper, "Scan and report").
 -- Assumes nothing.
 use Prim.Native.Nat.{ℕ, suc, _≤_, _<_}
 use mathlib.Core.Path.{_≡_}
 use mathlib.Core.Bool.{cond}
-use mathlib.Core.List.{List, [], _∷_}
+use mathlib.Core.List.{List}
 use mathlib.Core.Option.{Option, none, some}
 use lib.ListN.{length, take}
 pub use Rattle.opacity.specs.declared.verdict.Scanned.{Scanned}
@@ -17,11 +17,6 @@ use Rattle.opacity.specs.Lowest.{lowestOf}
 -- by the kind: 1 read returned, 2 committed, 3 aborted, 4 any other
 unfoldable pub cause : Event → ℕ
 cause e = cond (isRead e) 1 (cond (isCommit e) 2 (cond (isAbort e) 3 4))
-
--- the scan's numbers: 0 for opaque, or the cause and the event
-abbrev pub scannedNumbers : Scanned → List ℕ
-scannedNumbers Opaque = 0 ∷ []
-scannedNumbers (Faulted i c) = c ∷ i ∷ []
 
 abbrev pub answer : List Event → Option ℕ → Scanned
 answer h none = Opaque

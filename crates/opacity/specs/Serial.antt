@@ -1,9 +1,11 @@
--- Running the transactions of an order one at a time. It is said by a machine with a store, and with no notion of writers, own reads or
--- legality: `proofs/Serial.antt` proves that justification demands exactly the reads that this machine gives.
+-- To be believed: running the transactions of an order one at a time (the paper, "Justification"). It is said by a machine with a store,
+-- and with no notion of writers, own reads or legality: `proofs/Serial.antt` proves that justification demands exactly the reads that
+-- this machine gives.
 -- Assumes nothing.
 use Prim.Native.Nat.{ℕ, _≤_, _<_, suc}
 use mathlib.Core.Path.{_≡_}
-use mathlib.Core.Bool.{Bool, true, false, cond}
+use mathlib.Core.Logic.{_⊎_}
+use mathlib.Core.Bool.{Bool, true, cond}
 use mathlib.Core.List.{List, [], _∷_}
 use lib.Dec.{eqb}
 use lib.ListN.{length, take}
@@ -55,10 +57,10 @@ pub record Serial (start : Store) (h : List Event) (J : List Place) : Type 0 whe
   pub realTime : (u : ℕ) → u < begins h → realTimeKept h J u ≡ true
   pub reads : runsRight start h J ≡ true
 
--- J is the lowest order that explains h so
+-- J is the lowest order that explains h so: any other is above it
 pub record LowestSerial (start : Store) (h : List Event) (J : List Place) : Type 0 where
   pub explains : Serial start h J
-  pub least : (K : List Place) → Serial start h K → lower K J ≡ false
+  pub least : (K : List Place) → Serial start h K → (lower J K ≡ true) ⊎ (J ≡ K)
 
 -- every prefix has an order that explains it so
 abbrev pub AllSerial : Store → List Event → Type 0

@@ -1,5 +1,6 @@
--- What transactions leave in the registers: a store, and a fold of updates of the whole of it (change request 4). It is said with no notion
--- of a last writer: `proofs/Contents.antt` proves that what a register holds after some places is what this store has there.
+-- To be believed: what transactions leave in the registers (change request 4), a store, and a fold of updates of the whole of it. It is
+-- said with no notion of a last writer: `proofs/Contents.antt` proves that what a register holds after some places is what this store has
+-- there.
 -- Assumes nothing.
 use Prim.Native.Nat.{ℕ}
 use mathlib.Core.Bool.{cond}
@@ -19,8 +20,8 @@ unfoldable pub put : ℕ → ℕ → Store → Store
 put r v s q = cond (eqb r q) v (s q)
 
 -- the writes of t, in the order of its calls
-unfoldable pub writes : List Event → ℕ → List Event
-writes h t = keep (by isWrite t) h
+unfoldable pub writesOf : List Event → ℕ → List Event
+writesOf h t = keep (by isWrite t) h
 
 -- the store after a write
 unfoldable pub afterWrite : Store → Event → Store
@@ -28,7 +29,7 @@ afterWrite s e = put (e .register) (e .value) s
 
 -- the store after a place: a committed transaction applies its writes, one after the other, and an aborted one none
 unfoldable pub afterPlace : List Event → Store → Place → Store
-afterPlace h s p = cond (p .committed) (foldl afterWrite s (writes h (p .transaction))) s
+afterPlace h s p = cond (p .committed) (foldl afterWrite s (writesOf h (p .transaction))) s
 
 -- the store after the places P, applied in order over the start values
 unfoldable pub applied : Store → List Event → List Place → Store

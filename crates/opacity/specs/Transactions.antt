@@ -1,6 +1,7 @@
--- What a history says of its transactions ("Justification"): status and allowed outcomes, real time, writes, own reads and store reads.
+-- To be believed: what a history says of its transactions (the paper, "Justification"), that is status and allowed outcomes, real time,
+-- writes, own reads and store reads.
 -- Assumes nothing.
-use Prim.Native.Nat.{ℕ, suc, _<_}
+use Prim.Native.Nat.{ℕ, _<_}
 use mathlib.Core.Path.{_≡_}
 use mathlib.Core.Bool.{Bool, true, false, not, cond}
 use mathlib.Core.List.{List, [], _∷_}
@@ -9,7 +10,7 @@ use lib.Dec.{eqb}
 use lib.ListN.{length, take}
 use Rattle.events.specs.Lists.{_and_, _or_, _implies_, keep, latest, isNone, range}
 use Rattle.events.specs.declared.event.Event.{Event}
-use Rattle.events.specs.Events.{eventAt, isBegin, isRead, isWrite, asksCommit, isCommit, isAbort, isEnd, by, has, ended, begins}
+use Rattle.events.specs.Events.{eventAt, isBegin, isRead, isWrite, asksCommit, isCommit, isAbort, isEnd, by, has, ended}
 
 -- How a transaction stands: committed or aborted as recorded, pending after a commit called and unanswered, else live.
 pub data Status : Type 0 where
@@ -63,10 +64,11 @@ pub record EndedBefore (h : List Event) (t u : ℕ) : Type 0 where
 unfoldable pub lastWrite : List Event → ℕ → ℕ → Option ℕ
 lastWrite h t r = latest (λ e. cond (by isWrite t e and eqb (e .register) r) (some (e .value)) none) h
 
--- the same event by event: v is written by an event of t to r, and no later event of t writes r
+-- event i is a write of t to r
 abbrev pub writes : List Event → ℕ → ℕ → ℕ → Bool
 writes h t r i = by isWrite t (eventAt h i) and eqb (eventAt h i .register) r
 
+-- the same event by event: v is written by an event of t to r, and no later event of t writes r
 pub record LastWrite (h : List Event) (t r v : ℕ) : Type 0 where
   pub event : ℕ
   pub inside : event < length h
@@ -96,7 +98,3 @@ isValue v (some w) = eqb v w
 -- event i, if it is an own read, returns the latest own write
 unfoldable pub ownRight : List Event → ℕ → Bool
 ownRight h i = isOwnRead h i implies isValue (eventAt h i .value) (ownWrite h i)
-
--- every event is of a transaction that has begun: true of each readable history (question 11) and of its prefixes
-abbrev pub Begun : List Event → Type 0
-Begun h = (i : ℕ) → i < length h → eventAt h i .transaction < begins (take (suc i) h)

@@ -1,3 +1,4 @@
+-- Vocabulary between crates: it need not be believed, the public contracts end in the paper's definitions.
 -- What the choosers of the search answer for a state of it: places in the tree of orders and outcomes.
 -- Assumes nothing.
 use Prim.Native.Nat.{ℕ, _-_, _^_}

@@ -1,3 +1,4 @@
+-- Vocabulary between crates: it need not be believed, the public contracts end in the paper's definitions.
 -- The state of the search: its places, when it is sound, and what placing a transaction makes of it.
 -- Assumes nothing.
 use mathlib.Core.Path.{_≡_}

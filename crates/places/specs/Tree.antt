@@ -1,3 +1,4 @@
+-- Vocabulary between crates: it need not be believed, the public contracts end in the paper's definitions.
 -- The tree of orders and outcomes that the search goes through, and its first leaf that meets the constraints.
 -- Assumes nothing.
 use mathlib.Core.Path.{_≡_}

@@ -1,3 +1,4 @@
+-- Vocabulary between crates: it need not be believed, the public contracts end in the paper's definitions.
 -- A run: places that fit one after the other until none is left. And the runs that a shorter search, over the committed places alone, must
 -- not miss.
 -- Assumes nothing.

@@ -20,8 +20,8 @@ use Rattle.opacity.specs.declared.verdict.Verdict.the-variants.{Accepted, Broke
 use Rattle.opacity.specs.declared.verdict.Rule.{Rule}
 use Rattle.opacity.specs.declared.verdict.Rule.the-variants.{A, B, C, D, E}
 use Rattle.opacity.specs.Transactions.{Status, committed, aborted, pending, live, statusNumber, status, allows, precedes, isStoreRead, ownRight}
-use Rattle.opacity.specs.Justification.{Place, placed, before, contents, written, outcomeKept, preceded, realTimeKept}
-use Rattle.opacity.specs.Marking.{gapOf, placeOf, others, between, noWriterBetween, valueAtGap, ruleHolds, broke, verdict, lastEvent, beginOf}
+use Rattle.opacity.specs.Justification.{Place, placed, before, written, outcomeKept, preceded, realTimeKept}
+use Rattle.opacity.specs.Marking.{gapOf, placeOf, others, between, noWriterBetween, valueAtGap, ruleHolds, broke, tries, verdict, lastEvent, beginOf}
 use Rattle.opacity.proofs.Finder.{gap-marked, before-le}
 use Rattle.links.specs.declared.tables.Fact.the-variants.{LastEvent, LastWrite, LastBegin, FirstBegin, FirstEnd, Standing}
 use Rattle.links.specs.Tables.{Slots, Tabled, slot, earlier}
@@ -167,7 +167,7 @@ module _ {c : Columns} {n : ℕ} {link : List ℕ} {reads : List Bool} {order ou
 
       value-same : (start : ℕ → ℕ) → valueBy start (c .transactions) (c .registers) (c .values) link writers place reads gaps i
           ≡ valueAtGap start (history c n) (orderIn c n order outcomes) (gapOf (content (history c n) order outcomes gaps .points) i) i
-      unfolding valueBy valueAtGap contents _implies_
+      unfolding valueBy valueAtGap _implies_
       value-same start = rw (read-same i l, history-at c n i l) (go (isStoreRead (history c n) i) refl)
         where
           go : (b : Bool) → isStoreRead (history c n) i ≡ b
@@ -243,7 +243,7 @@ module _ {c : Columns} {n : ℕ} {link : List ℕ} {reads : List Bool} {order ou
         agrees-a = first-ext (outcomeBy standing place outcomes) (outcomeKept (history c n) (orderIn c n order outcomes)) (begunIn c n) (outcome-same standing place s v)
 
         pub verdict-a : t < k → {lasts : List ℕ} → Slots LastEvent (c .kinds) (c .transactions) n lasts → {e : ℕ} → e ≡ getD lasts t 0 - 1 → Broken A e t ≡ judged
-        unfolding verdict content broke
+        unfolding verdict tries ruleHolds content broke
         verdict-a l {lasts} f {e} ee =
             let few = y .ground .few-begun in
             let named : e ≡ lastEvent (history c n) t = ee ∙ (ap (λ (x : ℕ). x - 1) (f .holds t (omega arith)) ∙ last-event c n t) in
@@ -261,7 +261,7 @@ module _ {c : Columns} {n : ℕ} {link : List ℕ} {reads : List Bool} {order ou
           agrees-b = first-ext (realTimeBy ended began place (begunIn c n)) (realTimeKept (history c n) (orderIn c n order outcomes)) (begunIn c n) (real-time-same ended began place a b v)
 
           pub verdict-b : u < k → {firsts : List ℕ} → Slots FirstBegin (c .kinds) (c .transactions) n firsts → {e : ℕ} → e ≡ getD firsts u 0 - 1 → Broken B e u ≡ judged
-          unfolding verdict content broke
+          unfolding verdict tries ruleHolds content broke
           verdict-b l {firsts} f {e} ee =
               let few = y .ground .few-begun in
               let named : e ≡ beginOf (history c n) u = ee ∙ (ap (λ (x : ℕ). x - 1) (f .holds u (omega arith)) ∙ first-begin c n u) in
@@ -269,7 +269,7 @@ module _ {c : Columns} {n : ℕ} {link : List ℕ} {reads : List Bool} {order ou
 
           pub verdict-reads : k ≤ u → {last writers : List ℕ} → Slots LastWrite (c .kinds) (c .transactions) n last → Writers order outcomes last k writers
               → readsVerdict start c n link writers place reads gaps ≡ judged
-          unfolding verdict content broke
+          unfolding verdict tries ruleHolds content broke
           verdict-reads l {last} {writers} lasts table =
               rw (none-a, sym agrees-b ∙ none-of (realTimeBy ended began place (begunIn c n)) (begunIn c n) u etb (omega arith), history-length c n)
               (reads-same place last writers v lasts (writers-all last table) start)

@@ -7,7 +7,7 @@ use native.Mathlib.Numerals.{add-one}
 use native.Mathlib.Omega.{arith}
 use mathlib.Core.Path.{_≡_, refl, sym, ap, _∙_, subst}
 use mathlib.Core.Logic.{⊎-elim}
-use mathlib.Core.Bool.{Bool, true, false}
+use mathlib.Core.Bool.{Bool, true, false, cond}
 use mathlib.Core.List.{List, [], _∷_, _++_}
 use lib.Dec.{eqb, ltb}
 use lib.ListN.{length, getD, take, drop, set, replicate, length-set, length-replicate, length-append}
@@ -16,7 +16,7 @@ use borrow.Author.Tests.{eqb-true, eq-eqb, ne-eqb, eqb-false, lt-ltb, ltb-true, 
 use Rattle.events.specs.Lists.{_or_, any, all}
 use Rattle.events.proofs.ListLaws.{and-l, and-r, every-e, below-cases}
 use Rattle.events.proofs.QuestionLaws.{any-index}
-use Rattle.opacity.specs.Justification.{Place, isOf, placed, stop, before, outcome, distinct, isOrder}
+use Rattle.opacity.specs.Justification.{Place, isOf, placed, before, outcome, distinct, isOrder}
 use Rattle.opacity.specs.Marking.{placeOf}
 use Rattle.opacity.proofs.Orders.{Fresh, before-here, distinct-at, outcome-here}
 use Rattle.rules.specs.Orders.{placesOf, placeAt, Inverse, Apart}
@@ -52,8 +52,8 @@ before-lower t u [] = refl
 before-lower t u (p ∷ J) = go (isOf u p) (isOf t p) refl (before-lower t u J)
   where
     go : (a b : Bool) → isOf t p ≡ b → placed t (before u J) ≡ ltb (placeOf t J) (placeOf u J)
-        → any (isOf t) (stop a p (before u J)) ≡ ltb (length (stop b p (before t J))) (length (stop a p (before u J)))
-    go true b e ih = sym (le-ltb (length (stop b p (before t J))) 0 (omega arith))
+        → any (isOf t) (cond a [] (p ∷ before u J)) ≡ ltb (length (cond b [] (p ∷ before t J))) (length (cond a [] (p ∷ before u J)))
+    go true b e ih = sym (le-ltb (length (cond b [] (p ∷ before t J))) 0 (omega arith))
     go false true e ih = rw e (sym (lt-ltb 0 (suc (length (before u J))) (zero-lt-suc _)))
     go false false e ih = rw e (ih ∙ sym (ltb-suc (length (before t J)) (length (before u J))))
 

@@ -1,3 +1,4 @@
+-- Vocabulary between crates: it need not be believed, the public contracts end in the paper's definitions.
 -- Orders of places in arrays, and the rules A and B by tables.
 -- Assumes nothing.
 use Prim.Native.Nat.{ℕ, zero, suc, _≤_, _<_}

@@ -20,7 +20,7 @@ use Rattle.events.specs.Starts.{startOf}
 use Rattle.events.proofs.ListLaws.{and-l, and-r, and-i, all-weaken}
 use Rattle.events.proofs.ColumnLaws.{history-length, history-at, history-take, begins-more, begins-stay}
 use Rattle.opacity.specs.Transactions.{lastWrite}
-use Rattle.opacity.specs.Justification.{Place, isOf, stop, before, outcome, contents, isOrder, Justified}
+use Rattle.opacity.specs.Justification.{Place, isOf, before, outcome, contents, isOrder, Justified}
 use Rattle.opacity.specs.Lowest.{place}
 use Rattle.opacity.specs.Carry.{seen, carries, carried}
 use Rattle.opacity.specs.Counts.{ofKind}
@@ -90,7 +90,7 @@ unfolding all before
 before-all q u [] a = refl
 before-all q u (p ∷ J) a = go (isOf u p) (before-all q u J (and-r _ _ a))
   where
-    go : (b : Bool) → all q (before u J) ≡ true → all q (stop b p (before u J)) ≡ true
+    go : (b : Bool) → all q (before u J) ≡ true → all q (cond b [] (p ∷ before u J)) ≡ true
     go true i = refl
     go false i = and-i _ _ (and-l _ _ a) i
 

@@ -1,3 +1,4 @@
+-- Vocabulary between crates: it need not be believed, the public contracts end in the paper's definitions.
 -- The witness: an order of places that justifies the events passed, as one number, carried on to one event more.
 -- Assumes nothing.
 use mathlib.Core.Path.{_≡_}

@@ -15,7 +15,8 @@ use Rattle.opacity.specs.declared.verdict.Rule.{Rule}
 use Rattle.opacity.specs.declared.verdict.Rule.the-variants.{A, B, C, D, E}
 use Rattle.opacity.specs.declared.verdict.Verdict.the-variants.{Broken}
 use Rattle.opacity.specs.Justification.{Place, outcomeKept, realTimeKept, legal}
-use Rattle.opacity.specs.Marking.{Marking, ReadableFor, verdict, ruleNumber, ruleHolds, Holds}
+use Rattle.opacity.specs.Marking.{Marking, ReadableFor, verdict, ruleNumber, ruleHolds}
+use Rattle.opacity.specs.Verdicts.{Holds}
 use Rattle.opacity.proofs.Rules.{gap-legal, legal-gap}
 use Rattle.opacity.proofs.VerdictLaws.{broken-names, names-broken}
 use Rattle.straighten.specs.Straight.{straightened, OrderRulesHold, FirstIllegal}

@@ -18,7 +18,8 @@ use Rattle.opacity.specs.declared.verdict.Rule.the-variants.{D, E}
 use Rattle.opacity.specs.declared.verdict.Verdict.the-variants.{Accepted}
 use Rattle.opacity.specs.Transactions.{isStoreRead, storeReads}
 use Rattle.opacity.specs.Justification.{Place, Justified}
-use Rattle.opacity.specs.Marking.{Marking, Point, ReadableFor, markingBytes, gapOf, placeOf, marked, noWriterBetween, valueAtGap, verdict, ruleHolds, RuleD}
+use Rattle.opacity.specs.Marking.{Marking, Point, ReadableFor, markingBytes, gapOf, placeOf, marked, noWriterBetween, valueAtGap, verdict, ruleHolds}
+use Rattle.opacity.specs.Verdicts.{RuleD}
 use Rattle.opacity.proofs.Finder.{gap-marked, marked-keeps-D, before-le, events-of}
 use Rattle.opacity.proofs.MarkingBytes.{marking-length}
 use Rattle.opacity.proofs.Orders.{filled}
@@ -40,7 +41,7 @@ module _ (h : List Event) (J : List Place) (i : ℕ) where
   no-read-E start g n = imp-i _ _ (λ s. absurd (clash s n))
 
   reader-keeps-D : i < length h → noWriterBetween h J (placeOf (eventAt h i .transaction) J) i ≡ true
-  unfolding marked
+  unfolding marked ruleHolds
   reader-keeps-D l = go (isStoreRead h i) refl
     where
       go : (b : Bool) → isStoreRead h i ≡ b → noWriterBetween h J (placeOf (eventAt h i .transaction) J) i ≡ true

@@ -1,5 +1,5 @@
--- Straightened read points: outcomes and order are kept, and so is every point that breaks neither D nor E; each other one is moved to its
--- reader's place. The start values are a parameter.
+-- To be believed: straightened read points (change request 1). Outcomes and order are kept, and so is every point that breaks neither D
+-- nor E; each other one is moved to its reader's place. The start values are a parameter.
 -- Assumes nothing.
 use Prim.Native.Nat.{ℕ, suc, _<_}
 use mathlib.Core.Path.{_≡_}
@@ -10,8 +10,10 @@ use Rattle.events.specs.declared.event.Event.{Event}
 use Rattle.events.specs.Lists.{_and_, keep}
 use Rattle.events.specs.Events.{eventAt}
 use Rattle.opacity.specs.declared.verdict.Rule.{Rule}
+use Rattle.opacity.specs.declared.verdict.Rule.the-variants.{D}
 use Rattle.opacity.specs.Justification.{Place, legal}
-use Rattle.opacity.specs.Marking.{Point, Marking, placeOf, noWriterBetween, valueAtGap, ruleNumber, Holds}
+use Rattle.opacity.specs.Marking.{Point, Marking, placeOf, noWriterBetween, valueAtGap, ruleNumber}
+use Rattle.opacity.specs.Verdicts.{Holds}
 
 -- the point breaks neither D nor E
 unfoldable pub stands : (ℕ → ℕ) → List Event → List Place → Point → Bool
@@ -39,7 +41,7 @@ Rises xs = (j : ℕ) → suc j < length xs → getD xs j 0 < getD xs (suc j) 0
 
 -- A, B and C hold
 abbrev pub OrderRulesHold : (ℕ → ℕ) → List Event → Marking → Type 0
-OrderRulesHold start h m = (q : Rule) → ruleNumber q < 4 → Holds start h m q
+OrderRulesHold start h m = (q : Rule) → ruleNumber q < ruleNumber D → Holds start h m q
 
 -- i is the first store read that is not legal in the marking's order, whatever its points are, and A, B and C hold
 pub record FirstIllegal (start : ℕ → ℕ) (h : List Event) (m : Marking) (i : ℕ) : Type 0 where

@@ -1,3 +1,4 @@
+-- Vocabulary between crates: it need not be believed, the public contracts end in the paper's definitions.
 -- The tables by which points are moved, and the marking that stands in arrays, as bytes.
 -- Assumes nothing.
 use Prim.Native.Nat.{ℕ, _+_, _*_, _≤_}

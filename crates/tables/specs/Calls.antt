@@ -1,4 +1,4 @@
--- Questions put to a call of the finder or the scan, one group after the other.
+-- To be believed: questions put to a call of the finder or the scan (the paper, "Finder"), one group after the other.
 -- Assumes nothing.
 use Prim.Native.Nat.{ℕ}
 use mathlib.Core.List.{List}

@@ -1,3 +1,4 @@
+-- Vocabulary between crates: it need not be believed, the public contracts end in the paper's definitions.
 -- The finder's answer: the first completion of the tables of a history, as an order of places.
 -- Assumes nothing.
 use mathlib.Core.Path.{_≡_}

@@ -1,3 +1,4 @@
+-- Vocabulary between crates: it need not be believed, the public contracts end in the paper's definitions.
 -- The tables of a history, one event at a time.
 -- Assumes nothing.
 use mathlib.Core.Path.{_≡_}

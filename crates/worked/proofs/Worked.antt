@@ -11,7 +11,7 @@ use Rattle.events.specs.Columns.{history, hold, filledWith}
 use Rattle.opacity.specs.Transactions.{status, allows, precedes, lastWrite, ownWrite, isOwnRead, isStoreRead, storeReads, ownRight}
 use Rattle.opacity.specs.Justification.{placed, before, outcome, written, contents, distinct, isOrder, outcomeKept, preceded, legalOver, realTimeKept}
 use Rattle.opacity.specs.Lowest.{fits, lowestPlace, goOn, lowestOf}
-use Rattle.opacity.specs.Marking.{flat, markingBytes, gapOf, placeOf, marked, others, between, noWriterBetween, valueAtGap, lastEvent, beginOf, broke, verdict}
+use Rattle.opacity.specs.Marking.{flat, markingBytes, gapOf, placeOf, marked, others, between, noWriterBetween, valueAtGap, lastEvent, beginOf, ruleHolds, broke, tries, verdict}
 use Rattle.opacity.specs.Scan.{cause, scan}
 use Rattle.opacity.specs.Store.{put}
 use Rattle.opacity.specs.Serial.{does, eventsOf, run, readsRight, after, runsRight}
@@ -23,5 +23,5 @@ use Rattle.straighten.specs.Straight.{stands, straightPoint, straightened, move
 use Rattle.worked.specs.Worked.{right, worked}
 
 pub worked-hold : all right worked ≡ true
-unfolding nextEvent everyPlaced hasPoint everyPointed headQuestions recordQuestions endQuestions bodyStep endStep stepAt walkMarking opening fileRead verdictAnswer checkSaid said _and_ _or_ _implies_ any all keep latest every lowest first last range isKnown isBegin isRead isWrite isCall namesRegister asksCommit isCommit isAbort isEnd by has begins ended lastOf pendingCall pendingOf latestOn refusal threadFree due fieldsDue eventQuestions columnQuestions refusedAt readable eventsAnswer historyAnswer startOf allZero admits history hold filledWith status allows precedes lastWrite ownWrite isOwnRead isStoreRead storeReads ownRight placed before outcome written contents distinct isOrder outcomeKept preceded legalOver realTimeKept fits lowestPlace goOn lowestOf flat markingBytes gapOf placeOf marked others between noWriterBetween valueAtGap lastEvent beginOf broke verdict cause scan put does eventsOf run readsRight after runsRight counts standing tally stands straightPoint straightened movedEvents right worked
+unfolding nextEvent everyPlaced hasPoint everyPointed headQuestions recordQuestions endQuestions bodyStep endStep stepAt walkMarking opening fileRead verdictAnswer checkSaid said _and_ _or_ _implies_ any all keep latest every lowest first last range isKnown isBegin isRead isWrite isCall namesRegister asksCommit isCommit isAbort isEnd by has begins ended lastOf pendingCall pendingOf latestOn refusal threadFree due fieldsDue eventQuestions columnQuestions refusedAt readable eventsAnswer historyAnswer startOf allZero admits history hold filledWith status allows precedes lastWrite ownWrite isOwnRead isStoreRead storeReads ownRight placed before outcome written contents distinct isOrder outcomeKept preceded legalOver realTimeKept fits lowestPlace goOn lowestOf flat markingBytes gapOf placeOf marked others between noWriterBetween valueAtGap lastEvent beginOf ruleHolds broke tries verdict cause scan put does eventsOf run readsRight after runsRight counts standing tally stands straightPoint straightened movedEvents right worked
 worked-hold = refl
