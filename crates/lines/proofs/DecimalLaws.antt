@@ -33,8 +33,8 @@ size-fewest : (most n : ℕ) → n ≤ most → Fewest 10 1 n (size most n)
 size-fewest zero n l = below-ten n (omega arith)
 size-fewest (suc most) n l =
     elim (decLt n 10) [
-      yes b ↦ rw (lt-ltb n 10 b) (below-ten n b)
-    | no b ↦ rw (le-ltb n 10 (omega arith)) (one-more n (size most (n / 10)) (omega arith) (size-fewest most (n / 10) (omega arith)))
+      | yes b ↦ rw (lt-ltb n 10 b) (below-ten n b)
+      | no b ↦ rw (le-ltb n 10 (omega arith)) (one-more n (size most (n / 10)) (omega arith) (size-fewest most (n / 10) (omega arith)))
     ]
 
 -- fewer digits than the fewest hold less
@@ -45,8 +45,8 @@ holds-less n k m f l a =
 only-one : (n k m : ℕ) → Fewest 10 1 n k → Fewest 10 1 n m → k ≡ m
 only-one n k m f g =
     elim (decLt k m) [
-      yes l ↦ absurd (omega (arith, f .1, holds-less n k m g l (f .0)))
-    | no l ↦ elim (decLt m k) [ yes b ↦ absurd (omega (arith, g .1, holds-less n m k f b (g .0))) | no b ↦ omega arith ]
+      | yes l ↦ absurd (omega (arith, f .1, holds-less n k m g l (f .0)))
+      | no l ↦ elim (decLt m k) [ yes b ↦ absurd (omega (arith, g .1, holds-less n m k f b (g .0))) | no b ↦ omega arith ]
     ]
 
 length-digits : (b k n : ℕ) → length (digits b k n) ≡ k

@@ -11,20 +11,20 @@ use Rattle.capture.specs.declared.Counts.{Counts}
 use Rattle.capture.specs.declared.Marking.{Marking}
 use Rattle.capture.specs.declared.Opacity.{Opacity}
 use Rattle.capture.specs.declared.Report.{Report}
-use Rattle.lines.specs.Text.{text, decimal}
+use Rattle.lines.specs.Text.{text, field}
 
 unfoldable pub countsLine : Counts → List ℕ
 countsLine c =
-    text "events " ++ decimal (c .events) ++ text " transactions " ++ decimal (c .transactions) ++ text " reads " ++ decimal (c .reads) ++ text "\n"
+    field "events " (c .events) ++ field " transactions " (c .transactions) ++ field " reads " (c .reads) ++ text "\n"
 
 unfoldable pub tallyLine : Tally → List ℕ
 tallyLine t =
-    text "committed " ++ decimal (t .committed) ++ text " aborted " ++ decimal (t .aborted) ++ text " pending " ++ decimal (t .pending)
-    ++ text " live " ++ decimal (t .live) ++ text "\n"
+    field "committed " (t .committed) ++ field " aborted " (t .aborted) ++ field " pending " (t .pending)
+    ++ field " live " (t .live) ++ text "\n"
 
 -- the question that says no to a file, and the byte; the line begins with the file's name
 unfoldable pub refusedLine : List ℕ → ℕ → ℕ → List ℕ
-refusedLine file question byte = file ++ text " refused " ++ decimal question ++ text " byte " ++ decimal byte ++ text "\n"
+refusedLine file question byte = file ++ field " refused " question ++ field " byte " byte ++ text "\n"
 
 abbrev pub letter : Rule → String
 letter Rule.A = "A"
@@ -35,7 +35,7 @@ letter Rule.E = "E"
 
 unfoldable pub brokenLine : Rule → ℕ → ℕ → List ℕ
 brokenLine rule event transaction =
-    text "marking rule " ++ text (letter rule) ++ text " event " ++ decimal event ++ text " transaction " ++ decimal transaction ++ text "\n"
+    text "marking rule " ++ text (letter rule) ++ field " event " event ++ field " transaction " transaction ++ text "\n"
 
 abbrev pub verdictLine : Verdict → List ℕ
 verdictLine Verdict.Accepted = text "marking accepted\n"
@@ -46,10 +46,10 @@ markingLine (Marking.Ruled verdict) = verdictLine verdict
 markingLine (Marking.Refused question byte) = refusedLine (text "marking") question byte
 
 unfoldable pub faultedLine : ℕ → ℕ → List ℕ
-faultedLine event cause = text "opaque no event " ++ decimal event ++ text " cause " ++ decimal cause ++ text "\n"
+faultedLine event cause = field "opaque no event " event ++ field " cause " cause ++ text "\n"
 
 unfoldable pub unscannedLine : ℕ → List ℕ
-unscannedLine question = text "opaque refused " ++ decimal question ++ text "\n"
+unscannedLine question = field "opaque refused " question ++ text "\n"
 
 abbrev pub scannedLine : Scanned → List ℕ
 scannedLine Scanned.Opaque = text "opaque yes\n"

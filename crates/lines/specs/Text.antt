@@ -4,7 +4,7 @@ use Prim.Native.Nat.{ℕ, zero, suc, _+_, _/_, _≤_}
 use Prim.Native.Char.{code}
 use Prim.Native.String.{String, [] as nothing, _∷_ as _then_}
 use mathlib.Core.Path.{_≡_}
-use mathlib.Core.List.{List, [], _∷_}
+use mathlib.Core.List.{List, [], _∷_, _++_}
 use lib.Dec.{ltb}
 use lib.ListN.{length}
 use Rattle.io.specs.Digits.{digits}
@@ -23,6 +23,10 @@ size (suc most) n = pick (ltb n 10) 1 (suc (size most (n / 10)))
 -- a number in base ten, with no zeros in front
 unfoldable pub decimal : ℕ → List ℕ
 decimal n = digits 10 (size n n) n
+
+-- words, and the number after them
+abbrev pub field : String → ℕ → List ℕ
+field words n = text words ++ decimal n
 
 -- a run of at most `most` bytes is put into a buffer at a place, and `next` is the place behind it
 pub record Put (most : ℕ) (before after : List ℕ) (at : ℕ) (run : List ℕ) (next : ℕ) : Type 0 where

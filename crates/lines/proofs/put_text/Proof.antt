@@ -52,9 +52,9 @@ loop-again c =
     let inv = c .before .before .loop .inv in
     record {
       holds =
-        ap (λ (l : List ℕ). set l (at + i) (getD words i 0)) (inv .holds)
-        ∙ paste-suc d at words i 0 (omega arith) (omega arith)
-        ∙ ap (paste d at words) (sym (add-one i));
+          ap (λ (l : List ℕ). set l (at + i) (getD words i 0)) (inv .holds)
+          ∙ paste-suc d at words i 0 (omega arith) (omega arith)
+          ∙ ap (paste d at words) (sym (add-one i));
       within = omega arith;
       long = length-set (c .before .before .loop .out) (at + i) (getD words i 0) ∙ inv .long;
     }
