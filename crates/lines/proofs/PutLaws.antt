@@ -7,7 +7,7 @@ use mathlib.Core.Path.{_≡_, refl, sym, ap, _∙_}
 use mathlib.Core.List.{List, _++_, append-assoc}
 use lib.ListN.{length, take, drop, length-append}
 use lib.Seq.{paste, take-length}
-use Rattle.events.specs.Bytes.{placed}
+use Rattle.events.specs.Bytes.{placed, over}
 use Rattle.events.proofs.BufferLaws.{placed-more}
 use Rattle.lines.specs.Text.{decimal, Put}
 
@@ -29,3 +29,9 @@ module _ {a b : ℕ} {d e o : List ℕ} {at m next : ℕ} {xs ys : List ℕ} (ro
     ends = simp length-append (omega (arith, p .ends, q .ends));
     short = simp length-append (omega (arith, p .short, q .short));
   }
+
+-- a run from the first place on
+pub put-first : {a : ℕ} {d e : List ℕ} {next : ℕ} {xs ys : List ℕ} → xs ≡ ys → Put a d e 0 xs next → (next ≡ length ys) × (e ≡ over ys d)
+put-first {d = d} {ys = ys} same p =
+    let q = put-as same (le-refl _) p in
+    let z : 0 + length ys ≡ length ys = omega arith in (q .ends ∙ z, q .filled ∙ ap (λ (k : ℕ). ys ++ drop k d) z)
