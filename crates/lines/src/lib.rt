@@ -6,6 +6,7 @@ ghost use mathlib.Core.List.{[], _∷_, _++_};
 ghost use Prim.Native.Nat.{_+_, _≤_};
 ghost use lib.ListN.{length};
 ghost use Rattle.events.specs.Bytes.{over};
+ghost use Rattle.capture.specs.Report.{reportOn};
 ghost use Rattle.lines.specs.Text.{text, decimal, Put};
 ghost use Rattle.lines.specs.Lines.{countsLine, tallyLine, refusedLine, letter, brokenLine, verdictLine, markingLine};
 ghost use Rattle.lines.specs.Lines.{faultedLine, unscannedLine, scannedLine, opacityLine, lines};
@@ -13,6 +14,7 @@ use capture::Counts;
 use capture::Marking;
 use capture::Opacity;
 use capture::Report;
+use capture::report_on;
 use counts::tally::Tally;
 use opacity::verdict::Rule;
 use opacity::verdict::Scanned;
@@ -218,4 +220,14 @@ pub fn put_report(report: Report, out: &mut [u8; 343]) -> usize
             opacity,
         } => put_judged(out, counts, tally, marking, opacity),
     }
+}
+
+// Puts the lines of the report on a history file and a marking file at the start of the output, and
+// answers how many bytes they have.
+pub fn put_report_on(history: &[u8], marking: &[u8], out: &mut [u8; 343]) -> usize
+    ensures { λ r. ⌜ r ≡ length (lines (reportOn (now (history .entry)) (now (marking .entry)))) ⌝ }
+    ensures { λ r. ⌜ now (out .exit) ≡ over (lines (reportOn (now (history .entry)) (now (marking .entry)))) (now (out .entry)) ⌝ }
+{
+    let report = report_on(history, marking);
+    put_report(report, out)
 }
