@@ -1,7 +1,8 @@
--- `report` meets its contract: the parts of the buffers lie within them.
+-- `report` meets its contract: the parts of the buffers lie within them, and the lines within theirs.
 -- Assumes nothing.
-use lib.ListN.{length-take}
 use native.Mathlib.Omega.{arith}
+use mathlib.Core.Path.{ap}
+use lib.ListN.{length, length-append, length-take}
 use borrow.Author.Needs.{needs}
 use Rattle.report.proofs.report.Statement.{statement}
 use Rattle.report.proofs.report.Tie as tie
@@ -12,17 +13,24 @@ returns c = search needs
 returns-2 : tie.Need-returns-2
 returns-2 c = search needs
 
-slice-aggregate-report-on : tie.Need-slice-aggregate-report-on
-slice-aggregate-report-on c = simp length-take (omega arith)
+slice-aggregate-put-report-on : tie.Need-slice-aggregate-put-report-on
+slice-aggregate-put-report-on c = simp length-take (omega arith)
 
-slice-aggregate-report-on-2 : tie.Need-slice-aggregate-report-on-2
-slice-aggregate-report-on-2 c = simp length-take (omega arith)
+slice-aggregate-put-report-on-2 : tie.Need-slice-aggregate-put-report-on-2
+slice-aggregate-put-report-on-2 c = simp length-take (omega arith)
 
-report-on-requires : tie.Need-report-on-requires
-report-on-requires c κs = search needs
+put-report-on-requires : tie.Need-put-report-on-requires
+put-report-on-requires c κs = search needs
 
-say-report-requires : tie.Need-say-report-requires
-say-report-requires c κs = search needs
+array-share-prefix-text : tie.Need-array-share-prefix-text
+array-share-prefix-text c = omega (arith, simp length-append at (ap length (c .put-report-on .ensures .1)))
+
+slice-aggregate-write-all : tie.Need-slice-aggregate-write-all
+slice-aggregate-write-all c =
+    simp length-take (omega (arith, simp length-append at (ap length (c .before .put-report-on .ensures .1))))
+
+write-all-requires : tie.Need-write-all-requires
+write-all-requires c κs = search needs
 
 returns-3 : tie.Need-returns-3
 returns-3 c = search needs
@@ -33,8 +41,10 @@ report-spec =
     (tie.spec
     returns
     returns-2
-    slice-aggregate-report-on
-    slice-aggregate-report-on-2
-    report-on-requires
-    say-report-requires
+    slice-aggregate-put-report-on
+    slice-aggregate-put-report-on-2
+    put-report-on-requires
+    array-share-prefix-text
+    slice-aggregate-write-all
+    write-all-requires
     returns-3)
