@@ -2,7 +2,7 @@
 -- Assumes nothing.
 use Prim.Native.Nat.{ℕ, _+_, _*_, _-_, _/_, _%_, _≤_}
 use native.Mathlib.Omega.{arith}
-use mathlib.Core.Path.{_≡_, refl, ap, ap₂, _∙_}
+use mathlib.Core.Path.{_≡_, ap, ap₂, subst, _∙_}
 use mathlib.Core.Bool.{Bool, true, false}
 use mathlib.Core.List.{List, [], _∷_}
 use lib.Dec.{eqb, ltb}
@@ -118,3 +118,10 @@ Told values isByte s = Known s × Fits values isByte s
 
 pub told-back : (values : ℕ → List ℕ) (isByte : ℕ → Bool) (s : Said) → Told values isByte s → decoded values isByte (coded s) ≡ s
 told-back values isByte s t = decoded-back values isByte s (t .0) (t .1)
+
+-- the code of what is done is 0
+pub done-code : (values : ℕ → List ℕ) (isByte : ℕ → Bool) {s : Said} → Told values isByte s → (vs : List ℕ) → s ≡ done vs → codeOf (coded s) ≡ 0
+unfolding coded
+done-code values isByte t vs e =
+    let k : Told values isByte (done vs) = subst (Told values isByte) e t in
+    ap (λ (x : Said). codeOf (coded x)) e ∙ code-back 0 (place vs) (placed-fit vs (k .0))

@@ -18,7 +18,7 @@ use Rattle.opacity.specs.Scan.{AllJustified}
 use Rattle.counts.specs.Tally.{tally}
 use Rattle.reader.specs.Reading.{Log, readable, historyOf}
 use Rattle.capture.specs.declared.Marking.{Marking}
-use Rattle.capture.specs.declared.Opacity.{Opacity}
+use Rattle.scan.specs.declared.Scanning.{Scanning}
 use Rattle.capture.specs.declared.Report.{Report}
 use Rattle.capture.specs.Report.{countsOf, markingOf, opacityOf, reportOn}
 use Rattle.capture.proofs.Theorems.{four-lines, says-opaque, says-accepted, Justifying}
@@ -28,26 +28,26 @@ use Rattle.lines.specs.Lines.{faultedLine, unscannedLine, scannedLine, o
 
 -- The lines that the paper gives, for the answers that it gives them for.
 pub as-in-the-paper :
-  (countsLine (record { events = 10; transactions = 2; reads = 2 })
-  ∷ tallyLine (record { committed = 1; aborted = 0; pending = 0; live = 1 })
-  ∷ verdictLine Verdict.Accepted
-  ∷ verdictLine (Verdict.Broken Rule.D 9 1)
-  ∷ refusedLine (text "history") 5 6
-  ∷ refusedLine (text "marking") 28 6
-  ∷ scannedLine Scanned.Opaque
-  ∷ scannedLine (Scanned.Faulted 9 1)
-  ∷ unscannedLine 31
-  ∷ [])
-  ≡ (text "events 10 transactions 2 reads 2\n"
-  ∷ text "committed 1 aborted 0 pending 0 live 1\n"
-  ∷ text "marking accepted\n"
-  ∷ text "marking rule D event 9 transaction 1\n"
-  ∷ text "history refused 5 byte 6\n"
-  ∷ text "marking refused 28 byte 6\n"
-  ∷ text "opaque yes\n"
-  ∷ text "opaque no event 9 cause 1\n"
-  ∷ text "opaque refused 31\n"
-  ∷ [])
+    (countsLine (record { events = 10; transactions = 2; reads = 2 })
+    ∷ tallyLine (record { committed = 1; aborted = 0; pending = 0; live = 1 })
+    ∷ verdictLine Verdict.Accepted
+    ∷ verdictLine (Verdict.Broken Rule.D 9 1)
+    ∷ refusedLine (text "history") 5 6
+    ∷ refusedLine (text "marking") 28 6
+    ∷ scannedLine Scanned.Opaque
+    ∷ scannedLine (Scanned.Faulted 9 1)
+    ∷ unscannedLine 31
+    ∷ [])
+    ≡ (text "events 10 transactions 2 reads 2\n"
+    ∷ text "committed 1 aborted 0 pending 0 live 1\n"
+    ∷ text "marking accepted\n"
+    ∷ text "marking rule D event 9 transaction 1\n"
+    ∷ text "history refused 5 byte 6\n"
+    ∷ text "marking refused 28 byte 6\n"
+    ∷ text "opaque yes\n"
+    ∷ text "opaque no event 9 cause 1\n"
+    ∷ text "opaque refused 31\n"
+    ∷ [])
 unfolding countsLine tallyLine refusedLine brokenLine faultedLine unscannedLine decimal
 as-in-the-paper = refl
 
@@ -62,20 +62,20 @@ accepted-text m = (go m, ap markingLine)
     go : (m : Marking) → markingLine m ≡ text "marking accepted\n" → m ≡ Marking.Ruled Verdict.Accepted
     go (Marking.Ruled Verdict.Accepted) e = refl
     go (Marking.Ruled (Verdict.Broken rule event transaction)) e = absurd (other _ refl e)
-    go (Marking.Refused question byte) e = absurd (other _ refl e)
+    go (Marking.Refused r) e = absurd (other _ refl e)
 
 -- nor that of an opaque history.
-opaque-text : (o : Opacity) → (opacityLine o ≡ text "opaque yes\n") ↔ (o ≡ Opacity.Scanned Scanned.Opaque)
+opaque-text : (o : Scanning) → (opacityLine o ≡ text "opaque yes\n") ↔ (o ≡ Scanning.Scanned Scanned.Opaque)
 unfolding faultedLine unscannedLine
 opaque-text o = (go o, ap opacityLine)
   where
     seventh : (l : List ℕ) → l ≡ text "opaque yes\n" → getD l 7 0 ≡ 121
     seventh l e = ap (λ (x : List ℕ). getD x 7 0) e
 
-    go : (o : Opacity) → opacityLine o ≡ text "opaque yes\n" → o ≡ Opacity.Scanned Scanned.Opaque
-    go (Opacity.Scanned Scanned.Opaque) e = refl
-    go (Opacity.Scanned (Scanned.Faulted event cause)) e = absurd (let z : _≡_ {A = ℕ} 110 121 = seventh _ e in omega arith)
-    go (Opacity.Refused question) e = absurd (let z : _≡_ {A = ℕ} 114 121 = seventh _ e in omega arith)
+    go : (o : Scanning) → opacityLine o ≡ text "opaque yes\n" → o ≡ Scanning.Scanned Scanned.Opaque
+    go (Scanning.Scanned Scanned.Opaque) e = refl
+    go (Scanning.Scanned (Scanned.Faulted event cause)) e = absurd (let z : _≡_ {A = ℕ} 110 121 = seventh _ e in omega arith)
+    go (Scanning.Refused r) e = absurd (let z : _≡_ {A = ℕ} 114 121 = seventh _ e in omega arith)
 
 -- What is printed for a history that is not refused:
 module _ (s : List ℕ) (by : Bytes s) (l : Log) (file : historyOf s ≡ readable l) (marking : List ℕ) where

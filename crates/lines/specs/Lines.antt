@@ -1,4 +1,4 @@
--- The lines of the report ("Scan and report", and No. 2 for the second line), byte by byte: all that is printed.
+-- To be believed: the lines of the report ("Scan and report", and No. 2 for the second line), byte by byte: all that is printed.
 -- Assumes nothing.
 use Prim.Native.Nat.{ℕ}
 use Prim.Native.String.{String}
@@ -7,9 +7,9 @@ use Rattle.opacity.specs.declared.verdict.Rule.{Rule}
 use Rattle.opacity.specs.declared.verdict.Verdict.{Verdict}
 use Rattle.opacity.specs.declared.verdict.Scanned.{Scanned}
 use Rattle.counts.specs.declared.tally.Tally.{Tally}
+use Rattle.scan.specs.declared.Scanning.{Scanning}
 use Rattle.capture.specs.declared.Counts.{Counts}
 use Rattle.capture.specs.declared.Marking.{Marking}
-use Rattle.capture.specs.declared.Opacity.{Opacity}
 use Rattle.capture.specs.declared.Report.{Report}
 use Rattle.lines.specs.Text.{text, field}
 
@@ -43,7 +43,7 @@ verdictLine (Verdict.Broken rule event transaction) = brokenLine rule event tran
 
 abbrev pub markingLine : Marking → List ℕ
 markingLine (Marking.Ruled verdict) = verdictLine verdict
-markingLine (Marking.Refused question byte) = refusedLine (text "marking") question byte
+markingLine (Marking.Refused r) = refusedLine (text "marking") (r .question) (r .at)
 
 unfoldable pub faultedLine : ℕ → ℕ → List ℕ
 faultedLine event cause = field "opaque no event " event ++ field " cause " cause ++ text "\n"
@@ -55,11 +55,11 @@ abbrev pub scannedLine : Scanned → List ℕ
 scannedLine Scanned.Opaque = text "opaque yes\n"
 scannedLine (Scanned.Faulted event cause) = faultedLine event cause
 
-abbrev pub opacityLine : Opacity → List ℕ
-opacityLine (Opacity.Scanned scanned) = scannedLine scanned
-opacityLine (Opacity.Refused question) = unscannedLine question
+abbrev pub opacityLine : Scanning → List ℕ
+opacityLine (Scanning.Scanned scanned) = scannedLine scanned
+opacityLine (Scanning.Refused r) = unscannedLine (r .question)
 
 -- a history that is refused has one line, any other four
 unfoldable pub lines : Report → List ℕ
-lines (Report.Refused question byte) = refusedLine (text "history") question byte
+lines (Report.Refused r) = refusedLine (text "history") (r .question) (r .at)
 lines (Report.Judged counts tally marking opacity) = countsLine counts ++ tallyLine tally ++ markingLine marking ++ opacityLine opacity

@@ -1,4 +1,4 @@
--- Text as bytes: words, numbers in base ten, and what stands in a buffer after a text is put there.
+-- To be believed: text as bytes: words, numbers in base ten, and what stands in a buffer after a text is put there.
 -- Assumes nothing.
 use Prim.Native.Nat.{ℕ, zero, suc, _+_, _/_, _≤_}
 use Prim.Native.Char.{code}

@@ -12,13 +12,13 @@ ghost use Rattle.lines.specs.Lines.{countsLine, tallyLine, refusedLine, 
 ghost use Rattle.lines.specs.Lines.{faultedLine, unscannedLine, scannedLine, opacityLine, lines};
 use capture::Counts;
 use capture::Marking;
-use capture::Opacity;
 use capture::Report;
 use capture::report_on;
 use counts::tally::Tally;
 use opacity::verdict::Rule;
 use opacity::verdict::Scanned;
 use opacity::verdict::Verdict;
+use scan::Scanning;
 
 // Puts a text at a place.
 fn put_text(out: &mut [u8], at: usize, words: &[u8]) -> usize
@@ -151,12 +151,12 @@ fn put_marking(out: &mut [u8], at: usize, marking: Marking) -> usize
 {
     match marking {
         Marking::Ruled(verdict) => put_verdict(out, at, verdict),
-        Marking::Refused { question, byte } => put_refused(
+        Marking::Refused(refusal) => put_refused(
             out,
             at,
             b"marking",
-            question as usize,
-            byte,
+            refusal.question as usize,
+            refusal.at,
         ),
     }
 }
@@ -172,13 +172,13 @@ fn put_scanned(out: &mut [u8], at: usize, scanned: Scanned) -> usize
 }
 
 // The line on opacity.
-fn put_opacity(out: &mut [u8], at: usize, opacity: Opacity) -> usize
+fn put_opacity(out: &mut [u8], at: usize, opacity: Scanning) -> usize
     requires { ⌜ at + 64 ≤ length (now out) ⌝ }
     ensures { λ r. ⌜ Put 64 (now (out .entry)) (now (out .exit)) at (opacityLine opacity) r ⌝ }
 {
     match opacity {
-        Opacity::Scanned(scanned) => put_scanned(out, at, scanned),
-        Opacity::Refused(question) => put_unscanned(out, at, question as usize),
+        Scanning::Scanned(scanned) => put_scanned(out, at, scanned),
+        Scanning::Refused(refusal) => put_unscanned(out, at, refusal.question as usize),
     }
 }
 
@@ -188,7 +188,7 @@ fn put_judged(
     counts: Counts,
     tally: Tally,
     marking: Marking,
-    opacity: Opacity,
+    opacity: Scanning,
 ) -> usize
     requires { ⌜ 343 ≤ length (now out) ⌝ }
     ensures { λ r. ⌜ Put 343 (now (out .entry)) (now (out .exit)) 0 (lines (Report.Judged counts tally marking opacity)) r ⌝ }
@@ -206,12 +206,12 @@ pub fn put_report(report: Report, out: &mut [u8; 343]) -> usize
     ensures { λ r. ⌜ now (out .exit) ≡ over (lines report) (now (out .entry)) ⌝ }
 {
     match report {
-        Report::Refused { question, byte } => put_refused(
+        Report::Refused(refusal) => put_refused(
             out,
             0,
             b"history",
-            question as usize,
-            byte,
+            refusal.question as usize,
+            refusal.at,
         ),
         Report::Judged {
             counts,

@@ -6,11 +6,11 @@ use native.Mathlib.Omega.{arith}
 use mathlib.Core.Path.{_≡_, refl, sym, ap, _∙_}
 use mathlib.Core.Logic.{_↔_}
 use mathlib.Core.Bool.{true}
-use mathlib.Core.List.{List}
+use mathlib.Core.List.{List, []}
 use Rattle.events.specs.declared.columns.Checked.{Checked}
 use Rattle.events.specs.declared.columns.Checked.the-variants.{Readable, Refused}
 use Rattle.events.specs.declared.refusal.Refusal.{Refusal}
-use Rattle.events.specs.Said.{refuse}
+use Rattle.events.specs.Said.{done, broken, atEvent, atByte, refuse}
 use Rattle.events.specs.declared.event.Event.{Event}
 use Rattle.events.specs.Bytes.{Bytes}
 use Rattle.events.specs.Columns.{Columns, history}
@@ -21,12 +21,15 @@ use Rattle.opacity.specs.declared.verdict.Verdict.{Verdict}
 use Rattle.opacity.specs.declared.verdict.Verdict.the-variants.{Accepted, Broken}
 use Rattle.opacity.specs.declared.verdict.Rule.{Rule}
 use Rattle.opacity.specs.Justification.{Justified}
-use Rattle.opacity.specs.Marking.{Marking, ReadableFor, markingBytes, verdict, namedEvent, namedTransaction}
+use Rattle.opacity.specs.Marking.{Marking, ReadableFor, markingBytes, verdict, ruleNumber, namedEvent, namedTransaction}
 use Rattle.opacity.specs.Verdicts.{AllHold, RuleD, FirstBroken}
+use Rattle.opacity.specs.Said.{verdictSaid}
+use Rattle.opacity.proofs.VerdictLaws.{same-rule}
 use Rattle.opacity.proofs.Theorems.{accepted-iff-rules, accepted-iff-justified, broken-iff-first}
+use Rattle.marking.specs.declared.check.Checking.{Checking}
 use Rattle.marking.specs.declared.check.Checking.the-variants.{Ruled, HistoryRefused, MarkingRefused}
 use Rattle.marking.specs.File.{known, FileRead, content, refused, fileRead}
-use Rattle.marking.specs.Answer.{ruled, afterColumns, verdictAnswer, firstEditionAnswer, Justifying}
+use Rattle.marking.specs.Answer.{ruled, afterColumns, verdictAnswer, firstEditionAnswer, said, Justifying, Breaking}
 use Rattle.marking.proofs.ContentLaws.{content-readable}
 use Rattle.marking.proofs.ReadBack.{bytes-content}
 use Rattle.marking.proofs.WriteBack.{content-bytes}
@@ -123,6 +126,106 @@ accepted-iff edition starts c n file = (λ e. go (historyAnswer edition starts c
     go : (x : Checked) → historyAnswer edition starts c n ≡ x → afterColumns (startOf starts) (history c n) file x ≡ Ruled Accepted → Justifying edition starts c n file
     go Readable q d = found q (fileRead (known (history c n)) file) refl d
     go (Refused a) q d = absurd (let z : _≡_ {A = ℕ} 0 1 = cc in omega arith)
+
+-- ---- what the checker says, for every call
+
+-- a verdict is told by what it says
+same-verdict : (v w : Verdict) → verdictSaid v ≡ verdictSaid w → v ≡ w
+same-verdict Accepted Accepted e = refl
+same-verdict Accepted (Broken r i t) e = absurd (let z : _≡_ {A = ℕ} 0 1 = cc in omega arith)
+same-verdict (Broken r i t) Accepted e = absurd (let z : _≡_ {A = ℕ} 0 1 = cc in omega arith)
+same-verdict (Broken r i t) (Broken q j u) e =
+    let a : ruleNumber r ≡ ruleNumber q = cc in
+    let b : i ≡ j = cc in
+    let d : t ≡ u = cc in
+    λ k. Broken (same-rule r q a k) (b k) (d k)
+
+said-ruled : (x : Checking) (v : Verdict) → said x ≡ verdictSaid v → x ≡ Ruled v
+unfolding said
+said-ruled (Ruled w) v e = ap Ruled (same-verdict w v e)
+said-ruled (HistoryRefused r) Accepted e = absurd (let z : _≡_ {A = ℕ} 0 1 = cc in omega arith)
+said-ruled (HistoryRefused r) (Broken q i t) e = absurd (let z : _≡_ {A = ℕ} 0 1 = cc in omega arith)
+said-ruled (MarkingRefused r) Accepted e = absurd (let z : _≡_ {A = ℕ} 0 1 = cc in omega arith)
+said-ruled (MarkingRefused r) (Broken q i t) e = absurd (let z : _≡_ {A = ℕ} 0 1 = cc in omega arith)
+
+said-history : (x : Checking) (q e : ℕ) → said x ≡ atEvent q e → x ≡ HistoryRefused (refuse q e)
+unfolding said
+said-history (Ruled Accepted) q e k = absurd (let z : _≡_ {A = ℕ} 0 1 = cc in omega arith)
+said-history (Ruled (Broken r i t)) q e k = absurd (let z : _≡_ {A = ℕ} 0 1 = cc in omega arith)
+said-history (HistoryRefused r) q e k =
+    let a : r .question ≡ q = cc in
+    let b : r .at ≡ e = cc in
+    λ i. HistoryRefused (refuse (a i) (b i))
+said-history (MarkingRefused r) q e k = absurd (let z : _≡_ {A = ℕ} 0 1 = cc in omega arith)
+
+said-marking : (x : Checking) (q b : ℕ) → said x ≡ atByte q b → x ≡ MarkingRefused (refuse q b)
+unfolding said
+said-marking (Ruled Accepted) q b k = absurd (let z : _≡_ {A = ℕ} 0 1 = cc in omega arith)
+said-marking (Ruled (Broken r i t)) q b k = absurd (let z : _≡_ {A = ℕ} 0 1 = cc in omega arith)
+said-marking (HistoryRefused r) q b k = absurd (let z : _≡_ {A = ℕ} 0 1 = cc in omega arith)
+said-marking (MarkingRefused r) q b k =
+    let a : r .question ≡ q = cc in
+    let d : r .at ≡ b = cc in
+    λ i. MarkingRefused (refuse (a i) (d i))
+
+module _ (edition : ℕ) (starts : List ℕ) (c : Columns) (n : ℕ) (file : List ℕ) where
+  -- accepted,
+  pub accepted-said : (said (verdictAnswer edition starts c n file) ≡ done []) ↔ Justifying edition starts c n file
+  unfolding said
+  accepted-said = (
+    λ x. accepted-iff edition starts c n file .0 (said-ruled _ Accepted x),
+    λ j. ap said (accepted-iff edition starts c n file .1 j),
+  )
+
+  -- which is the same as: all five rules hold,
+  pub rules-said : (m : Marking) → historyAnswer edition starts c n ≡ Readable → fileRead (known (history c n)) file ≡ content m
+      → (said (verdictAnswer edition starts c n file) ≡ done []) ↔ AllHold (startOf starts) (history c n) m
+  unfolding said
+  rules-said m fine holds = (
+    λ x. accepted-rules edition starts c n file fine m holds .0 (said-ruled _ Accepted x),
+    λ a. ap said (accepted-rules edition starts c n file fine m holds .1 a),
+  )
+
+  -- the first broken rule with its event and transaction,
+  pub broken-said : (r : Rule) (e t : ℕ) → (said (verdictAnswer edition starts c n file) ≡ broken (ruleNumber r) e t) ↔ Breaking edition starts c n file r e t
+  unfolding said verdictAnswer
+  broken-said r e t = (λ x. go (historyAnswer edition starts c n) refl (said-ruled _ (Broken r e t) x), back)
+    where
+      found : (fine : historyAnswer edition starts c n ≡ Readable) (x : FileRead) → fileRead (known (history c n)) file ≡ x
+          → ruled (startOf starts) (history c n) x ≡ Ruled (Broken r e t) → Breaking edition starts c n file r e t
+      found fine (content m) q d =
+          let w = broken-first edition starts c n file fine m q r e t .0 (rw fine (ap (ruled (startOf starts) (history c n)) q ∙ d)) in
+          record { fine = fine; marking = m; holds = q; at = w .0; first = w .1; event = w .2; transaction = w .3 }
+      found fine (refused a b) q d = absurd (let z : _≡_ {A = ℕ} 0 1 = cc in omega arith)
+
+      go : (x : Checked) → historyAnswer edition starts c n ≡ x → afterColumns (startOf starts) (history c n) file x ≡ Ruled (Broken r e t)
+          → Breaking edition starts c n file r e t
+      go Readable q d = found q (fileRead (known (history c n)) file) refl d
+      go (Refused a) q d = absurd (let z : _≡_ {A = ℕ} 0 1 = cc in omega arith)
+
+      back : Breaking edition starts c n file r e t → said (verdictAnswer edition starts c n file) ≡ broken (ruleNumber r) e t
+      back b = ap said (broken-first edition starts c n file (b .fine) (b .marking) (b .holds) r e t .1 (b .at, b .first, b .event, b .transaction))
+
+  -- the history's question with its event, and the marking's with its byte.
+  pub history-said : (q e : ℕ) → (said (verdictAnswer edition starts c n file) ≡ atEvent q e) ↔ (historyAnswer edition starts c n ≡ Refused (refuse q e))
+  unfolding said
+  history-said q e = (
+    λ x. history-refused edition starts c n file (refuse q e) .0 (said-history _ q e x),
+    λ x. ap said (history-refused edition starts c n file (refuse q e) .1 x),
+  )
+
+  pub marking-said : (q b : ℕ) → (said (verdictAnswer edition starts c n file) ≡ atByte q b)
+      ↔ ((historyAnswer edition starts c n ≡ Readable) × (fileRead (known (history c n)) file ≡ refused q b))
+  unfolding said verdictAnswer
+  marking-said q b = (
+    λ x. let k = said-marking _ q b x in let f = fine (historyAnswer edition starts c n) refl k in (f, marking-refused edition starts c n file f q b .0 k),
+    λ w. ap said (marking-refused edition starts c n file (w .0) q b .1 (w .1)),
+  )
+    where
+      fine : (x : Checked) → historyAnswer edition starts c n ≡ x → afterColumns (startOf starts) (history c n) file x ≡ MarkingRefused (refuse q b)
+          → historyAnswer edition starts c n ≡ Readable
+      fine Readable e k = e
+      fine (Refused r) e k = absurd (let z : _≡_ {A = ℕ} 0 1 = cc in omega arith)
 
 -- The bytes of a content that is readable for the history are judged as that content is; where its verdict is accepted, the checker accepts them.
 pub bytes-judged : (edition : ℕ) (starts : List ℕ) (c : Columns) (n : ℕ) (m : Marking) → historyAnswer edition starts c n ≡ Readable → ReadableFor (history c n) m

@@ -1,4 +1,4 @@
--- The checker's answer.
+-- To be believed: the checker's answer ("Marking and checker").
 -- Assumes nothing.
 use Prim.Native.Nat.{ℕ}
 use mathlib.Core.Path.{_≡_}
@@ -11,8 +11,9 @@ use Rattle.events.specs.Starts.{startOf}
 use Rattle.events.specs.Said.{Said, eventRefused, byteRefused, refuse}
 use Rattle.events.specs.Questions.{columnsAnswer, historyAnswer}
 use Rattle.opacity.specs.Said.{verdictSaid}
-use Rattle.opacity.specs.Marking.{Marking, verdict}
-use Rattle.opacity.specs.Verdicts.{RuleD}
+use Rattle.opacity.specs.declared.verdict.Rule.{Rule}
+use Rattle.opacity.specs.Marking.{Marking, verdict, namedEvent, namedTransaction}
+use Rattle.opacity.specs.Verdicts.{RuleD, FirstBroken}
 use Rattle.opacity.specs.Justification.{Justified, zeros}
 use Rattle.marking.specs.declared.check.Checking.{Checking}
 use Rattle.marking.specs.declared.check.Checking.the-variants.{Ruled, HistoryRefused, MarkingRefused}
@@ -41,6 +42,17 @@ unfoldable pub said : Checking → Said
 said (Ruled v) = verdictSaid v
 said (HistoryRefused r) = eventRefused r
 said (MarkingRefused r) = byteRefused r
+
+-- no question says no, and rule r is the first that the content of the file breaks: where it is broken lowest, it names event e and
+-- transaction t
+pub record Breaking (edition : ℕ) (starts : List ℕ) (c : Columns) (n : ℕ) (file : List ℕ) (r : Rule) (e t : ℕ) : Type 0 where
+  pub fine : historyAnswer edition starts c n ≡ Readable
+  pub marking : Marking
+  pub holds : fileRead (known (history c n)) file ≡ content marking
+  pub at : ℕ
+  pub first : FirstBroken (startOf starts) (history c n) marking r at
+  pub event : e ≡ namedEvent (history c n) r at
+  pub transaction : t ≡ namedTransaction (history c n) r at
 
 -- no question says no, the content of the file is m, and its outcomes and order are a justification of which no other committed writer of the
 -- register stands between a read's point and its reader

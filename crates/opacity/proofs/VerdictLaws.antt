@@ -30,7 +30,7 @@ rule-back C = refl
 rule-back D = refl
 rule-back E = refl
 
-same-rule : (q r : Rule) → ruleNumber q ≡ ruleNumber r → q ≡ r
+pub same-rule : (q r : Rule) → ruleNumber q ≡ ruleNumber r → q ≡ r
 same-rule q r e = sym (rule-back q) ∙ ap ruleOf e ∙ rule-back r
 
 not-accepted : {r : Rule} {i t : ℕ} → Broken r i t ≡ Accepted → ⊥

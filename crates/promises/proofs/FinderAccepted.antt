@@ -16,15 +16,15 @@ use Rattle.events.proofs.ReadableLaws.{readable-columns, readable-fewer}
 use Rattle.events.proofs.StartLaws.{fine-answer}
 use Rattle.opacity.specs.declared.verdict.Verdict.the-variants.{Accepted}
 use Rattle.opacity.specs.Marking.{Marking, ReadableFor, marked, verdict}
-use Rattle.finder.specs.declared.Found.{Found}
-use Rattle.finder.specs.Answer.{foundAnswer}
-use Rattle.finder.proofs.AnswerLaws.{Passed, passed}
+use Rattle.finder.specs.declared.Finding.{Finding}
+use Rattle.finder.specs.Answer.{Passed, foundAnswer}
+use Rattle.finder.proofs.AnswerLaws.{passed}
 use Rattle.finder.proofs.Theorems.{Written, written}
-use Rattle.marking.specs.declared.check.Judged.the-variants.{Ruled}
+use Rattle.marking.specs.declared.check.Checking.the-variants.{Ruled}
 use Rattle.marking.specs.Answer.{verdictAnswer}
 use Rattle.marking.proofs.Theorems.{bytes-accepted}
 
-pub found-accepted : (edition : ℕ) (starts : List ℕ) (c : Columns) (count prefix : ℕ) (output : List ℕ) (n : ℕ) → foundAnswer edition starts c count prefix output .result ≡ Found.Marking n
+pub found-accepted : (edition : ℕ) (starts : List ℕ) (c : Columns) (count prefix : ℕ) (output : List ℕ) (n : ℕ) → foundAnswer edition starts c count prefix output .result ≡ Finding.Marking n
     → verdictAnswer edition starts c prefix (take n (foundAnswer edition starts c count prefix output .output)) ≡ Ruled Accepted
 found-accepted edition starts c count prefix output n x =
     let w : Written edition starts c count prefix output n = written edition starts c count prefix output n x in

@@ -9,6 +9,7 @@ use lib.Dec.{leb}
 use lib.ListN.{length}
 use Rattle.events.specs.declared.columns.Checked.{Checked}
 use Rattle.events.specs.declared.columns.Checked.the-variants.{Readable, Refused as Refuses}
+use Rattle.events.specs.Said.{refuse}
 use Rattle.events.specs.Bytes.{over}
 use Rattle.events.specs.Columns.{Columns, history, hold, filledWith}
 use Rattle.events.specs.Questions.{columnsAnswer, historyAnswer}
@@ -58,19 +59,19 @@ module _ (c d : Columns) (count : ℕ) (same-room : hold c count ≡ hold d coun
 
       fits : Bool → ℕ → Writing
       fits true n = Written n
-      fits false n = Unwritten 15 count
+      fits false n = Unwritten (refuse 15 count)
 
       roomFor : ℕ → List ℕ → Checked → Writing
       roomFor room f Readable = fits (leb (length f) room) (length f)
-      roomFor room f (Refuses q i) = Unwritten q i
+      roomFor room f (Refuses r) = Unwritten r
 
-      by-room : (f o : List ℕ) (b : Bool) → cond b (answered (Written (length f)) (over f o)) (answered (Unwritten 15 count) o) .result ≡ fits b (length f)
+      by-room : (f o : List ℕ) (b : Bool) → cond b (answered (Written (length f)) (over f o)) (answered (Unwritten (refuse 15 count)) o) .result ≡ fits b (length f)
       by-room f o true = refl
       by-room f o false = refl
 
       said : (f o : List ℕ) (v : Checked) → written f count o v .result ≡ roomFor (length o) f v
       said f o Readable = by-room f o (leb (length f) (length o))
-      said f o (Refuses q i) = refl
+      said f o (Refuses r) = refl
 
 -- The reader's result asks of the columns only how long they are.
 pub reader-held : (file : List ℕ) (c d : Columns) → ((n : ℕ) → hold c n ≡ hold d n) → readAnswer file c .result ≡ readAnswer file d .result

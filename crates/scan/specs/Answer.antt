@@ -1,4 +1,4 @@
--- The scan's answer ("Scan and report"): opaque, or the event and the cause, or the first question that says no.
+-- To be believed: the scan's answer ("Scan and report"): opaque, or the event and the cause, or the first question that says no.
 -- Assumes nothing.
 use Prim.Native.Nat.{ℕ, _≤_}
 use mathlib.Core.Path.{_≡_}

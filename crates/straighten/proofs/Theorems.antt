@@ -4,15 +4,15 @@
 -- Assumes nothing.
 use Prim.Native.Nat.{ℕ, _<_}
 use mathlib.Core.Path.{_≡_, refl, sym, ap, _∙_}
-use mathlib.Core.Logic.{_↔_, ⊎-elim}
+use mathlib.Core.Logic.{_↔_, _⊎_, ⊎-elim}
 use mathlib.Core.Bool.{Bool, true, false, cond}
-use mathlib.Core.List.{List}
+use mathlib.Core.List.{List, [], _∷_}
 use lib.ListN.{length, take, drop}
 use Rattle.events.specs.declared.event.Event.{Event}
 use Rattle.events.specs.declared.columns.Checked.{Checked}
 use Rattle.events.specs.declared.columns.Checked.the-variants.{Readable, Refused as Refuses}
 use Rattle.events.specs.declared.refusal.Refusal.{Refusal}
-use Rattle.events.specs.Said.{refuse}
+use Rattle.events.specs.Said.{done, broken, atEvent, atByte, refuse}
 use Rattle.events.specs.Bytes.{Bytes, over}
 use Rattle.events.specs.Events.{eventAt}
 use Rattle.events.specs.Columns.{Columns, history, hold}
@@ -26,6 +26,7 @@ use Rattle.opacity.specs.declared.verdict.Verdict.{Verdict}
 use Rattle.opacity.specs.declared.verdict.Verdict.the-variants.{Accepted, Broken as Breaks}
 use Rattle.opacity.specs.Justification.{Justified}
 use Rattle.opacity.specs.Marking.{Marking, ReadableFor, markingBytes, verdict, ruleNumber}
+use Rattle.opacity.proofs.VerdictLaws.{same-rule}
 use Rattle.opacity.proofs.Rules.{justified-accepted}
 use Rattle.marking.specs.declared.check.Checking.the-variants.{Ruled}
 use Rattle.marking.specs.File.{known, FileRead, content, refused, fileRead}
@@ -37,7 +38,7 @@ use Rattle.marking.proofs.Theorems.{by-verdict, accepted-iff, bytes-judged}
 use Rattle.straighten.specs.declared.Straightening.{Straightening}
 use Rattle.straighten.specs.declared.Straightening.the-variants.{Straightened, Broken, Refused, MarkingRefused}
 use Rattle.straighten.specs.Straight.{straightened, movedEvents, Rises, FirstIllegal}
-use Rattle.straighten.specs.Answer.{Given, gives, settled, judged, roomy, afterFile, afterColumns, straightenedAnswer, firstEditionAnswer, Passes, Short}
+use Rattle.straighten.specs.Answer.{Given, gives, settled, judged, roomy, afterFile, afterColumns, straightenedAnswer, firstEditionAnswer, said, Passes, Short}
 use Rattle.straighten.proofs.StraightLaws.{moved-rise, straight-readable, straight-accepted, straight-length}
 use Rattle.straighten.proofs.RuleLaws.{order-rules-same, never-D, E-first-illegal}
 use Rattle.straighten.proofs.AnswerLaws.{never-15, Done, history-said, marking-said, short-said, done-said, broken-said, same-said, told}
@@ -209,6 +210,94 @@ module _ (edition : ℕ) (starts : List ℕ) (c : Columns) (n : ℕ) (file outpu
         same-said edition starts c n (take k (given .output)) output₂ list₂ m
         (record { fine = done .passes .fine; holds = ap (fileRead (known events)) bytes-written ∙ e; room = room }) written-readable (done .accepted) bytes-written
         ∙ ap (λ (i : ℕ). gives (Straightened i 0) (over (take k (given .output)) output₂) list₂) (ap length bytes-written ∙ done .size)
+
+-- ---- what the straightening says, for every call
+
+pub said-straightened : (x : Straightening) (k l : ℕ) → said x ≡ done (k ∷ l ∷ []) → x ≡ Straightened k l
+unfolding said
+said-straightened (Straightened a b) k l e = cc
+said-straightened (Broken q i t) k l e = absurd (let z : _≡_ {A = ℕ} 0 1 = cc in omega arith)
+said-straightened (Refused r) k l e = absurd (let z : _≡_ {A = ℕ} 0 1 = cc in omega arith)
+said-straightened (MarkingRefused r) k l e = absurd (let z : _≡_ {A = ℕ} 0 1 = cc in omega arith)
+
+said-broken : (x : Straightening) (q : Rule) (i t : ℕ) → said x ≡ broken (ruleNumber q) i t → x ≡ Broken q i t
+unfolding said
+said-broken (Straightened a b) q i t e = absurd (let z : _≡_ {A = ℕ} 0 1 = cc in omega arith)
+said-broken (Broken r j u) q i t e =
+    let a : ruleNumber r ≡ ruleNumber q = cc in
+    let b : j ≡ i = cc in
+    let d : u ≡ t = cc in
+    λ k. Broken (same-rule r q a k) (b k) (d k)
+said-broken (Refused r) q i t e = absurd (let z : _≡_ {A = ℕ} 0 1 = cc in omega arith)
+said-broken (MarkingRefused r) q i t e = absurd (let z : _≡_ {A = ℕ} 0 1 = cc in omega arith)
+
+said-refused : (x : Straightening) (q e : ℕ) → said x ≡ atEvent q e → x ≡ Refused (refuse q e)
+unfolding said
+said-refused (Straightened a b) q e k = absurd (let z : _≡_ {A = ℕ} 0 1 = cc in omega arith)
+said-refused (Broken r j u) q e k = absurd (let z : _≡_ {A = ℕ} 0 1 = cc in omega arith)
+said-refused (Refused r) q e k =
+    let a : r .question ≡ q = cc in
+    let b : r .at ≡ e = cc in
+    λ i. Refused (refuse (a i) (b i))
+said-refused (MarkingRefused r) q e k = absurd (let z : _≡_ {A = ℕ} 0 1 = cc in omega arith)
+
+said-unread : (x : Straightening) (q b : ℕ) → said x ≡ atByte q b → x ≡ MarkingRefused (refuse q b)
+unfolding said
+said-unread (Straightened n m) q b k = absurd (let z : _≡_ {A = ℕ} 0 1 = cc in omega arith)
+said-unread (Broken r j u) q b k = absurd (let z : _≡_ {A = ℕ} 0 1 = cc in omega arith)
+said-unread (Refused r) q b k = absurd (let z : _≡_ {A = ℕ} 0 1 = cc in omega arith)
+said-unread (MarkingRefused r) q b k =
+    let a : r .question ≡ q = cc in
+    let d : r .at ≡ b = cc in
+    λ i. MarkingRefused (refuse (a i) (d i))
+
+module _ (edition : ℕ) (starts : List ℕ) (c : Columns) (n : ℕ) (file output list : List ℕ) where
+  abbrev result : Straightening
+  result = straightenedAnswer edition starts c n file output list .result
+
+  -- It has succeeded exactly if no question says no and the outcomes and order that the file holds are a justification.
+  pub straightened-said : ((k : ℕ) × (l : ℕ) × (said result ≡ done (k ∷ l ∷ [])))
+      ↔ ((m : Marking) × Passes edition starts c n file output list m × Justified (startOf starts) (history c n) (m .places))
+  unfolding said
+  straightened-said = (
+    λ w.
+        let x = said-straightened result (w .0) (w .1) (w .2) in
+        let d = told edition starts c n file output list (Straightened (w .0) (w .1)) x in
+        (d .marking, d .passes, succeeds-exactly edition starts c n file output list (d .marking) (d .passes) .0 (w .0, w .1, x)),
+    λ w.
+        let d = succeeds-exactly edition starts c n file output list (w .0) (w .1) .1 (w .2) in
+        (d .0, d .1, ap said (d .2)),
+  )
+
+  -- It names the rule that the straightened marking breaks, with its event and transaction, exactly if no question says no,
+  pub broken-said-exactly : (q : Rule) (i t : ℕ) → (said result ≡ broken (ruleNumber q) i t)
+      ↔ ((m : Marking) × Passes edition starts c n file output list m × (verdict (startOf starts) (history c n) (straightened (startOf starts) (history c n) m) ≡ Breaks q i t))
+  unfolding said
+  broken-said-exactly q i t = (
+    λ x. told edition starts c n file output list (Broken q i t) (said-broken result q i t x) .0,
+    λ w. ap said (broken-exactly edition starts c n file output list (w .0) (w .1) q i t .1 (w .2)),
+  )
+
+  -- a question about history or buffers with its event, 15 with the count,
+  pub refused-said : (q e : ℕ) → (said result ≡ atEvent q e)
+      ↔ ((historyAnswer edition starts c n ≡ Refuses (refuse q e)) ⊎ (Short edition starts c n file output list × (refuse q e ≡ refuse 15 n)))
+  unfolding said
+  refused-said q e = (
+    λ x. told edition starts c n file output list (Refused (refuse q e)) (said-refused result q e x) .0,
+    λ w.
+        ⊎-elim
+        (λ a. ap (λ (g : Given). said (g .result)) (history-said edition starts c n file output list (refuse q e) a))
+        (λ b. ap (λ (g : Given). said (g .result)) (short-said edition starts c n file output list (b .0)) ∙ ap (λ (r : Refusal). said (Refused r)) (sym (b .1)))
+        w,
+  )
+
+  -- and one about the marking with its byte.
+  pub unread-said : (q b : ℕ) → (said result ≡ atByte q b) ↔ ((historyAnswer edition starts c n ≡ Readable) × (fileRead (known (history c n)) file ≡ refused q b))
+  unfolding said
+  unread-said q b = (
+    λ x. marking-refused edition starts c n file output list q b .0 (said-unread result q b x),
+    λ w. ap said (marking-refused edition starts c n file output list q b .1 w),
+  )
 
 -- ---- what stands past the count
 

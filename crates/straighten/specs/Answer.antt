@@ -1,4 +1,4 @@
--- The answer of the straightening: the questions of the checker, then 15, then the verdict on the straightened marking.
+-- To be believed: the answer of the straightening: the questions of the checker, then 15, then the verdict on the straightened marking.
 -- Assumes nothing.
 use Prim.Native.Nat.{ℕ}
 use mathlib.Core.Path.{_≡_}

@@ -1,0 +1,192 @@
+-- The calls of the library, one after the other: what was written is read, what was read is written, what was found or straightened is accepted,
+-- and no lent buffer changes where a call is not done, nor behind what it gives where it is. A number is read as the header says (`decoded`);
+-- `count ≤ most` is what the type of a count says.
+-- Assumes nothing.
+use Prim.Native.Nat.{ℕ, _≤_}
+use native.Mathlib.Omega.{arith}
+use mathlib.Core.Path.{_≡_, refl, sym, ap, subst, _∙_}
+use mathlib.Core.Bool.{true}
+use mathlib.Core.List.{List, [], _∷_, map}
+use lib.ListN.{length, take, drop, length-map}
+use Rattle.events.specs.declared.event.Event.{Event}
+use Rattle.events.specs.Bytes.{Bytes, over}
+use Rattle.events.specs.Columns.{Columns, hold, filledWith, Fitting}
+use Rattle.events.specs.Said.{Said, done, nothing}
+use Rattle.events.specs.Starts.{FittingStarts}
+use Rattle.events.proofs.BufferLaws.{drop-over}
+use Rattle.reader.specs.declared.Reading.{Reading}
+use Rattle.reader.specs.declared.HistoryRead.{HistoryRead}
+use Rattle.reader.specs.Reading.{readAnswer, told, saidOf, said as readSaid}
+use Rattle.writer.specs.declared.Writing.{Writing}
+use Rattle.writer.specs.Writing.{WrittenAnswer, SameEntries, writtenAnswer, said as writtenSaid}
+use Rattle.writer.proofs.RoundTrip.{was-read, read-written, written-read, nothing-behind, refused-unread, refused-unwritten}
+use Rattle.finder.specs.declared.Finding.{Finding}
+use Rattle.finder.specs.Answer.{foundAnswer, said as foundSaid}
+use Rattle.finder.proofs.AnswerLaws.{said-marking}
+use Rattle.finder.proofs.Theorems.{written, refused-unchanged, none-unchanged}
+use Rattle.marking.specs.Answer.{verdictAnswer, said as checkSaid}
+use Rattle.straighten.specs.declared.Straightening.{Straightening}
+use Rattle.straighten.specs.Answer.{straightenedAnswer, said as straightSaid}
+use Rattle.straighten.proofs.Theorems.{said-straightened, untouched, written-behind, written-accepted}
+use Rattle.codes.specs.Codes.{most, coded}
+use Rattle.codes.specs.Decoded.{decoded, oneValue, twoValues, always, never, ofMarking, codeOf}
+use Rattle.codes.proofs.CodeLaws.{told-back, done-code}
+use Rattle.sendoshi.specs.Calls.{put, startsAfter, readCall, writeCall, findCall, checkCall, straightenCall}
+use Rattle.sendoshi.proofs.Bounds.{read-told, write-told, find-told, straighten-told}
+use Rattle.promises.proofs.FinderAccepted.{found-accepted}
+
+-- ---- what an answer is, by what its number says
+
+said-read : (a : HistoryRead) (n edition : ℕ) → readSaid a ≡ done (n ∷ edition ∷ []) → (a .reading ≡ Reading.Read n) × (a .edition ≡ edition)
+unfolding readSaid
+said-read a n edition e = go (a .reading) refl e
+  where
+    go : (r : Reading) → a .reading ≡ r → saidOf (a .edition) r ≡ done (n ∷ edition ∷ []) → (a .reading ≡ Reading.Read n) × (a .edition ≡ edition)
+    go (Reading.Read k) w x = let i : k ≡ n = cc in let j : a .edition ≡ edition = cc in (w ∙ ap Reading.Read i, j)
+    go (Reading.Refused r) w x = absurd (let z : _≡_ {A = ℕ} 0 1 = cc in omega arith)
+
+said-written : (a : Writing) (n : ℕ) → writtenSaid a ≡ done (n ∷ []) → a ≡ Writing.Written n
+unfolding writtenSaid
+said-written (Writing.Written k) n e = cc
+said-written (Writing.Refused r) n e = absurd (let z : _≡_ {A = ℕ} 0 1 = cc in omega arith)
+
+-- ---- read
+
+module _ (file lent : List ℕ) (c : Columns) where
+  pub read-says : decoded twoValues always (readCall file lent c .number) ≡ readSaid (readAnswer file c .result)
+  unfolding readCall
+  read-says = told-back twoValues always _ (read-told file c)
+
+  pub read-keeps : (codeOf (readCall file lent c .number) ≡ 0 → ⊥) → (readCall file lent c .starts ≡ lent) × (readCall file lent c .columns ≡ c)
+  unfolding readCall readSaid startsAfter
+  read-keeps n = go (readAnswer file c .result .reading) refl
+    where
+      go : (r : Reading) → readAnswer file c .result .reading ≡ r → (startsAfter (readAnswer file c .result) lent ≡ lent) × (readAnswer file c .columns ≡ c)
+      go (Reading.Read k) w = absurd (n (done-code twoValues always (read-told file c) _ (ap (saidOf (readAnswer file c .result .edition)) w)))
+      go (Reading.Refused r) w = (rw w, refused-unread file c (r .question) (r .at) w .0)
+
+  module _ (n edition : ℕ) (read : decoded twoValues always (readCall file lent c .number) ≡ done (n ∷ edition ∷ [])) where
+    is-read : (readAnswer file c .result .reading ≡ Reading.Read n) × (readAnswer file c .result .edition ≡ edition)
+    is-read = said-read (readAnswer file c .result) n edition (sym read-says ∙ read)
+
+    starts-told : readCall file lent c .starts ≡ readAnswer file c .result .starts
+    unfolding readCall startsAfter
+    starts-told = let r = is-read .0 in rw r
+
+    -- writing what was read gives the file back, and nothing behind it changes
+    pub read-then-write : (out : List ℕ) → Bytes file → length file ≤ length out
+        → writeCall edition (readCall file lent c .starts) (readCall file lent c .columns) n out ≡ put (coded (done (length file ∷ []))) (over file out)
+    unfolding writeCall readCall writtenSaid
+    read-then-write out by room =
+        let r = is-read in
+        (λ i. writeCall (sym (r .1) i) (starts-told i) (readAnswer file c .columns) n out)
+        ∙ ap (λ (a : WrittenAnswer). put (coded (writtenSaid (a .result))) (a .output)) (written-read file c n out by (r .0) room)
+
+    -- behind the entries read every column is as it was
+    behind : (f : Event → ℕ) (l : List ℕ) (h : List Event) → length h ≡ n → drop n (over (map f h) l) ≡ drop n l
+    behind f l h e = drop-over (map f h) l n (length-map h f ∙ e)
+
+    pub read-behind : (drop n (readCall file lent c .columns .kinds) ≡ drop n (c .kinds))
+        × (drop n (readCall file lent c .columns .transactions) ≡ drop n (c .transactions))
+        × (drop n (readCall file lent c .columns .registers) ≡ drop n (c .registers))
+        × (drop n (readCall file lent c .columns .values) ≡ drop n (c .values))
+    unfolding readCall filledWith
+    read-behind =
+        let w = was-read file c n (is-read .0) in
+        let h = w .says .events in (
+          ap (λ (x : Columns). drop n (x .kinds)) (w .filled) ∙ behind (λ e. e .kind) (c .kinds) h (w .count),
+          ap (λ (x : Columns). drop n (x .transactions)) (w .filled) ∙ behind (λ e. e .transaction) (c .transactions) h (w .count),
+          ap (λ (x : Columns). drop n (x .registers)) (w .filled) ∙ behind (λ e. e .register) (c .registers) h (w .count),
+          ap (λ (x : Columns). drop n (x .values)) (w .filled) ∙ behind (λ e. e .value) (c .values) h (w .count),
+        )
+
+-- ---- write
+
+module _ (edition : ℕ) (starts : List ℕ) (c : Columns) (count : ℕ) (small : count ≤ most) (out : List ℕ) where
+  pub write-says : decoded oneValue never (writeCall edition starts c count out .number) ≡ writtenSaid (writtenAnswer edition starts c count out .result)
+  unfolding writeCall
+  write-says = told-back oneValue never _ (write-told edition starts c count small out)
+
+  pub write-keeps : (codeOf (writeCall edition starts c count out .number) ≡ 0 → ⊥) → writeCall edition starts c count out .output ≡ out
+  unfolding writeCall writtenSaid
+  write-keeps n = go (writtenAnswer edition starts c count out .result) refl
+    where
+      go : (r : Writing) → writtenAnswer edition starts c count out .result ≡ r → writtenAnswer edition starts c count out .output ≡ out
+      go (Writing.Written k) w = absurd (n (done-code oneValue never (write-told edition starts c count small out) _ (ap writtenSaid w)))
+      go (Writing.Refused r) w = refused-unwritten edition starts c count out r w
+
+  module _ (len : ℕ) (done-so : decoded oneValue never (writeCall edition starts c count out .number) ≡ done (len ∷ [])) where
+    is-written : writtenAnswer edition starts c count out .result ≡ Writing.Written len
+    is-written = said-written _ len (sym write-says ∙ done-so)
+
+    -- reading what was written gives the count, the edition, the start values and the entries back
+    pub write-then-read : (lent : List ℕ) (d : Columns) → FittingStarts starts → Fitting c → hold d count ≡ true
+        → (decoded twoValues always (readCall (take len (writeCall edition starts c count out .output)) lent d .number) ≡ done (count ∷ edition ∷ []))
+        × (readCall (take len (writeCall edition starts c count out .output)) lent d .starts ≡ starts)
+        × SameEntries count (readCall (take len (writeCall edition starts c count out .output)) lent d .columns) c
+    unfolding writeCall readCall readSaid startsAfter
+    write-then-read lent d small-starts fit room =
+        let r = read-written edition starts c d count out len small-starts fit is-written room in (
+          read-says (take len (writtenAnswer edition starts c count out .output)) lent d ∙ ap readSaid (r .0),
+          ap (λ (a : HistoryRead). startsAfter a lent) (r .0),
+          r .1,
+        )
+
+    pub write-behind : drop len (writeCall edition starts c count out .output) ≡ drop len out
+    unfolding writeCall
+    write-behind = nothing-behind edition starts c count out len is-written
+
+-- ---- find
+
+module _ (edition : ℕ) (starts : List ℕ) (c : Columns) (count prefix : ℕ) (small : count ≤ most) (out : List ℕ) where
+  pub find-says : decoded oneValue never (findCall edition starts c count prefix out .number) ≡ foundSaid (foundAnswer edition starts c count prefix out .result)
+  unfolding findCall
+  find-says = told-back oneValue never _ (find-told edition starts c count small prefix out)
+
+  pub find-keeps : (codeOf (findCall edition starts c count prefix out .number) ≡ 0 → ⊥) → findCall edition starts c count prefix out .output ≡ out
+  unfolding findCall foundSaid
+  find-keeps n = go (foundAnswer edition starts c count prefix out .result) refl
+    where
+      go : (r : Finding) → foundAnswer edition starts c count prefix out .result ≡ r → foundAnswer edition starts c count prefix out .output ≡ out
+      go (Finding.Marking k) w = absurd (n (done-code oneValue never (find-told edition starts c count small prefix out) _ (ap foundSaid w)))
+      go Finding.None w = none-unchanged edition starts c count prefix out w
+      go (Finding.Refused r) w = refused-unchanged edition starts c count prefix out r w
+
+  module _ (n : ℕ) (found : decoded oneValue never (findCall edition starts c count prefix out .number) ≡ done (n ∷ [])) where
+    is-found : foundAnswer edition starts c count prefix out .result ≡ Finding.Marking n
+    is-found = said-marking _ n (sym find-says ∙ found)
+
+    -- the checker, called on exactly the bytes found with the prefix as the count, accepts them
+    pub find-then-check : checkCall edition starts c prefix (take n (findCall edition starts c count prefix out .output)) ≡ coded (done [])
+    unfolding findCall checkCall checkSaid
+    find-then-check = ap (λ a. coded (checkSaid a)) (found-accepted edition starts c count prefix out n is-found)
+
+    pub find-behind : drop n (findCall edition starts c count prefix out .output) ≡ drop n out
+    unfolding findCall
+    find-behind = written edition starts c count prefix out n is-found .behind
+
+-- ---- straighten
+
+module _ (edition : ℕ) (starts : List ℕ) (c : Columns) (count : ℕ) (small : count ≤ most) (file out list : List ℕ) where
+  pub straighten-says : decoded twoValues ofMarking (straightenCall edition starts c count file out list .number) ≡ straightSaid (straightenedAnswer edition starts c count file out list .result)
+  unfolding straightenCall
+  straighten-says = told-back twoValues ofMarking _ (straighten-told edition starts c count small file out list)
+
+  pub straighten-keeps : (codeOf (straightenCall edition starts c count file out list .number) ≡ 0 → ⊥)
+      → (straightenCall edition starts c count file out list .output ≡ out) × (straightenCall edition starts c count file out list .list ≡ list)
+  unfolding straightenCall straightSaid
+  straighten-keeps n =
+      untouched edition starts c count file out list
+      (λ k l w. n (done-code twoValues ofMarking (straighten-told edition starts c count small file out list) _ (ap straightSaid w)))
+
+  module _ (n k : ℕ) (straight : decoded twoValues ofMarking (straightenCall edition starts c count file out list .number) ≡ done (n ∷ k ∷ [])) where
+    is-straight : straightenedAnswer edition starts c count file out list .result ≡ Straightening.Straightened n k
+    is-straight = said-straightened _ n k (sym straighten-says ∙ straight)
+
+    pub straighten-then-check : checkCall edition starts c count (take n (straightenCall edition starts c count file out list .output)) ≡ coded (done [])
+    unfolding straightenCall checkCall checkSaid
+    straighten-then-check = ap (λ a. coded (checkSaid a)) (written-accepted edition starts c count file out list n k is-straight)
+
+    pub straighten-behind : (drop n (straightenCall edition starts c count file out list .output) ≡ drop n out) × (drop k (straightenCall edition starts c count file out list .list) ≡ drop k list)
+    unfolding straightenCall
+    straighten-behind = written-behind edition starts c count file out list n k is-straight

@@ -1,0 +1,62 @@
+-- To be believed: the words in which the demands are stated that no crate below has.
+-- Assumes nothing.
+use Prim.Native.Nat.{ℕ, _≤_, _<_}
+use mathlib.Core.Path.{_≡_}
+use mathlib.Core.Bool.{true, false}
+use mathlib.Core.List.{List}
+use lib.ListN.{length, take}
+use Rattle.events.specs.declared.columns.Checked.the-variants.{Readable}
+use Rattle.events.specs.declared.event.Event.{Event}
+use Rattle.events.specs.Bytes.{Bytes}
+use Rattle.events.specs.Columns.{Columns, history, hold}
+use Rattle.events.specs.Events.{begins}
+use Rattle.events.specs.Starts.{startOf}
+use Rattle.events.specs.Questions.{historyAnswer}
+use Rattle.opacity.specs.Explains.{Explains}
+use Rattle.opacity.specs.Justification.{Place}
+use Rattle.opacity.specs.Marking.{Marking, gapOf}
+use Rattle.opacity.specs.Transactions.{isStoreRead}
+use Rattle.opacity.specs.Verdicts.{WriterBetween}
+use Rattle.reader.specs.declared.Reading.the-variants.{Read}
+use Rattle.reader.specs.Reading.{Log, readable, historyOf, eventsIn, readAnswer}
+use Rattle.finder.specs.Answer.{markingSize}
+use Rattle.marking.specs.File.{known, content, fileRead}
+
+-- the file is readable, with so many events and of this edition, and the columns hold as many entries
+pub record IsRead (file : List ℕ) (c : Columns) (n edition : ℕ) : Type 0 where
+  pub says : Log
+  pub readable : historyOf file ≡ readable says
+  pub count : length (says .events) ≡ n
+  pub edition-is : says .edition ≡ edition
+  pub room : hold c (length (says .events)) ≡ true
+
+-- 14: the file is readable, and a column is too short
+pub record TooShort (file : List ℕ) (c : Columns) : Type 0 where
+  pub says : Log
+  pub readable : historyOf file ≡ readable says
+  pub short : hold c (length (says .events)) ≡ false
+
+-- no other committed writer of the register stands between a read's point and its reader
+abbrev pub NoneBetween : List Event → Marking → Type 0
+NoneBetween h m = (i : ℕ) → i < length h → isStoreRead h i ≡ true → WriterBetween h (m .places) (gapOf (m .points) i) i → ⊥
+
+-- The history in the columns and the marking in the file are readable, the marking's outcomes and order are a justification in the words of the
+-- events, and no other committed writer stands between a read's point and its reader.
+pub record Accepts (edition : ℕ) (starts : List ℕ) (c : Columns) (n : ℕ) (file : List ℕ) : Type 0 where
+  pub fine : historyAnswer edition starts c n ≡ Readable
+  pub marking : Marking
+  pub holds : fileRead (known (history c n)) file ≡ content marking
+  pub explains : Explains (startOf starts) (history c n) (marking .places)
+  pub between : NoneBetween (history c n) marking
+
+-- every prefix of a history has a justification, in the words of the events
+abbrev pub AllExplained : (ℕ → ℕ) → List Event → Type 0
+AllExplained start h = (n : ℕ) → n ≤ length h → (J : List Place) × Explains start (take n h) J
+
+-- A readable file, read into columns, of which a prefix of at most 10 transactions is judged, with an output as long as the paper says.
+pub record FromFile (file : List ℕ) (c : Columns) (count prefix : ℕ) (output : List ℕ) : Type 0 where
+  pub bytes : Bytes file
+  pub read : readAnswer file c .result .reading ≡ Read count
+  pub inside : prefix ≤ count
+  pub few : begins (take prefix (eventsIn file)) ≤ 10
+  pub room : markingSize (take prefix (eventsIn file)) ≤ length output
