@@ -28,26 +28,26 @@ use Rattle.lines.specs.Lines.{faultedLine, unscannedLine, scannedLine, o
 
 -- The lines that the paper gives, for the answers that it gives them for.
 pub as-in-the-paper :
-  (countsLine (record { events = 10; transactions = 2; reads = 2 })
-  ∷ tallyLine (record { committed = 1; aborted = 0; pending = 0; live = 1 })
-  ∷ verdictLine Verdict.Accepted
-  ∷ verdictLine (Verdict.Broken Rule.D 9 1)
-  ∷ refusedLine (text "history") 5 6
-  ∷ refusedLine (text "marking") 28 6
-  ∷ scannedLine Scanned.Opaque
-  ∷ scannedLine (Scanned.Faulted 9 1)
-  ∷ unscannedLine 31
-  ∷ [])
-  ≡ (text "events 10 transactions 2 reads 2\n"
-  ∷ text "committed 1 aborted 0 pending 0 live 1\n"
-  ∷ text "marking accepted\n"
-  ∷ text "marking rule D event 9 transaction 1\n"
-  ∷ text "history refused 5 byte 6\n"
-  ∷ text "marking refused 28 byte 6\n"
-  ∷ text "opaque yes\n"
-  ∷ text "opaque no event 9 cause 1\n"
-  ∷ text "opaque refused 31\n"
-  ∷ [])
+    (countsLine (record { events = 10; transactions = 2; reads = 2 })
+    ∷ tallyLine (record { committed = 1; aborted = 0; pending = 0; live = 1 })
+    ∷ verdictLine Verdict.Accepted
+    ∷ verdictLine (Verdict.Broken Rule.D 9 1)
+    ∷ refusedLine (text "history") 5 6
+    ∷ refusedLine (text "marking") 28 6
+    ∷ scannedLine Scanned.Opaque
+    ∷ scannedLine (Scanned.Faulted 9 1)
+    ∷ unscannedLine 31
+    ∷ [])
+    ≡ (text "events 10 transactions 2 reads 2\n"
+    ∷ text "committed 1 aborted 0 pending 0 live 1\n"
+    ∷ text "marking accepted\n"
+    ∷ text "marking rule D event 9 transaction 1\n"
+    ∷ text "history refused 5 byte 6\n"
+    ∷ text "marking refused 28 byte 6\n"
+    ∷ text "opaque yes\n"
+    ∷ text "opaque no event 9 cause 1\n"
+    ∷ text "opaque refused 31\n"
+    ∷ [])
 unfolding countsLine tallyLine refusedLine brokenLine faultedLine unscannedLine decimal
 as-in-the-paper = refl
 
