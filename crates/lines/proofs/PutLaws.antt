@@ -21,17 +21,21 @@ put-as {at = at} {xs = xs} {ys = ys} same more p =
     let long : length xs ≡ length ys = ap length same in
     record { filled = p .filled ∙ ap (placed _ at) same; ends = omega (arith, p .ends); short = omega (arith, p .short) }
 
-module _ {a b : ℕ} {d e o : List ℕ} {at m next : ℕ} {xs ys : List ℕ} (room : at + a ≤ length d) (p : Put a d e at xs m) (q : Put b e o m ys next) where
+module _ {a b : ℕ} {d e o : List ℕ} {at m next : ℕ} {xs ys : List ℕ} where
   -- a run, and then another right behind it
-  pub put-then : Put (a + b) d o at (xs ++ ys) next
-  put-then = record {
-    filled = q .filled ∙ ap (λ (l : List ℕ). placed l m ys) (p .filled) ∙ placed-more d at xs ys m (sym (p .ends)) (omega (arith, p .short));
+  pub put-then : at + a ≤ length d → Put a d e at xs m → Put b e o m ys next → Put (a + b) d o at (xs ++ ys) next
+  put-then room p q = record {
+    filled =
+        q .filled
+        ∙ ap (λ (l : List ℕ). placed l m ys) (p .filled)
+        ∙ placed-more d at xs ys m (sym (p .ends)) (omega (arith, p .short));
     ends = simp length-append (omega (arith, p .ends, q .ends));
     short = simp length-append (omega (arith, p .short, q .short));
   }
 
 -- a run from the first place on
-pub put-first : {a : ℕ} {d e : List ℕ} {next : ℕ} {xs ys : List ℕ} → xs ≡ ys → Put a d e 0 xs next → (next ≡ length ys) × (e ≡ over ys d)
+pub put-first : {a : ℕ} {d e : List ℕ} {next : ℕ} {xs ys : List ℕ} → xs ≡ ys → Put a d e 0 xs next
+    → (next ≡ length ys) × (e ≡ over ys d)
 put-first {d = d} {ys = ys} same p =
     let q = put-as same (le-refl _) p in
     let z : 0 + length ys ≡ length ys = omega arith in (q .ends ∙ z, q .filled ∙ ap (λ (k : ℕ). ys ++ drop k d) z)

@@ -78,7 +78,9 @@ fn put_tally(out: &mut [u8], at: usize, tally: Tally) -> usize
 // "history refused 5 byte 6", or the same of the marking.
 fn put_refused(out: &mut [u8], at: usize, file: &[u8], question: usize, byte: usize) -> usize
     requires { ⌜ at + (length (now file) + 56) ≤ length (now out) ⌝ }
-    ensures { λ r. ⌜ Put (length (now (file .entry)) + 56) (now (out .entry)) (now (out .exit)) at (refusedLine (now (file .entry)) question byte) r ⌝ }
+    ensures { λ r.
+        ⌜ Put (length (now (file .entry)) + 56) (now (out .entry)) (now (out .exit)) at
+        (refusedLine (now (file .entry)) question byte) r ⌝ }
 {
     let named = put_text(out, at, file);
     let refused = put_field(out, named, b" refused ", question);

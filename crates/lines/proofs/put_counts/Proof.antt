@@ -41,8 +41,9 @@ returns c =
     let reads = feed .before .before .before .before .before in
     let transactions = reads .before .before .before .before .before in
     let events = transactions .before .before .before .before .before in
+    let two = put-then (omega arith) (events .put-field .ensures) (transactions .put-field2 .ensures) in
     put-then (omega arith)
-    (put-then (omega arith) (put-then (omega arith) (events .put-field .ensures) (transactions .put-field2 .ensures)) (reads .put-field3 .ensures))
+    (put-then (omega arith) two (reads .put-field3 .ensures))
     (feed .put-text .ensures)
 
 pub put-counts-spec : {M : Type 1} → statement M

@@ -16,7 +16,10 @@ same-length : tie.Need-same-length
 same-length c = search needs
 
 returns : tie.Need-returns
-returns c = put-then (omega arith) (c .before .before .before .before .before .before .put-text .ensures) (c .before .before .put-number .ensures)
+returns c =
+    let number = c .before .before in
+    let words = number .before .before .before .before in
+    put-then (omega arith) (words .put-text .ensures) (number .put-number .ensures)
 
 pub put-field-spec : {M : Type 1} → statement M
 put-field-spec = tie.close (tie.spec put-text-requires put-number-requires same-length returns)

@@ -29,8 +29,9 @@ returns c =
     let marking = opacity .before .before .before .before in
     let tally = marking .before .before .before .before in
     let counts = tally .before .before .before .before in
+    let two = put-then (omega arith) (counts .put-counts .ensures) (tally .put-tally .ensures) in
     put-then (omega arith)
-    (put-then (omega arith) (put-then (omega arith) (counts .put-counts .ensures) (tally .put-tally .ensures)) (marking .put-marking .ensures))
+    (put-then (omega arith) two (marking .put-marking .ensures))
     (opacity .put-opacity .ensures)
 
 pub put-judged-spec : {M : Type 1} → statement M

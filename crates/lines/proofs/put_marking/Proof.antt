@@ -30,13 +30,17 @@ same-length : tie.Need-same-length
 same-length c = search needs
 
 returns : tie.Need-returns
-returns c = put-as (ap markingLine (sym (c .before .before .before .before .before .marking .given .1))) (omega arith) (c .before .before .put-verdict .ensures)
+returns c =
+    let call = c .before .before in
+    put-as (ap markingLine (sym (call .before .before .before .marking .given .1))) (omega arith) (call .put-verdict .ensures)
 
 same-length-2 : tie.Need-same-length-2
 same-length-2 c = search needs
 
 returns-2 : tie.Need-returns-2
-returns-2 c = put-as (ap markingLine (sym (c .before .before .before .before .before .before .marking2 .given .1))) (omega arith) (c .before .before .put-refused .ensures)
+returns-2 c =
+    let call = c .before .before in
+    put-as (ap markingLine (sym (call .before .before .before .before .marking2 .given .1))) (omega arith) (call .put-refused .ensures)
 
 pub put-marking-spec : {M : Type 1} → statement M
 put-marking-spec =

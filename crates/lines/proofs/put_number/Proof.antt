@@ -33,7 +33,8 @@ returns c =
     let digits = c .before .before .before .before .before in
     let bits : digits .before .before .before .args .n < 2 ^ 64 = search needs in
     let said = digits .decimal .ensures in
-    put-as (said .1 .1 ∙ the-digits _ _ (said .1 .0)) (omega (arith, at-most-20 _ _ (said .1 .0) bits)) (c .before .before .put-text .ensures)
+    let fewest = said .1 .0 in
+    put-as (said .1 .1 ∙ the-digits _ _ fewest) (omega (arith, at-most-20 _ _ fewest bits)) (c .before .before .put-text .ensures)
 
 pub put-number-spec : {M : Type 1} → statement M
 put-number-spec =

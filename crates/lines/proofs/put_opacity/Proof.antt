@@ -27,13 +27,17 @@ same-length : tie.Need-same-length
 same-length c = search needs
 
 returns : tie.Need-returns
-returns c = put-as (ap opacityLine (sym (c .before .before .before .before .before .opacity .given .1))) (omega arith) (c .before .before .put-scanned .ensures)
+returns c =
+    let call = c .before .before in
+    put-as (ap opacityLine (sym (call .before .before .before .opacity .given .1))) (omega arith) (call .put-scanned .ensures)
 
 same-length-2 : tie.Need-same-length-2
 same-length-2 c = search needs
 
 returns-2 : tie.Need-returns-2
-returns-2 c = put-as (ap opacityLine (sym (c .before .before .before .before .before .opacity2 .given .1))) (omega arith) (c .before .before .put-unscanned .ensures)
+returns-2 c =
+    let call = c .before .before in
+    put-as (ap opacityLine (sym (call .before .before .before .opacity2 .given .1))) (omega arith) (call .put-unscanned .ensures)
 
 pub put-opacity-spec : {M : Type 1} → statement M
 put-opacity-spec =

@@ -30,13 +30,17 @@ same-length : tie.Need-same-length
 same-length c = search needs
 
 returns : tie.Need-returns
-returns c = put-as (ap scannedLine (sym (c .before .before .before .before .before .enum-told .given .1))) (omega arith) (c .before .before .put-text .ensures)
+returns c =
+    let call = c .before .before in
+    put-as (ap scannedLine (sym (call .before .before .before .enum-told .given .1))) (omega arith) (call .put-text .ensures)
 
 same-length-2 : tie.Need-same-length-2
 same-length-2 c = search needs
 
 returns-2 : tie.Need-returns-2
-returns-2 c = put-as (ap scannedLine (sym (c .before .before .before .before .before .scanned .given .1))) (omega arith) (c .before .before .put-faulted .ensures)
+returns-2 c =
+    let call = c .before .before in
+    put-as (ap scannedLine (sym (call .before .before .before .scanned .given .1))) (omega arith) (call .put-faulted .ensures)
 
 pub put-scanned-spec : {M : Type 1} → statement M
 put-scanned-spec =

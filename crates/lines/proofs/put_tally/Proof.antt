@@ -48,8 +48,9 @@ returns c =
     let pending = live .before .before .before .before .before in
     let aborted = pending .before .before .before .before .before in
     let committed = aborted .before .before .before .before .before in
+    let ended = put-then (omega arith) (committed .put-field .ensures) (aborted .put-field2 .ensures) in
     put-then (omega arith)
-    (put-then (omega arith) (put-then (omega arith) (put-then (omega arith) (committed .put-field .ensures) (aborted .put-field2 .ensures)) (pending .put-field3 .ensures)) (live .put-field4 .ensures))
+    (put-then (omega arith) (put-then (omega arith) ended (pending .put-field3 .ensures)) (live .put-field4 .ensures))
     (feed .put-text .ensures)
 
 pub put-tally-spec : {M : Type 1} → statement M

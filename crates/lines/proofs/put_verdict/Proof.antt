@@ -27,13 +27,17 @@ same-length : tie.Need-same-length
 same-length c = search needs
 
 returns : tie.Need-returns
-returns c = put-as (ap verdictLine (sym (c .before .before .before .before .before .enum-told .given .1))) (omega arith) (c .before .before .put-text .ensures)
+returns c =
+    let call = c .before .before in
+    put-as (ap verdictLine (sym (call .before .before .before .enum-told .given .1))) (omega arith) (call .put-text .ensures)
 
 same-length-2 : tie.Need-same-length-2
 same-length-2 c = search needs
 
 returns-2 : tie.Need-returns-2
-returns-2 c = put-as (ap verdictLine (sym (c .before .before .before .before .before .verdict .given .1))) (omega arith) (c .before .before .put-broken .ensures)
+returns-2 c =
+    let call = c .before .before in
+    put-as (ap verdictLine (sym (call .before .before .before .verdict .given .1))) (omega arith) (call .put-broken .ensures)
 
 pub put-verdict-spec : {M : Type 1} → statement M
 put-verdict-spec =
