@@ -11,7 +11,7 @@ use borrow.Author.Tests.{eqb-true, eq-eqb, ltb-true, lt-ltb}
 use Rattle.events.specs.Lists.{_and_, _or_, StrictTotal}
 use Rattle.opacity.specs.Justification.{Place}
 use Rattle.opacity.specs.Lowest.{below, samePlace, lower}
-use Rattle.events.proofs.ListLaws.{and-l, and-r, and-i, and-false-l, and-false-r, or-l, or-r, nor-i, not-true, clash, eqb-self}
+use Rattle.events.proofs.ListLaws.{and-l, and-r, and-i, and-false-r, or-l, or-r, nor-i, not-true, clash, eqb-self}
 
 or-e : (a b : Bool) → (a or b) ≡ true → (a ≡ true) ⊎ (b ≡ true)
 unfolding _or_

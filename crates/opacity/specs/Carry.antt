@@ -1,6 +1,6 @@
 -- Vocabulary between crates: it need not be believed, the public contracts end in the paper's definitions.
--- An order carried on to one event more: the order of places that is to justify the history with that event, and whether it does, asked of that
--- event alone.
+-- An order carried on to one event more: the order of places that is to justify the history with that event, and whether it does, asked of
+-- that event alone.
 -- Assumes nothing.
 use Prim.Native.Nat.{ℕ}
 use mathlib.Core.Bool.{Bool, true, false, not, cond}

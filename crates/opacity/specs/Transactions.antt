@@ -30,8 +30,8 @@ statusNumber aborted = 2
 statusNumber pending = 1
 statusNumber live = 0
 
--- what a status says of the events of a readable history: the end is recorded; commit is called and the transaction has not ended; commit is
--- not called and it has not ended
+-- what a status says of the events of a readable history: the end is recorded; commit is called and the transaction has not ended; commit
+-- is not called and it has not ended
 abbrev pub Stands : Status → List Event → ℕ → Type 0
 Stands committed h t = has isCommit t h ≡ true
 Stands aborted h t = has isAbort t h ≡ true
