@@ -5,7 +5,7 @@
 set -eu
 here=$(cd "$(dirname "$0")" && pwd)
 include=$here/../include
-archive=${SENDOSHI_LIB_DIR:-$here/../target/staticlib}/libexports.a
+archive=${SENDOSHI_LIB_DIR:-$here/../target/staticlib}/libsendoshi.a
 room=$(mktemp -d)
 trap 'rm -rf "$room"' EXIT
 warnings='-Wall -Wextra -Wconversion -Wshadow -pedantic -Werror'

@@ -17,8 +17,8 @@
 
 #include "sendoshi.h"
 
-#if SENDOSHI_VERSION != 2
-#error "written for version 2 of the interface"
+#if SENDOSHI_VERSION != 3
+#error "written for version 3 of the interface"
 #endif
 
 /* One byte more than is ever read: a longer file is then refused for its length, however long it is. */
@@ -124,8 +124,8 @@ int main(int argc, char **argv)
         return 0;
     }
     uint16_t edition = (uint16_t)sendoshi_read_edition(read);
-    size_t count = sendoshi_read_count(read);
-    printf("events %zu transactions %" PRIu32 " reads %" PRIu32 "\n", count, sendoshi_place(sendoshi_transactions(COLUMNS, count)),
+    uint32_t count = sendoshi_read_count(read);
+    printf("events %" PRIu32 " transactions %" PRIu32 " reads %" PRIu32 "\n", count, sendoshi_place(sendoshi_transactions(COLUMNS, count)),
            sendoshi_place(sendoshi_store_reads(COLUMNS, count)));
     print_tally(sendoshi_tally(COLUMNS, count));
     print_marking(sendoshi_check(edition, starts, COLUMNS, count, marking, marking_length));

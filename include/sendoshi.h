@@ -1,7 +1,7 @@
 /*
  * Sendoshi: opacity of recorded transactional histories.
  *
- * Link with libexports.a (`rt staticlib exports`; x86-64 Linux). C99 and C++.
+ * Link with libsendoshi.a (`rt staticlib sendoshi`; x86-64 Linux). C99 and C++.
  *
  * A history is a list of events, numbered from 0, in four columns with one entry an event:
  *
@@ -41,11 +41,12 @@
  *       sendoshi_check and sendoshi_straighten have two new first parameters, the edition and the start values, and refuse by 3 what
  *       is neither edition 1 with zeros nor edition 2. Files of edition 2 are read; 41, 42 and 43 are new, and 3 may come with an event.
  *       SENDOSHI_FILE_SIZE is larger. To go on as before: pass edition 1 and 32 zeros, and refuse files whose edition is 2.
+ *   3   counts of 32 bits: `count` and `prefix` are uint32_t and were size_t. The archive is libsendoshi.a and was libexports.a.
  */
 #ifndef SENDOSHI_H
 #define SENDOSHI_H
 
-#define SENDOSHI_VERSION 2
+#define SENDOSHI_VERSION 3
 
 #include <stddef.h>
 #include <stdint.h>
@@ -71,8 +72,8 @@ enum {
 #define SENDOSHI_MARKING_SIZE(prefix) (6 + 8 * (size_t)SENDOSHI_MAX_JUDGED + 10 * (size_t)(prefix))
 
 /*
- * Each call returns code * 2^32 + place. Taken apart by the functions below, the number gives the answer back, every case of it
- * (proved: crates/exports/proofs/Theorems).
+ * Each call returns code * 2^32 + place. Taken apart by the functions below, the number gives back all that the answer says, in every
+ * case of it (proved: the contracts in crates/sendoshi/src/lib.rt, over crates/codes/specs/Decoded).
  *
  *   code        meaning                         place
  *   0           done                            the edition * 65536 + the event count (read), the length (write, find),
@@ -88,8 +89,7 @@ enum {
  *
  * Questions about files have a byte as their place: where the record begins, 0 for question 1 and for an empty file, the file's
  * length for 14, for 29 and for 28 at the end. All others have an event: its number, or the count for 15, 17, 18, 31
- * and 32, and for 3 where it is not about a file. A place never reaches into the code: a count of 2^32 or more, which 17, 3 or 18
- * refuses, is told as 2^32 - 1. No other place is as large.
+ * and 32, and for 3 where it is not about a file.
  */
 enum {
     SENDOSHI_DONE = 0,
@@ -227,7 +227,8 @@ static inline uint32_t sendoshi_tally_live(uint64_t answer)
 /*
  * Reads a history file into start values and columns. Done: the edition, 1 or 2, and the event count; all 32 start values and that many
  * entries of each column are set.
- * Refuses: 1, 2, 3; 2, 4, 5 for each record in turn, then 43, 41, 42 if it is a start record, and 6 to 13 if it is an event; 14.
+ * Refuses: 1; 2 and 3 of the first record; then of each further record 2, 4, 5; 43, 41, 42 of a start record; 6 to 13 of an event; at
+ * the end 14.
  */
 uint64_t sendoshi_read(const uint8_t *file, size_t file_length,
                        uint32_t starts[SENDOSHI_REGISTERS],
@@ -246,7 +247,7 @@ uint64_t sendoshi_write(uint16_t edition, const uint32_t starts[SENDOSHI_REGISTE
                         const uint16_t *transactions, size_t transactions_length,
                         const uint16_t *registers, size_t registers_length,
                         const uint32_t *values, size_t values_length,
-                        size_t count,
+                        uint32_t count,
                         uint8_t *output, size_t output_length);
 
 /*
@@ -260,7 +261,7 @@ uint64_t sendoshi_find(uint16_t edition, const uint32_t starts[SENDOSHI_REGISTER
                        const uint16_t *transactions, size_t transactions_length,
                        const uint16_t *registers, size_t registers_length,
                        const uint32_t *values, size_t values_length,
-                       size_t count, size_t prefix,
+                       uint32_t count, uint32_t prefix,
                        uint8_t *output, size_t output_length);
 
 /*
@@ -273,18 +274,19 @@ uint64_t sendoshi_scan(uint16_t edition, const uint32_t starts[SENDOSHI_REGISTER
                        const uint16_t *transactions, size_t transactions_length,
                        const uint16_t *registers, size_t registers_length,
                        const uint32_t *values, size_t values_length,
-                       size_t count);
+                       uint32_t count);
 
 /*
  * Checks a marking file of the first `count` events. Done: accepted. Else the first broken rule, from A to E.
- * Refuses: 17; 3; 4, 6 to 13 and 16 for each event in turn; then for the file 1, 2, 21; 2, 22 to 28 for each record in turn; 28; 29.
+ * Refuses: 17; 3; 4, 6 to 13 and 16 for each event in turn; then for the file 1; 2 and 21 of the first record; then of each further
+ * record 2, 22, 23; 24, 25 of a place; 28 (of the first read point), 26, 27 of a read point; at the end 28, 29.
  */
 uint64_t sendoshi_check(uint16_t edition, const uint32_t starts[SENDOSHI_REGISTERS],
                         const uint16_t *kinds, size_t kinds_length,
                         const uint16_t *transactions, size_t transactions_length,
                         const uint16_t *registers, size_t registers_length,
                         const uint32_t *values, size_t values_length,
-                        size_t count,
+                        uint32_t count,
                         const uint8_t *file, size_t file_length);
 
 /*
@@ -294,15 +296,16 @@ uint64_t sendoshi_check(uint16_t edition, const uint32_t starts[SENDOSHI_REGISTE
  * entry, rising. sendoshi_check accepts the bytes written; a file that it accepts already comes back byte for byte, with no point
  * moved. Else the first rule that is broken with the points so moved, A, B, C or E: outcomes and order are no justification.
  * The output is a buffer of its own: a marking is not straightened in place.
- * Refuses: 17; 3; 4, 6 to 13 and 16 for each event in turn; then for the file 1, 2, 21; 2, 22 to 28 for each record in turn; 28; 29;
- * then 15, if the output is shorter than the file or the list has fewer entries than sendoshi_store_reads counts.
+ * Refuses: 17; 3; 4, 6 to 13 and 16 for each event in turn; then for the file 1; 2 and 21 of the first record; then of each further
+ * record 2, 22, 23; 24, 25 of a place; 28 (of the first read point), 26, 27 of a read point; at the end 28, 29. Then 15, if the output
+ * is shorter than the file or the list has fewer entries than sendoshi_store_reads counts.
  */
 uint64_t sendoshi_straighten(uint16_t edition, const uint32_t starts[SENDOSHI_REGISTERS],
                              const uint16_t *kinds, size_t kinds_length,
                              const uint16_t *transactions, size_t transactions_length,
                              const uint16_t *registers, size_t registers_length,
                              const uint32_t *values, size_t values_length,
-                             size_t count,
+                             uint32_t count,
                              const uint8_t *file, size_t file_length,
                              uint8_t *output, size_t output_length,
                              uint32_t *moved, size_t moved_length);
@@ -315,7 +318,7 @@ uint64_t sendoshi_transactions(const uint16_t *kinds, size_t kinds_length,
                                const uint16_t *transactions, size_t transactions_length,
                                const uint16_t *registers, size_t registers_length,
                                const uint32_t *values, size_t values_length,
-                               size_t count);
+                               uint32_t count);
 
 /*
  * Counts the store reads in the first `count` events: the returned reads of a register that their transaction had not written.
@@ -325,7 +328,7 @@ uint64_t sendoshi_store_reads(const uint16_t *kinds, size_t kinds_length,
                               const uint16_t *transactions, size_t transactions_length,
                               const uint16_t *registers, size_t registers_length,
                               const uint32_t *values, size_t values_length,
-                              size_t count);
+                              uint32_t count);
 
 /*
  * Tallies the transactions begun in the first `count` events: those that committed; those that were aborted, also after they called
@@ -337,7 +340,7 @@ uint64_t sendoshi_tally(const uint16_t *kinds, size_t kinds_length,
                         const uint16_t *transactions, size_t transactions_length,
                         const uint16_t *registers, size_t registers_length,
                         const uint32_t *values, size_t values_length,
-                        size_t count);
+                        uint32_t count);
 
 #ifdef __cplusplus
 }
