@@ -23,13 +23,12 @@ use Rattle.opacity.specs.declared.verdict.Rule.{Rule}
 use Rattle.opacity.specs.Justification.{Justified}
 use Rattle.opacity.specs.Marking.{Marking, ReadableFor, markingBytes, verdict, ruleNumber, namedEvent, namedTransaction}
 use Rattle.opacity.specs.Verdicts.{AllHold, RuleD, FirstBroken}
-use Rattle.opacity.specs.Said.{verdictSaid}
 use Rattle.opacity.proofs.VerdictLaws.{same-rule}
 use Rattle.opacity.proofs.Theorems.{accepted-iff-rules, accepted-iff-justified, broken-iff-first}
 use Rattle.marking.specs.declared.check.Checking.{Checking}
 use Rattle.marking.specs.declared.check.Checking.the-variants.{Ruled, HistoryRefused, MarkingRefused}
 use Rattle.marking.specs.File.{known, FileRead, content, refused, fileRead}
-use Rattle.marking.specs.Answer.{ruled, afterColumns, verdictAnswer, firstEditionAnswer, said, Justifying, Breaking}
+use Rattle.marking.specs.Answer.{ruled, afterColumns, verdictAnswer, firstEditionAnswer, verdictSaid, said, Justifying, Breaking}
 use Rattle.marking.proofs.ContentLaws.{content-readable}
 use Rattle.marking.proofs.ReadBack.{bytes-content}
 use Rattle.marking.proofs.WriteBack.{content-bytes}

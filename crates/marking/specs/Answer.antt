@@ -2,17 +2,18 @@
 -- Assumes nothing.
 use Prim.Native.Nat.{ℕ}
 use mathlib.Core.Path.{_≡_}
-use mathlib.Core.List.{List}
+use mathlib.Core.List.{List, []}
 use Rattle.events.specs.declared.event.Event.{Event}
 use Rattle.events.specs.declared.columns.Checked.{Checked}
 use Rattle.events.specs.declared.columns.Checked.the-variants.{Readable, Refused}
 use Rattle.events.specs.Columns.{Columns, history}
 use Rattle.events.specs.Starts.{startOf}
-use Rattle.events.specs.Said.{Said, eventRefused, byteRefused, refuse}
+use Rattle.events.specs.Said.{Said, done, broken, eventRefused, byteRefused, refuse}
 use Rattle.events.specs.Questions.{columnsAnswer, historyAnswer}
-use Rattle.opacity.specs.Said.{verdictSaid}
 use Rattle.opacity.specs.declared.verdict.Rule.{Rule}
-use Rattle.opacity.specs.Marking.{Marking, verdict, namedEvent, namedTransaction}
+use Rattle.opacity.specs.declared.verdict.Verdict.{Verdict}
+use Rattle.opacity.specs.declared.verdict.Verdict.the-variants.{Accepted, Broken}
+use Rattle.opacity.specs.Marking.{Marking, verdict, ruleNumber, namedEvent, namedTransaction}
 use Rattle.opacity.specs.Verdicts.{RuleD, FirstBroken}
 use Rattle.opacity.specs.Justification.{Justified, zeros}
 use Rattle.marking.specs.declared.check.Checking.{Checking}
@@ -35,6 +36,11 @@ verdictAnswer edition starts c n file = afterColumns (startOf starts) (history c
 -- the answer of edition 1, where every register starts at 0, as it was before there were start values
 unfoldable pub firstEditionAnswer : Columns → ℕ → List ℕ → Checking
 firstEditionAnswer c n file = afterColumns zeros (history c n) file (columnsAnswer c n)
+
+-- what a verdict says: accepted, or the rule (1 for A to 5 for E) with its event and transaction
+abbrev pub verdictSaid : Verdict → Said
+verdictSaid Accepted = done []
+verdictSaid (Broken r e t) = broken (ruleNumber r) e t
 
 -- what the checker says: accepted, or the rule with its event and transaction, or the history's question with its event, or the marking's
 -- with its byte

@@ -7,6 +7,5 @@ pub mod Scan
 pub mod Store
 pub mod Serial
 pub mod Counts
-pub mod Said
 pub mod Explains
 pub mod Verdicts

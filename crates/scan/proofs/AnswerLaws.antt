@@ -10,7 +10,6 @@ use Rattle.events.specs.declared.event.Event.{Event}
 use Rattle.events.specs.declared.columns.Checked.{Checked}
 use Rattle.events.specs.declared.refusal.Refusal.{Refusal}
 use Rattle.events.specs.Said.{atEvent, refuse}
-use Rattle.opacity.specs.Said.{scannedSaid}
 use Rattle.events.specs.Events.{begins}
 use Rattle.events.specs.Columns.{Columns, history, hold}
 use Rattle.events.specs.Starts.{startOf, admits}
@@ -22,7 +21,7 @@ use Rattle.opacity.specs.declared.verdict.Scanned.{Scanned}
 use Rattle.opacity.specs.Scan.{scan}
 use Rattle.tables.proofs.CallLaws.{asked-none, asked-yes, asked-no, asked-e, then-readable, then-refused, then-e}
 use Rattle.scan.specs.declared.Scanning.{Scanning}
-use Rattle.scan.specs.Answer.{Passed, said, sizeRefusal, scanRefusal, decided, scanAnswer}
+use Rattle.scan.specs.Answer.{Passed, scannedSaid, said, sizeRefusal, scanRefusal, decided, scanAnswer}
 
 -- ---- what is decided
 

@@ -10,14 +10,18 @@ use Rattle.events.specs.declared.columns.Checked.{Checked}
 use Rattle.events.specs.Events.{begins}
 use Rattle.events.specs.Columns.{Columns, history, hold}
 use Rattle.events.specs.Starts.{startOf, admits}
-use Rattle.events.specs.Said.{Said, eventRefused}
+use Rattle.events.specs.Said.{Said, done, faulted, eventRefused}
 use Rattle.events.specs.Questions.{ask, readable, columnsAnswer, historyAnswer}
 use Rattle.opacity.specs.declared.verdict.Scanned.{Scanned}
 use Rattle.opacity.specs.Justification.{zeros}
 use Rattle.opacity.specs.Scan.{scan}
-use Rattle.opacity.specs.Said.{scannedSaid}
 use Rattle.tables.specs.Calls.{askedOf, thenChecked}
 use Rattle.scan.specs.declared.Scanning.{Scanning}
+
+-- what the scan of a history says: opaque, or the event with the cause
+abbrev pub scannedSaid : Scanned → Said
+scannedSaid Scanned.Opaque = done []
+scannedSaid (Scanned.Faulted e w) = faulted e w
 
 -- what the scan says: opaque, or the event and the cause, or the question with its event
 unfoldable pub said : Scanning → Said

@@ -25,7 +25,6 @@ use Rattle.events.proofs.ReadableLaws.{columns-readable, readable-most}
 use Rattle.opacity.specs.declared.verdict.Rule.{Rule}
 use Rattle.opacity.specs.declared.verdict.Verdict.{Verdict}
 use Rattle.opacity.specs.declared.verdict.Scanned.{Scanned}
-use Rattle.opacity.specs.Said.{verdictSaid}
 use Rattle.opacity.specs.Transactions.{Status, committed, aborted, pending, live, storeReads}
 use Rattle.opacity.specs.Counts.{counts}
 use Rattle.opacity.specs.Marking.{Marking, verdict, ruleNumber, putTo, namedEvent, namedTransaction}
@@ -53,7 +52,7 @@ use Rattle.scan.proofs.AnswerLaws.{scanned-e, passed as scan-passed}
 use Rattle.scan.proofs.Theorems.{faulted-exactly}
 use Rattle.marking.specs.declared.check.Checking.{Checking}
 use Rattle.marking.specs.File.{known, FileRead, content, refused, fileRead}
-use Rattle.marking.specs.Answer.{ruled, afterColumns, verdictAnswer, said as checkSaid}
+use Rattle.marking.specs.Answer.{ruled, afterColumns, verdictAnswer, verdictSaid, said as checkSaid}
 use Rattle.marking.proofs.ContentLaws.{content-readable}
 use Rattle.counts.specs.declared.Counting.{Counting}
 use Rattle.counts.specs.declared.Tallying.{Tallying}

@@ -19,9 +19,9 @@ use Rattle.opacity.specs.declared.verdict.Verdict.{Verdict}
 use Rattle.opacity.specs.declared.verdict.Verdict.the-variants.{Accepted, Broken as Breaks}
 use Rattle.opacity.specs.Transactions.{storeReads}
 use Rattle.opacity.specs.Justification.{zeros}
-use Rattle.opacity.specs.Said.{verdictSaid}
 use Rattle.opacity.specs.Marking.{Marking, markingBytes, verdict}
 use Rattle.marking.specs.File.{known, FileRead, content, refused, fileRead}
+use Rattle.marking.specs.Answer.{verdictSaid}
 use Rattle.straighten.specs.declared.Straightening.{Straightening}
 use Rattle.straighten.specs.declared.Straightening.the-variants.{Straightened, Broken, Refused, MarkingRefused}
 use Rattle.straighten.specs.Straight.{straightened, movedEvents}

@@ -25,11 +25,11 @@ use Rattle.opacity.specs.Justification.{Place, isOrder}
 use Rattle.opacity.specs.Lowest.{place, lowestOf}
 use Rattle.opacity.specs.Marking.{Point, Marking, marked, markingBytes, verdict, outcomeNumber}
 use Rattle.opacity.specs.Scan.{scan}
-use Rattle.opacity.specs.Said.{verdictSaid, scannedSaid}
+use Rattle.scan.specs.Answer.{scannedSaid}
 use Rattle.opacity.specs.Serial.{runsRight}
 use Rattle.opacity.specs.Counts.{counts}
 use Rattle.counts.specs.Tally.{tally}
-use Rattle.marking.specs.Answer.{verdictAnswer, said as checkSaid}
+use Rattle.marking.specs.Answer.{verdictAnswer, verdictSaid, said as checkSaid}
 use Rattle.straighten.specs.Straight.{straightened, movedEvents}
 
 -- ---- histories

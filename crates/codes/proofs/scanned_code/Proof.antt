@@ -3,7 +3,7 @@
 use mathlib.Core.Path.{_≡_, refl, sym, ap, subst, _∙_}
 use native.Mathlib.Omega.{arith}
 use Rattle.opacity.specs.declared.verdict.Scanned.{Scanned}
-use Rattle.opacity.specs.Said.{scannedSaid}
+use Rattle.scan.specs.Answer.{scannedSaid}
 use Rattle.codes.specs.Codes.{coded, place, Known}
 use borrow.Author.Needs.{needs}
 use Rattle.codes.proofs.scanned_code.Statement.{statement}
