@@ -2,7 +2,7 @@
 -- and no lent buffer changes where a call is not done, nor behind what it gives where it is. A number is read as the header says (`decoded`);
 -- `count ≤ most` is what the type of a count says.
 -- Assumes nothing.
-use Prim.Native.Nat.{ℕ, _≤_}
+use Prim.Native.Nat.{ℕ, _+_, _≤_}
 use native.Mathlib.Omega.{arith}
 use mathlib.Core.Path.{_≡_, refl, sym, ap, subst, _∙_}
 use mathlib.Core.Bool.{true}
@@ -10,8 +10,8 @@ use mathlib.Core.List.{List, [], _∷_, map}
 use lib.ListN.{length, take, drop, length-map}
 use Rattle.events.specs.declared.event.Event.{Event}
 use Rattle.events.specs.Bytes.{Bytes, over}
-use Rattle.events.specs.Columns.{Columns, hold, filledWith, Fitting}
-use Rattle.events.specs.Said.{Said, done, nothing}
+use Rattle.events.specs.Columns.{Columns, history, hold, filledWith, Fitting}
+use Rattle.events.specs.Said.{done, faulted, broken}
 use Rattle.events.specs.Starts.{FittingStarts}
 use Rattle.events.proofs.BufferLaws.{drop-over}
 use Rattle.reader.specs.declared.Reading.{Reading}
@@ -24,16 +24,26 @@ use Rattle.finder.specs.declared.Finding.{Finding}
 use Rattle.finder.specs.Answer.{foundAnswer, said as foundSaid}
 use Rattle.finder.proofs.AnswerLaws.{said-marking}
 use Rattle.finder.proofs.Theorems.{written, refused-unchanged, none-unchanged}
+use Rattle.opacity.specs.declared.verdict.Rule.the-variants.{D}
+use Rattle.opacity.specs.declared.verdict.Scanned.{Scanned}
+use Rattle.opacity.specs.Counts.{counts}
+use Rattle.scan.specs.Answer.{scanAnswer, said as scanSaid}
+use Rattle.scan.proofs.AnswerLaws.{said-scanned}
+use Rattle.scan.proofs.Theorems.{no-cause-four}
 use Rattle.marking.specs.Answer.{verdictAnswer, said as checkSaid}
 use Rattle.straighten.specs.declared.Straightening.{Straightening}
 use Rattle.straighten.specs.Answer.{straightenedAnswer, said as straightSaid}
-use Rattle.straighten.proofs.Theorems.{said-straightened, untouched, written-behind, written-accepted}
+use Rattle.straighten.proofs.AnswerLaws.{told as straight-told}
+use Rattle.straighten.proofs.Theorems.{said-straightened, said-broken, never-broken-D, untouched, written-behind, written-accepted}
+use Rattle.counts.specs.declared.tally.Tally.{Tally}
+use Rattle.counts.proofs.Theorems.{adds-up}
 use Rattle.codes.specs.Codes.{most, coded}
-use Rattle.codes.specs.Decoded.{decoded, oneValue, twoValues, always, never, ofMarking, codeOf}
+use Rattle.codes.specs.Decoded.{decoded, noValue, oneValue, twoValues, fourValues, always, never, ofMarking, codeOf}
 use Rattle.codes.proofs.CodeLaws.{told-back, done-code}
-use Rattle.sendoshi.specs.Calls.{put, startsAfter, readCall, writeCall, findCall, checkCall, straightenCall}
-use Rattle.sendoshi.proofs.Bounds.{read-told, write-told, find-told, straighten-told}
+use Rattle.sendoshi.specs.Calls.{put, startsAfter, readCall, writeCall, findCall, scanCall, checkCall, straightenCall, transactionsCall, tallyCall}
+use Rattle.sendoshi.proofs.Bounds.{read-told, write-told, find-told, scan-told, straighten-told, transactions-told, tally-told}
 use Rattle.promises.proofs.FinderAccepted.{found-accepted}
+use Rattle.promises.proofs.SaidBy.{transactions-exactly, tallied-exactly}
 
 -- ---- what an answer is, by what its number says
 
@@ -190,3 +200,32 @@ module _ (edition : ℕ) (starts : List ℕ) (c : Columns) (count : ℕ) (small 
     pub straighten-behind : (drop n (straightenCall edition starts c count file out list .output) ≡ drop n out) × (drop k (straightenCall edition starts c count file out list .list) ≡ drop k list)
     unfolding straightenCall
     straighten-behind = written-behind edition starts c count file out list n k is-straight
+
+-- ---- what no call says
+
+-- code 104 never comes of a scan,
+pub scan-never-104 : (edition : ℕ) (starts : List ℕ) (c : Columns) (count : ℕ) → count ≤ most → (e : ℕ) → decoded noValue never (scanCall edition starts c count) ≡ faulted e 4 → ⊥
+unfolding scanCall
+scan-never-104 edition starts c count small e x =
+    let s : scanSaid (scanAnswer edition starts c count) ≡ faulted e 4 = sym (told-back noValue never _ (scan-told edition starts c count small)) ∙ x in
+    no-cause-four edition starts c count e (said-scanned (scanAnswer edition starts c count) (Scanned.Faulted e 4) s)
+
+-- and 204 never of a straightening
+pub straighten-never-204 : (edition : ℕ) (starts : List ℕ) (c : Columns) (count : ℕ) → count ≤ most → (file out list : List ℕ) (e t : ℕ)
+    → decoded twoValues ofMarking (straightenCall edition starts c count file out list .number) ≡ broken 4 e t → ⊥
+straighten-never-204 edition starts c count small file out list e t x =
+    let s = said-broken _ D e t (sym (straighten-says edition starts c count small file out list) ∙ x) in
+    let w = straight-told edition starts c count file out list (Straightening.Broken D e t) s .0 in
+    never-broken-D edition starts c count file out list (w .0) (w .1) e t s
+
+-- ---- the tally
+
+-- The four numbers of a tally add up to the transactions that the same columns are told to hold.
+pub tally-adds-up : (c : Columns) (count : ℕ) → count ≤ most → (x : Tally)
+    → decoded fourValues never (tallyCall c count) ≡ done (x .committed ∷ x .aborted ∷ x .pending ∷ x .live ∷ [])
+    → decoded oneValue never (transactionsCall c count) ≡ done (x .committed + x .aborted + x .pending + x .live ∷ [])
+unfolding tallyCall transactionsCall counts
+tally-adds-up c count small x t =
+    let w = tallied-exactly c count x .0 (sym (told-back fourValues never _ (tally-told c count small)) ∙ t) in
+    let s = ap (λ (y : Tally). y .committed + y .aborted + y .pending + y .live) (sym (w .1)) ∙ adds-up (history c count) in
+    told-back oneValue never _ (transactions-told c count small) ∙ transactions-exactly c count _ .1 (w .0, sym s)

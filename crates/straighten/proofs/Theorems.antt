@@ -220,7 +220,7 @@ said-straightened (Broken q i t) k l e = absurd (let z : _≡_ {A = ℕ} 0 1 = c
 said-straightened (Refused r) k l e = absurd (let z : _≡_ {A = ℕ} 0 1 = cc in omega arith)
 said-straightened (MarkingRefused r) k l e = absurd (let z : _≡_ {A = ℕ} 0 1 = cc in omega arith)
 
-said-broken : (x : Straightening) (q : Rule) (i t : ℕ) → said x ≡ broken (ruleNumber q) i t → x ≡ Broken q i t
+pub said-broken : (x : Straightening) (q : Rule) (i t : ℕ) → said x ≡ broken (ruleNumber q) i t → x ≡ Broken q i t
 unfolding said
 said-broken (Straightened a b) q i t e = absurd (let z : _≡_ {A = ℕ} 0 1 = cc in omega arith)
 said-broken (Broken r j u) q i t e =
