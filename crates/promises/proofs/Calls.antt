@@ -2,7 +2,7 @@
 -- and no lent buffer changes where a call is not done, nor behind what it gives where it is. A number is read as the header says (`decoded`);
 -- `count ≤ most` is what the type of a count says.
 -- Assumes nothing.
-use Prim.Native.Nat.{ℕ, _+_, _≤_}
+use Prim.Native.Nat.{ℕ, _+_, _*_, _≤_}
 use native.Mathlib.Omega.{arith}
 use mathlib.Core.Path.{_≡_, refl, sym, ap, subst, _∙_}
 use mathlib.Core.Bool.{true}
@@ -13,20 +13,27 @@ use Rattle.events.specs.Bytes.{Bytes, over}
 use Rattle.events.specs.Columns.{Columns, history, hold, filledWith, Fitting}
 use Rattle.events.specs.Said.{done, faulted, broken}
 use Rattle.events.specs.Starts.{FittingStarts}
+use Rattle.events.specs.Events.{begins}
+use Rattle.events.specs.Lists.{range}
 use Rattle.events.proofs.BufferLaws.{drop-over}
+use Rattle.events.proofs.ColumnLaws.{history-length}
+use Rattle.events.proofs.ListLaws.{keep-length, range-length}
 use Rattle.reader.specs.declared.Reading.{Reading}
 use Rattle.reader.specs.declared.HistoryRead.{HistoryRead}
 use Rattle.reader.specs.Reading.{readAnswer, told, saidOf, said as readSaid}
 use Rattle.writer.specs.declared.Writing.{Writing}
-use Rattle.writer.specs.Writing.{WrittenAnswer, SameEntries, writtenAnswer, said as writtenSaid}
+use Rattle.writer.proofs.FileLaws.{length-file, length-most}
+use Rattle.writer.proofs.StartLaws.{starts-most}
+use Rattle.writer.specs.Writing.{fileOf, WrittenAnswer, SameEntries, writtenAnswer, said as writtenSaid}
 use Rattle.writer.proofs.RoundTrip.{was-read, read-written, written-read, nothing-behind, refused-unread, refused-unwritten}
 use Rattle.finder.specs.declared.Finding.{Finding}
-use Rattle.finder.specs.Answer.{foundAnswer, said as foundSaid}
+use Rattle.finder.specs.Answer.{markingSize, foundAnswer, said as foundSaid}
 use Rattle.finder.proofs.AnswerLaws.{said-marking}
 use Rattle.finder.proofs.Theorems.{written, refused-unchanged, none-unchanged}
 use Rattle.opacity.specs.declared.verdict.Rule.the-variants.{D}
 use Rattle.opacity.specs.declared.verdict.Scanned.{Scanned}
 use Rattle.opacity.specs.Counts.{counts}
+use Rattle.opacity.specs.Transactions.{isStoreRead, storeReads}
 use Rattle.scan.specs.Answer.{scanAnswer, said as scanSaid}
 use Rattle.scan.proofs.AnswerLaws.{said-scanned}
 use Rattle.scan.proofs.Theorems.{no-cause-four}
@@ -229,3 +236,15 @@ tally-adds-up c count small x t =
     let w = tallied-exactly c count x .0 (sym (told-back fourValues never _ (tally-told c count small)) ∙ t) in
     let s = ap (λ (y : Tally). y .committed + y .aborted + y .pending + y .live) (sym (w .1)) ∙ adds-up (history c count) in
     told-back oneValue never _ (transactions-told c count small) ∙ transactions-exactly c count _ .1 (w .0, sym s)
+
+-- ---- buffers that are long enough
+
+-- an output of SENDOSHI_FILE_SIZE(count) bytes holds the file of any history of so many events,
+pub file-fits : (edition : ℕ) (starts : List ℕ) (c : Columns) (count : ℕ) → length (fileOf edition starts (history c count)) ≤ 6 + 10 * 32 + 12 * count
+file-fits edition starts c count =
+    omega (arith, length-file edition starts (history c count), starts-most starts 32, length-most (history c count), history-length c count)
+
+-- and one of SENDOSHI_MARKING_SIZE(prefix) the marking of any prefix of at most 10 transactions
+pub marking-fits : (h : List Event) → begins h ≤ 10 → markingSize h ≤ 6 + 8 * 10 + 10 * length h
+unfolding storeReads
+marking-fits h few = omega (arith, keep-length (isStoreRead h) (range (length h)), range-length (length h))

@@ -3,6 +3,7 @@
 -- point, is in StraightLaws and RuleLaws.
 -- Assumes nothing.
 use Prim.Native.Nat.{ℕ, _<_}
+use native.Mathlib.Omega.{arith}
 use mathlib.Core.Path.{_≡_, refl, sym, ap, _∙_}
 use mathlib.Core.Logic.{_↔_, _⊎_, ⊎-elim}
 use mathlib.Core.Bool.{Bool, true, false, cond}
@@ -12,7 +13,7 @@ use Rattle.events.specs.declared.event.Event.{Event}
 use Rattle.events.specs.declared.columns.Checked.{Checked}
 use Rattle.events.specs.declared.columns.Checked.the-variants.{Readable, Refused as Refuses}
 use Rattle.events.specs.declared.refusal.Refusal.{Refusal}
-use Rattle.events.specs.Said.{done, broken, atEvent, atByte, refuse}
+use Rattle.events.specs.Said.{done as isDone, broken, atEvent, atByte, refuse}
 use Rattle.events.specs.Bytes.{Bytes, over}
 use Rattle.events.specs.Events.{eventAt}
 use Rattle.events.specs.Columns.{Columns, history, hold}
@@ -213,7 +214,7 @@ module _ (edition : ℕ) (starts : List ℕ) (c : Columns) (n : ℕ) (file outpu
 
 -- ---- what the straightening says, for every call
 
-pub said-straightened : (x : Straightening) (k l : ℕ) → said x ≡ done (k ∷ l ∷ []) → x ≡ Straightened k l
+pub said-straightened : (x : Straightening) (k l : ℕ) → said x ≡ isDone (k ∷ l ∷ []) → x ≡ Straightened k l
 unfolding said
 said-straightened (Straightened a b) k l e = cc
 said-straightened (Broken q i t) k l e = absurd (let z : _≡_ {A = ℕ} 0 1 = cc in omega arith)
@@ -256,7 +257,7 @@ module _ (edition : ℕ) (starts : List ℕ) (c : Columns) (n : ℕ) (file outpu
   result = straightenedAnswer edition starts c n file output list .result
 
   -- It has succeeded exactly if no question says no and the outcomes and order that the file holds are a justification.
-  pub straightened-said : ((k : ℕ) × (l : ℕ) × (said result ≡ done (k ∷ l ∷ [])))
+  pub straightened-said : ((k : ℕ) × (l : ℕ) × (said result ≡ isDone (k ∷ l ∷ [])))
       ↔ ((m : Marking) × Passes edition starts c n file output list m × Justified (startOf starts) (history c n) (m .places))
   unfolding said
   straightened-said = (
