@@ -230,7 +230,7 @@ straighten-never-204 edition starts c count small file out list e t x =
 -- The four numbers of a tally add up to the transactions that the same columns are told to hold.
 pub tally-adds-up : (c : Columns) (count : ℕ) → count ≤ most → (x : Tally)
     → decoded fourValues never (tallyCall c count) ≡ done (x .committed ∷ x .aborted ∷ x .pending ∷ x .live ∷ [])
-    → decoded oneValue never (transactionsCall c count) ≡ done (x .committed + x .aborted + x .pending + x .live ∷ [])
+    → decoded oneValue never (transactionsCall c count) ≡ done ((x .committed + x .aborted + x .pending + x .live) ∷ [])
 unfolding tallyCall transactionsCall counts
 tally-adds-up c count small x t =
     let w = tallied-exactly c count x .0 (sym (told-back fourValues never _ (tally-told c count small)) ∙ t) in

@@ -38,7 +38,7 @@ accepted-in-words edition starts c n file =
             fine = j .fine;
             marking = j .marking;
             holds = j .holds;
-            explains = explains-iff (startOf starts) (history c n) r (j .marking .places) .0 (j .justified);
+            explains = explains-iff (startOf starts) (history c n) (j .marking .places) r .0 (j .justified);
             between = D-means zeros (history c n) (j .marking) .0 (j .ruleD);
           },
       λ w.
@@ -48,7 +48,7 @@ accepted-in-words edition starts c n file =
             fine = w .fine;
             marking = w .marking;
             holds = w .holds;
-            justified = explains-iff (startOf starts) (history c n) r (w .marking .places) .1 (w .explains);
+            justified = explains-iff (startOf starts) (history c n) (w .marking .places) r .1 (w .explains);
             ruleD = D-means zeros (history c n) (w .marking) .1 (w .between);
           }),
     )
@@ -58,15 +58,15 @@ pub straightened-in-words : (edition : ℕ) (starts : List ℕ) (c : Columns) (n
     ↔ ((m : Marking) × Passes edition starts c n file output list m × Explains (startOf starts) (history c n) (m .places))
 straightened-in-words edition starts c n file output list =
     let a = straightened-said edition starts c n file output list in (
-      λ x. let w = a .0 x in (w .0, w .1, explains-iff (startOf starts) (history c n) (history-readable edition starts c n (w .1 .fine) .1) (w .0 .places) .0 (w .2)),
-      λ w. a .1 (w .0, w .1, explains-iff (startOf starts) (history c n) (history-readable edition starts c n (w .1 .fine) .1) (w .0 .places) .1 (w .2)),
+      λ x. let w = a .0 x in (w .0, w .1, explains-iff (startOf starts) (history c n) (w .0 .places) (history-readable edition starts c n (w .1 .fine) .1) .0 (w .2)),
+      λ w. a .1 (w .0, w .1, explains-iff (startOf starts) (history c n) (w .0 .places) (history-readable edition starts c n (w .1 .fine) .1) .1 (w .2)),
     )
 
 -- every prefix of a readable history has a justification exactly if every prefix is explained
 all-in-words : (start : ℕ → ℕ) (h : List Event) → readable h ≡ true → AllJustified start h ↔ AllExplained start h
 all-in-words start h r = (
-  λ f n l. let w = f n l in (w .0, explains-iff start (take n h) (readable-take h n l r) (w .0) .0 (w .1)),
-  λ f n l. let w = f n l in (w .0, explains-iff start (take n h) (readable-take h n l r) (w .0) .1 (w .1)),
+  λ f n l. let w = f n l in (w .0, explains-iff start (take n h) (w .0) (readable-take h n l r) .0 (w .1)),
+  λ f n l. let w = f n l in (w .0, explains-iff start (take n h) (w .0) (readable-take h n l r) .1 (w .1)),
 )
 
 pub opaque-in-words : (edition : ℕ) (starts : List ℕ) (c : Columns) (count : ℕ)
