@@ -49,7 +49,7 @@ fn a_tally_follows_the_events() {
     for (length, [committed, aborted, pending, live]) in expected {
         let tally = history.prefix(length).unwrap().tally();
         assert_eq!(tally, Tally { committed, aborted, pending, live }, "{length} events");
-        let answer = calls::tally(history.columns(), length);
+        let answer = calls::tally(history.columns(), length as u32);
         assert_eq!((answer.code, answer.quarters()), (0, [committed, aborted, pending, live]), "{length} of 10 events");
     }
 }
@@ -131,6 +131,10 @@ fn a_prefix_is_a_history() {
     assert_eq!(prefix.check(&marking), Ok(Verdict::Accepted));
     assert_eq!(history.prefix(11), None);
     assert!(history.prefix(0).unwrap().is_empty());
+    // Cut to 32 or to 16 bits, the last three would be prefixes of six events.
+    for long in [11, u32::MAX as usize, usize::MAX, 65_536 + 6, (1 << 32) + 6, (1 << 48) + 6] {
+        assert_eq!(history.lowest_marking(long), Err(refusal(Question::PrefixTooLong, Place::Event(10))), "{long} events");
+    }
 }
 
 /// H0 over a store in which register 3 starts with 9 and register 31 with 1.
