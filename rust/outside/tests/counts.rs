@@ -4,7 +4,8 @@ use outside::vast::Vast;
 use reference::event::Columns as Held;
 use reference::log::Log;
 use reference::worked::h0_marking;
-use sendoshi::{calls, Answer, Columns, ColumnsMut, History, Place, Question, Refusal, Store};
+use sendoshi::{calls, ffi, Answer, Columns, ColumnsMut, History, Place, Question, Refusal, Store};
+use std::mem::transmute;
 
 /// Numbers above the ten events of H0, up to the largest. Four of them are ten or less in their lower bits.
 const BEYOND: [u32; 8] = [11, 65_535, 65_546, 256 + 10, 1 << 31, (1 << 31) + 10, u32::MAX - 1, u32::MAX];
@@ -129,4 +130,49 @@ fn vast_files_are_too_long() {
     assert_eq!(calls::read(history.slice(), &mut [0; 32], columns), too_long);
     assert_eq!(calls::check(Store::ZERO, view(&held), 10, marking.slice()), too_long);
     assert_eq!(calls::straighten(Store::ZERO, view(&held), 10, marking.slice(), &mut [0; 42], &mut [0; 2]), too_long);
+}
+
+type W = u64;
+
+/// A function of the archive as the processor sees it: on x86-64 each number and each pointer is passed in a word of 64 bits.
+type Words = unsafe extern "C" fn(W, W, W, W, W, W, W, W, W, W, W, W, W, W, W, W, W) -> u64;
+
+/// # Safety
+/// The words are those of the function's parameters, of which it has at most 17; it does not look at those behind them.
+unsafe fn called(function: *const (), words: &[&[W]]) -> Answer {
+    let mut all = words.concat();
+    all.resize(17, 0);
+    let &[a, b, c, d, e, f, g, h, i, j, k, l, m, n, o, p, q] = &all[..] else { panic!("more than 17 words") };
+    Answer::of(transmute::<*const (), Words>(function)(a, b, c, d, e, f, g, h, i, j, k, l, m, n, o, p, q))
+}
+
+/// The archive takes counts and prefixes of 32 bits, as header and wrapper declare them: what a caller leaves in the upper half of a
+/// word makes no difference.
+#[test]
+fn counts_have_32_bits_in_the_archive() {
+    let (held, starts, file) = (h0(), [0u32; 32], h0_marking());
+    let Held { kinds: k, transactions: t, registers: r, values: v } = &held;
+    let columns = [k.as_ptr() as W, 10, t.as_ptr() as W, 10, r.as_ptr() as W, 10, v.as_ptr() as W, 10];
+    let marking = [file.as_ptr() as W, file.len() as W];
+    let (mut output, mut moved) = ([0u8; 88], [0u32; 2]);
+    let (output, moved) = ([output.as_mut_ptr() as W, 88], [moved.as_mut_ptr() as W, 2]);
+    for above in [1 << 32, 0xdead_beef << 32, W::MAX << 32] {
+        let (store, count, prefix) = ([above | 1, starts.as_ptr() as W], [above | 10], [above | 6]);
+        // SAFETY: the words are those that the header asks for; the buffers live through the calls and overlap nowhere.
+        let answers = unsafe {
+            [
+                called(ffi::sendoshi_write as *const (), &[&store, &columns, &count, &output]),
+                called(ffi::sendoshi_find as *const (), &[&store, &columns, &count, &prefix, &output]),
+                called(ffi::sendoshi_scan as *const (), &[&store, &columns, &count]),
+                called(ffi::sendoshi_check as *const (), &[&store, &columns, &count, &marking]),
+                called(ffi::sendoshi_straighten as *const (), &[&store, &columns, &count, &marking, &output, &moved]),
+                called(ffi::sendoshi_transactions as *const (), &[&columns, &count]),
+                called(ffi::sendoshi_store_reads as *const (), &[&columns, &count]),
+                called(ffi::sendoshi_tally as *const (), &[&columns, &count]),
+            ]
+        };
+        // H0 has 88 bytes and its marking 42; that of its first six events has a read point less.
+        let expected = [88, 32, 0, 0, 42, 2, 2, 0x0100_0001].map(|place| Answer { code: 0, place });
+        assert_eq!(answers, expected, "with {above:x} above each number");
+    }
 }

@@ -114,8 +114,8 @@ impl History {
         if lengths.into_iter().any(|length| length < longest) {
             return Err(Refusal { question: Question::CountTooLarge, place: Place::Event(longest) });
         }
-        // Where there are more events than a count can say, one of the first 2,049 is refused, whatever the count is.
-        let count = u32::try_from(longest).unwrap_or(u32::MAX);
+        // Of more than 2,048 events one of the first 2,049 is refused, however many there are.
+        let count = longest.min(MOST_EVENTS + 1) as u32;
         calls::transactions(columns, count).done(Place::Event)?;
         Ok(History {
             edition: store.edition,

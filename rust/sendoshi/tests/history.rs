@@ -121,6 +121,18 @@ fn an_event_is_refused_by_its_own_question() {
     assert_eq!(History::from_columns(columns), Err(refusal(Question::StrayField, Place::Event(9))));
 }
 
+/// One transaction that goes on reading. The last two lengths are small in their lower 16 bits.
+#[test]
+fn a_history_has_at_most_2048_events() {
+    for length in [2_047, 2_048, 2_049, 2_050, 65_536, 65_546] {
+        let kinds: Vec<u16> = [16].into_iter().chain([17, 18].into_iter().cycle()).take(length).collect();
+        let (zeros, values) = (vec![0; length], vec![0; length]);
+        let columns = Columns { kinds: &kinds, transactions: &zeros, registers: &zeros, values: &values };
+        let expected = if length > 2_048 { Err(refusal(Question::TooManyEvents, Place::Event(2_048))) } else { Ok(length) };
+        assert_eq!(History::from_columns(columns).map(|history| history.len()), expected, "{length} events");
+    }
+}
+
 #[test]
 fn a_prefix_is_a_history() {
     let history = h0();
