@@ -125,8 +125,8 @@ int main(int argc, char **argv)
     }
     uint16_t edition = (uint16_t)sendoshi_read_edition(read);
     uint32_t count = sendoshi_read_count(read);
-    printf("events %" PRIu32 " transactions %" PRIu32 " reads %" PRIu32 "\n", count, sendoshi_place(sendoshi_transactions(COLUMNS, count)),
-           sendoshi_place(sendoshi_store_reads(COLUMNS, count)));
+    printf("events %" PRIu32 " transactions %" PRIu32 " reads %" PRIu32 "\n", count,
+           sendoshi_place(sendoshi_transactions(COLUMNS, count)), sendoshi_place(sendoshi_store_reads(COLUMNS, count)));
     print_tally(sendoshi_tally(COLUMNS, count));
     print_marking(sendoshi_check(edition, starts, COLUMNS, count, marking, marking_length));
     print_opaque(sendoshi_scan(edition, starts, COLUMNS, count));

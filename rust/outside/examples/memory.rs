@@ -2,6 +2,7 @@
 //! Run under valgrind (`valgrind.sh`) it shows that no call reaches beyond a buffer, or lets what an output held before decide
 //! anything. The argument is the number of rounds.
 
+use outside::lent::lent_count;
 use outside::limits;
 use outside::marks::marked_history;
 use outside::random::Random;
@@ -58,14 +59,15 @@ fn all_calls(log: &Log, history: &[u8], marking: &[u8]) {
     output_call(ffi_write, |output| entries::write(store, &columns, count, output), store, &columns, count, file(log).len());
     let exact = Exact::new(store, &columns);
     let marking: Box<[u8]> = marking.into();
-    let checked = calls::check(exact.store(), exact.view(), count, &marking);
+    let lent = lent_count(count);
+    let checked = calls::check(exact.store(), exact.view(), lent, &marking);
     assert_eq!(plain(checked), entries::check(store, &columns, count, &marking));
-    assert_eq!(plain(calls::transactions(exact.view(), count)), entries::transactions(&columns, count));
-    assert_eq!(plain(calls::store_reads(exact.view(), count)), entries::store_reads(&columns, count));
-    assert_eq!(plain(calls::tally(exact.view(), count)), entries::tally(&columns, count));
+    assert_eq!(plain(calls::transactions(exact.view(), lent)), entries::transactions(&columns, count));
+    assert_eq!(plain(calls::store_reads(exact.view(), lent)), entries::store_reads(&columns, count));
+    assert_eq!(plain(calls::tally(exact.view(), lent)), entries::tally(&columns, count));
     straighten(store, &columns, count, &marking, store_reads(events).count());
     if is_judged_quickly(events) {
-        assert_eq!(plain(calls::scan(exact.store(), exact.view(), count)), entries::scan(store, &columns, count));
+        assert_eq!(plain(calls::scan(exact.store(), exact.view(), lent)), entries::scan(store, &columns, count));
         let expected = |output: &mut [u8]| entries::find(store, &columns, count, count, output);
         output_call(ffi_find, expected, store, &columns, count, marking_size(events));
     }
@@ -158,7 +160,7 @@ fn read(file: &[u8], count: usize) {
 
 /// A call that fills an output: once with an output that is just long enough, and once with one that is a byte too short.
 fn output_call(
-    call: fn(&Exact, usize, &mut [MaybeUninit<u8>]) -> u64,
+    call: fn(&Exact, u32, &mut [MaybeUninit<u8>]) -> u64,
     reference: impl Fn(&mut [u8]) -> Answer,
     store: &Store,
     columns: &Columns,
@@ -168,7 +170,7 @@ fn output_call(
     for length in [needed, needed - 1] {
         let exact = Exact::new(store, columns);
         let mut output = Box::<[u8]>::new_uninit_slice(length);
-        let got = plain(sendoshi::Answer::of(call(&exact, count, &mut output)));
+        let got = plain(sendoshi::Answer::of(call(&exact, lent_count(count), &mut output)));
         let mut expected = vec![0; length];
         assert_eq!(got, reference(&mut expected));
         if got.code == 0 {
@@ -184,7 +186,7 @@ fn straighten(store: &Store, columns: &Columns, count: usize, file: &[u8], point
         let exact = Exact::new(store, columns);
         let mut output = Box::<[u8]>::new_uninit_slice(length);
         let mut list = Box::<[u32]>::new_uninit_slice(entries);
-        let got = sendoshi::Answer::of(ffi_straighten(&exact, count, file, &mut output, &mut list));
+        let got = sendoshi::Answer::of(ffi_straighten(&exact, lent_count(count), file, &mut output, &mut list));
         let (mut expected, mut expected_list) = (vec![0; length], vec![0; entries]);
         assert_eq!(plain(got), entries::straighten(store, columns, count, file, &mut expected, &mut expected_list));
         if got.code == 0 {
@@ -195,7 +197,7 @@ fn straighten(store: &Store, columns: &Columns, count: usize, file: &[u8], point
     }
 }
 
-fn ffi_write(c: &Exact, count: usize, output: &mut [MaybeUninit<u8>]) -> u64 {
+fn ffi_write(c: &Exact, count: u32, output: &mut [MaybeUninit<u8>]) -> u64 {
     // SAFETY: pointers and lengths are those of the boxes and slices.
     unsafe {
         ffi::sendoshi_write(
@@ -216,7 +218,7 @@ fn ffi_write(c: &Exact, count: usize, output: &mut [MaybeUninit<u8>]) -> u64 {
     }
 }
 
-fn ffi_find(c: &Exact, count: usize, output: &mut [MaybeUninit<u8>]) -> u64 {
+fn ffi_find(c: &Exact, count: u32, output: &mut [MaybeUninit<u8>]) -> u64 {
     // SAFETY: pointers and lengths are those of the boxes and slices.
     unsafe {
         ffi::sendoshi_find(
@@ -238,7 +240,7 @@ fn ffi_find(c: &Exact, count: usize, output: &mut [MaybeUninit<u8>]) -> u64 {
     }
 }
 
-fn ffi_straighten(c: &Exact, count: usize, file: &[u8], output: &mut [MaybeUninit<u8>], list: &mut [MaybeUninit<u32>]) -> u64 {
+fn ffi_straighten(c: &Exact, count: u32, file: &[u8], output: &mut [MaybeUninit<u8>], list: &mut [MaybeUninit<u32>]) -> u64 {
     // SAFETY: pointers and lengths are those of the boxes and slices.
     unsafe {
         ffi::sendoshi_straighten(

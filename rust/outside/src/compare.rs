@@ -1,7 +1,7 @@
 //! One call put to the library and to the brute force: the answers must be equal, and so must all buffers afterwards.
 
 use crate::coverage::{Coverage, Entry};
-use crate::lent::{lent_starts, Lent, LentColumns, LentStore};
+use crate::lent::{lent_count, lent_starts, Lent, LentColumns, LentStore};
 use crate::stores;
 use crate::tallies;
 use reference::entries::{self, Answer};
@@ -37,7 +37,7 @@ pub fn read(file: &[u8], starts: &mut [u32; REGISTERS], columns: &mut Columns, c
 pub fn write(store: &Store, columns: &Columns, count: usize, output: &mut [u8], coverage: &mut Coverage) -> Answer {
     let (lent_store, lent) = (LentStore::new(store), LentColumns::new(columns));
     let mut lent_output = Lent::new(output, BYTE);
-    let got = calls::write(lent_store.view(), lent.view(), count, lent_output.slice_mut());
+    let got = calls::write(lent_store.view(), lent.view(), lent_count(count), lent_output.slice_mut());
     let answer = same(Entry::Write, got, entries::write(store, columns, count, output), coverage);
     assert!(lent_store.holds(store), "write changed its start values");
     assert!(lent.hold(columns), "write changed its columns");
@@ -49,7 +49,7 @@ pub fn write(store: &Store, columns: &Columns, count: usize, output: &mut [u8], 
 pub fn find(store: &Store, columns: &Columns, count: usize, prefix: usize, output: &mut [u8], coverage: &mut Coverage) -> Answer {
     let (lent_store, lent) = (LentStore::new(store), LentColumns::new(columns));
     let mut lent_output = Lent::new(output, BYTE);
-    let got = calls::find(lent_store.view(), lent.view(), count, prefix, lent_output.slice_mut());
+    let got = calls::find(lent_store.view(), lent.view(), lent_count(count), lent_count(prefix), lent_output.slice_mut());
     let answer = same(Entry::Find, got, entries::find(store, columns, count, prefix, output), coverage);
     assert!(lent_store.holds(store), "find changed its start values");
     assert!(lent.hold(columns), "find changed its columns");
@@ -60,7 +60,7 @@ pub fn find(store: &Store, columns: &Columns, count: usize, prefix: usize, outpu
 /// Judges every prefix.
 pub fn scan(store: &Store, columns: &Columns, count: usize, coverage: &mut Coverage) -> Answer {
     let (lent_store, lent) = (LentStore::new(store), LentColumns::new(columns));
-    let got = calls::scan(lent_store.view(), lent.view(), count);
+    let got = calls::scan(lent_store.view(), lent.view(), lent_count(count));
     let answer = same(Entry::Scan, got, entries::scan(store, columns, count), coverage);
     assert!(lent_store.holds(store), "scan changed its start values");
     assert!(lent.hold(columns), "scan changed its columns");
@@ -79,7 +79,7 @@ fn first_events(columns: &Columns, count: usize) -> Vec<Event> {
 pub fn check(store: &Store, columns: &Columns, count: usize, file: &[u8], coverage: &mut Coverage) -> Answer {
     let (lent_store, lent) = (LentStore::new(store), LentColumns::new(columns));
     let lent_file = Lent::new(file, BYTE);
-    let got = calls::check(lent_store.view(), lent.view(), count, lent_file.slice());
+    let got = calls::check(lent_store.view(), lent.view(), lent_count(count), lent_file.slice());
     let answer = same(Entry::Check, got, entries::check(store, columns, count, file), coverage);
     assert!(lent_store.holds(store), "check changed its start values");
     assert!(lent.hold(columns), "check changed its columns");
@@ -102,7 +102,7 @@ pub fn straighten(
     let mut lent_output = Lent::new(output, BYTE);
     let mut lent_list = Lent::new(list, EVENT);
     let (output_slice, list_slice) = (lent_output.slice_mut(), lent_list.slice_mut());
-    let got = calls::straighten(lent_store.view(), lent.view(), count, lent_file.slice(), output_slice, list_slice);
+    let got = calls::straighten(lent_store.view(), lent.view(), lent_count(count), lent_file.slice(), output_slice, list_slice);
     let answer = same(Entry::Straighten, got, entries::straighten(store, columns, count, file, output, list), coverage);
     assert!(lent_store.holds(store), "straighten changed its start values");
     assert!(lent.hold(columns), "straighten changed its columns");
@@ -115,8 +115,8 @@ pub fn straighten(
 /// Counts transactions and store reads.
 pub fn counts(columns: &Columns, count: usize, coverage: &mut Coverage) -> (Answer, Answer) {
     let lent = LentColumns::new(columns);
-    let begun = calls::transactions(lent.view(), count);
-    let reads = calls::store_reads(lent.view(), count);
+    let begun = calls::transactions(lent.view(), lent_count(count));
+    let reads = calls::store_reads(lent.view(), lent_count(count));
     assert!(lent.hold(columns), "a count changed its columns");
     (
         same(Entry::Transactions, begun, entries::transactions(columns, count), coverage),
@@ -127,9 +127,9 @@ pub fn counts(columns: &Columns, count: usize, coverage: &mut Coverage) -> (Answ
 /// Tallies the transactions.
 pub fn tally(columns: &Columns, count: usize, coverage: &mut Coverage) -> Answer {
     let lent = LentColumns::new(columns);
-    let got = calls::tally(lent.view(), count);
+    let got = calls::tally(lent.view(), lent_count(count));
     assert!(lent.hold(columns), "tally changed its columns");
-    tallies::adds_up(got, calls::transactions(lent.view(), count));
+    tallies::adds_up(got, calls::transactions(lent.view(), lent_count(count)));
     let answer = same(Entry::Tally, got, entries::tally(columns, count), coverage);
     if answer.code == answer::DONE {
         tallies::note(&first_events(columns, count), got, coverage);

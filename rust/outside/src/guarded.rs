@@ -6,14 +6,14 @@ use std::{ptr, slice};
 
 const PAGE: usize = 4_096;
 const NOTHING: c_int = 0;
-const READ_AND_WRITE: c_int = 1 | 2;
-const PRIVATE_AND_EMPTY: c_int = 0x02 | 0x20;
+pub(crate) const READ_AND_WRITE: c_int = 1 | 2;
+pub(crate) const PRIVATE_AND_EMPTY: c_int = 0x02 | 0x20;
 
 // As Linux on x86-64 has them; the standard library links them.
 extern "C" {
-    fn mmap(at: *mut c_void, length: usize, access: c_int, flags: c_int, file: c_int, offset: i64) -> *mut c_void;
-    fn mprotect(at: *mut c_void, length: usize, access: c_int) -> c_int;
-    fn munmap(at: *mut c_void, length: usize) -> c_int;
+    pub(crate) fn mmap(at: *mut c_void, length: usize, access: c_int, flags: c_int, file: c_int, offset: i64) -> *mut c_void;
+    pub(crate) fn mprotect(at: *mut c_void, length: usize, access: c_int) -> c_int;
+    pub(crate) fn munmap(at: *mut c_void, length: usize) -> c_int;
 }
 
 /// The side on which a buffer stands against a page that may not be touched.

@@ -70,6 +70,11 @@ pub fn lent_starts(starts: &[u32; REGISTERS]) -> Lent<u32> {
     Lent::new(starts, 0x5ac3_3ca5)
 }
 
+/// A number of events, as the library takes it beside columns.
+pub fn lent_count(events: usize) -> u32 {
+    u32::try_from(events).expect("a count of 32 bits")
+}
+
 /// Four columns lent to the library.
 pub struct LentColumns {
     kinds: Lent<u16>,

@@ -4,8 +4,8 @@
 //! from [`walk`] (random readable histories), [`simulate`] (a transactional memory), [`limits`] (histories at each limit),
 //! [`marks`] (markings) and [`damage`] (files, columns and markings that are not quite right). [`rounds`] runs many of them, each
 //! from a seed of its own. [`stores`] has the editions and start values that go with them. [`lent`] and [`guarded`] are the
-//! buffers that the calls are lent, [`views`] those of a log that is lent as it stands. [`straight`] has what is promised of a
-//! straightened marking, and [`tallies`] what is promised of a tally.
+//! buffers that the calls are lent, [`views`] those of a log that is lent as it stands, [`vast`] some with more entries than a count can
+//! say. [`straight`] has what is promised of a straightened marking, and [`tallies`] what is promised of a tally.
 //!
 //! Searches have inputs of their own: [`digest`] is what a search goes by, [`random_digest`] makes some, [`hard`] makes some that
 //! are hard, and [`schedule`] makes histories of them. [`tables_by_force`] knows their lowest order without searching.
@@ -29,5 +29,6 @@ pub mod stores;
 pub mod straight;
 pub mod tables_by_force;
 pub mod tallies;
+pub mod vast;
 pub mod views;
 pub mod walk;

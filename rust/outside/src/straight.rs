@@ -1,6 +1,6 @@
 //! What holds of a straightened marking, said of the library alone: the brute force has no part in it.
 
-use crate::lent::{LentColumns, LentStore};
+use crate::lent::{lent_count, LentColumns, LentStore};
 use reference::event::Columns as Held;
 use reference::log::Log;
 use reference::marking_file::Marking;
@@ -9,7 +9,7 @@ use sendoshi::{answer, calls, Answer, Columns, Store};
 /// Fails unless this answer to the straightening of a marking, with what was left in output and list, has all that is promised.
 pub fn keeps_its_promises(held: &Held, history: &Log, marking: &Marking, answer: Answer, output: &[u8], list: &[u32]) {
     let (lent_store, lent) = (LentStore::new(&history.store), LentColumns::new(held));
-    let (store, columns, count) = (lent_store.view(), lent.view(), history.events.len());
+    let (store, columns, count) = (lent_store.view(), lent.view(), lent_count(history.events.len()));
     let at_readers = Marking::of(&history.events, &marking.places).to_bytes();
     let verdict = calls::check(store, columns, count, &at_readers);
     if answer.code != answer::DONE {
@@ -41,9 +41,9 @@ fn points_are_moved(marking: &Marking, at_readers: &[u8], straight: &[u8], moved
 }
 
 /// The checker accepts the result, and straightening it again gives the same bytes and an empty list.
-fn nothing_is_left_to_move(store: Store, columns: Columns, count: usize, straight: &[u8]) {
+fn nothing_is_left_to_move(store: Store, columns: Columns, count: u32, straight: &[u8]) {
     assert_eq!(calls::check(store, columns, count, straight).code, answer::DONE, "a straightened marking is accepted");
-    let (mut again, mut list) = (vec![0; straight.len()], vec![0; count]);
+    let (mut again, mut list) = (vec![0; straight.len()], vec![0; count as usize]);
     let answer = calls::straighten(store, columns, count, straight, &mut again, &mut list);
     assert_eq!((answer.code, answer.halves()), (answer::DONE, (0, straight.len())), "a straightened marking is straight");
     assert_eq!(again, straight, "a straightened marking straightened again");

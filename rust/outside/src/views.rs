@@ -1,5 +1,6 @@
 //! A log as the library and plain Rust are lent it, and what plain Rust says of it.
 
+use crate::lent::lent_count;
 use plain::{Refusal, Scanned};
 use reference::event::Columns;
 use reference::justification::{Outcome, Place};
@@ -49,7 +50,7 @@ impl Views {
     /// The library's lowest marking of a prefix, or none.
     pub fn find(&self, prefix: usize) -> Option<Vec<u8>> {
         let mut output = self.output();
-        let answer = calls::find(self.library_store(), self.library(), self.count(), prefix, &mut output);
+        let answer = calls::find(self.library_store(), self.library(), lent_count(self.count()), lent_count(prefix), &mut output);
         output.truncate(answer.place as usize);
         match answer.code {
             answer::DONE => Some(output),
@@ -75,7 +76,7 @@ impl Views {
 
     /// What the library says of all prefixes.
     pub fn scan(&self) -> Answer {
-        calls::scan(self.library_store(), self.library(), self.count())
+        calls::scan(self.library_store(), self.library(), lent_count(self.count()))
     }
 
     /// What plain Rust says, by one of its ways to scan.

@@ -1,6 +1,7 @@
 //! What a register holds for a reader, worked out here by applying writes to a store: every way in which five transactions one after the
 //! other may have written it, in registers at both ends of the store, and writers whose commits are unanswered.
 
+use outside::lent::lent_count;
 use reference::event::Columns as Held;
 use reference::justification::Outcome;
 use reference::log::Log;
@@ -54,13 +55,13 @@ fn columns(held: &Held) -> Columns<'_> {
 
 fn scan(log: &Log) -> Answer {
     let held = Held::of(&log.events);
-    calls::scan(Store { edition: 2, starts: &log.store.starts }, columns(&held), log.events.len())
+    calls::scan(Store { edition: 2, starts: &log.store.starts }, columns(&held), lent_count(log.events.len()))
 }
 
 fn found(log: &Log) -> Vec<u8> {
     let held = Held::of(&log.events);
     let mut output = vec![0; 32_768];
-    let count = log.events.len();
+    let count = lent_count(log.events.len());
     let answer = calls::find(Store { edition: 2, starts: &log.store.starts }, columns(&held), count, count, &mut output);
     assert_eq!(answer.code, 0, "{log:?}");
     output.truncate(answer.place as usize);

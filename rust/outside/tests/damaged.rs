@@ -113,8 +113,8 @@ fn columns(random: &mut Random, log: &Log, coverage: &mut Coverage) {
     let count = match random.below(20) {
         0 => random.below(events.len() + 3),
         1 => {
-            let word = random.word() as usize;
-            random.pick(&[word, word >> 32, u32::MAX as usize, 1 << 32, usize::MAX])
+            let word = random.word() as u32;
+            random.pick(&[word, word >> 16, 65_536 + events.len() as u32, u32::MAX - 1, u32::MAX]) as usize
         }
         _ => events.len(),
     };
@@ -128,7 +128,7 @@ fn columns(random: &mut Random, log: &Log, coverage: &mut Coverage) {
         compare::scan(&store, &lent, count, coverage);
     }
     let prefix = match random.below(10) {
-        0 => count.saturating_add(1 + random.below(2)),
+        0 => (count + 1 + random.below(2)).min(u32::MAX as usize),
         1..=6 => count,
         _ => random.below(events.len() + 1),
     };

@@ -3,6 +3,7 @@
 
 use outside::damage;
 use outside::guarded::{Guarded, Side};
+use outside::lent::lent_count;
 use outside::limits;
 use outside::marks::marked_history;
 use outside::random::Random;
@@ -63,10 +64,11 @@ fn a_touch_beyond_a_buffer_is_stopped() {
 fn all_calls(random: &mut Random, log: &Log, file: &[u8], marking: &[u8]) {
     let Log { store, events } = log;
     let held = Given { store: *store, columns: columns_of(random, events) };
-    let (count, prefix) = (events.len(), random.below(events.len() + 1));
-    let (starts, lent) = (starts_for(random), columns_for(random, count));
+    let prefix = random.below(events.len() + 1);
+    let (starts, lent) = (starts_for(random), columns_for(random, events.len()));
     let written = output_for(random, history_file::write(store, events).len());
     let found = output_for(random, marking_size(&events[..prefix]));
+    let (count, prefix) = (lent_count(events.len()), lent_count(prefix));
     let straight = output_for(random, marking.len());
     let moved = list_for(random, store_reads(events).count());
     for side in SIDES {
@@ -112,7 +114,7 @@ fn fill(side: Side, guarded: &GuardedGiven, held: &Given, output: &[u8], call: i
 }
 
 /// The straightener, which fills an output and a list.
-fn straighten(side: Side, given: &GuardedGiven, held: &Given, count: usize, file: &Guarded<u8>, output: &[u8], list: &[u32]) {
+fn straighten(side: Side, given: &GuardedGiven, held: &Given, count: u32, file: &Guarded<u8>, output: &[u8], list: &[u32]) {
     let (mut guarded, mut guarded_list) = (Guarded::new(output, side), Guarded::new(list, side));
     let (plain_file, mut plain, mut plain_list) = (file.slice().to_vec(), output.to_vec(), list.to_vec());
     let expected = calls::straighten(held.store(), view(&held.columns), count, &plain_file, &mut plain, &mut plain_list);

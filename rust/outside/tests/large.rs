@@ -2,6 +2,7 @@
 //! the library against plain Rust, which judges them by trying alone, and against plain Rust that searches in the library's way.
 
 use outside::coverage::{Coverage, Entry};
+use outside::lent::lent_count;
 use outside::marks::{careless, changed, in_effect, random_marking};
 use outside::random::Random;
 use outside::rounds;
@@ -117,7 +118,7 @@ fn straightened(log: &Log, marking: &Marking, coverage: &mut Coverage) {
     let (views, file, count) = (Views::of(log), marking.to_bytes(), log.events.len());
     let (mut output, mut list) = (vec![0xee; file.len() + 10], vec![0xeeee; marking.points.len() + 1]);
     let (mut other_output, mut other_list) = (output.clone(), list.clone());
-    let answer = calls::straighten(views.library_store(), views.library(), count, &file, &mut output, &mut list);
+    let answer = calls::straighten(views.library_store(), views.library(), lent_count(count), &file, &mut output, &mut list);
     let other = plain::straighten(views.plain_store(), views.plain(), count, &file, &mut other_output, &mut other_list);
     let expected = match other.unwrap() {
         Straightened::Done { length, moved } => (0, moved * 65_536 + length),

@@ -2,6 +2,7 @@
 
 use outside::compare;
 use outside::coverage::{Coverage, Entry};
+use outside::lent::lent_count;
 use outside::limits;
 use reference::event::{Columns as Held, BEGIN};
 use reference::history_file::{self, start_record, START};
@@ -91,11 +92,11 @@ fn stores_are_refused_right_after_counts() {
     let wrong = Held::of(&Log::new().aborted(0).begin(16).events);
     let refused = [(1, [9; 32]), (0, [0; 32]), (3, [0; 32]), (258, [9; 32]), (65_535, [0; 32])];
     for held in [Held::of(&Log::h0().events), wrong, Held::default()] {
-        let (columns, count) = (view(&held), held.kinds.len());
+        let (columns, count) = (view(&held), lent_count(held.kinds.len()));
         for (edition, starts) in &refused {
             let store = Store { edition: *edition, starts };
-            let answer = Answer { code: 3, place: count as u32 };
-            for prefix in [0, count, count + 1, usize::MAX] {
+            let answer = Answer { code: 3, place: count };
+            for prefix in [0, count, count + 1, u32::MAX] {
                 assert_eq!(calls::find(store, columns, count, prefix, &mut []), answer, "edition {edition}, prefix {prefix}");
             }
             let answers = [
@@ -111,7 +112,7 @@ fn stores_are_refused_right_after_counts() {
             let mut starts = [0; 32];
             starts[register] = value;
             let answer = calls::scan(Store { edition: 1, starts: &starts }, columns, count);
-            assert_eq!(answer, Answer { code: 3, place: count as u32 }, "register {register} starts with {value}");
+            assert_eq!(answer, Answer { code: 3, place: count }, "register {register} starts with {value}");
         }
     }
 }
@@ -121,7 +122,7 @@ fn stores_are_refused_right_after_counts() {
 fn prefixes_keep_their_start_values() {
     // T0 reads the start value, then T1 hides it and T2 reads what T1 wrote.
     let log = Log::starting(&[(3, 9)]).begin(0).read(0, 3, 9).begin(1).write(1, 3, 7).commit(1).begin(2).read(2, 3, 7);
-    let (held, count) = (Held::of(&log.events), log.events.len());
+    let (held, count) = (Held::of(&log.events), lent_count(log.events.len()));
     let (store, columns) = (Store { edition: 2, starts: &log.store.starts }, view(&held));
     let one = marking(&[(0, Aborted)], &[(2, 0)]);
     let two = marking(&[(0, Aborted), (1, Aborted)], &[(2, 0)]);

@@ -1,5 +1,6 @@
 //! The examples of the paper and of its sources, put to the library.
 
+use outside::lent::lent_count;
 use reference::event::Columns as Held;
 use reference::justification::Outcome::{Aborted, Committed};
 use reference::log::Log;
@@ -33,9 +34,9 @@ fn answered(call: &Call) -> (Answer, Buffers) {
 }
 
 /// A call on a history: its store, its columns and its count.
-fn with(log: &Log, call: impl FnOnce(Store, Columns, usize) -> Answer) -> Answer {
+fn with(log: &Log, call: impl FnOnce(Store, Columns, u32) -> Answer) -> Answer {
     let held = Held::of(&log.events);
-    call(Store { edition: log.store.edition, starts: &log.store.starts }, view(&held), log.events.len())
+    call(Store { edition: log.store.edition, starts: &log.store.starts }, view(&held), lent_count(log.events.len()))
 }
 
 #[test]
@@ -64,35 +65,5 @@ fn an_output_or_a_list_that_is_too_short() {
         }
         let answer = calls::straighten(Store::ZERO, view(&held), 10, &file, &mut [0; 42], &mut [0; 2]);
         assert_ne!(answer.code, 15, "42 bytes and two entries are enough");
-    }
-}
-
-/// A count that the columns do not hold is refused, however large it is, before anything is said of the store; one of 2^32 or more is
-/// told as 2^32 - 1.
-#[test]
-fn counts_beyond_all_columns() {
-    let held = Held::of(&Log::h0().events);
-    let columns = view(&held);
-    // The last two are refused for their edition or their start values, but after the count.
-    let stores = [(1, [0; 32]), (2, [9; 32]), (1, [9; 32]), (3, [0; 32])];
-    for count in [11, usize::from(u16::MAX), (1 << 32) - 2, (1 << 32) - 1, 1 << 32, (1 << 32) + 5, usize::MAX] {
-        let refused = Answer { code: 17, place: u32::try_from(count).unwrap_or(u32::MAX) };
-        let counted = [calls::transactions(columns, count), calls::store_reads(columns, count), calls::tally(columns, count)];
-        assert_eq!(counted, [refused; 3], "count {count}");
-        for (edition, starts) in &stores {
-            let store = Store { edition: *edition, starts };
-            let answers = [
-                calls::write(store, columns, count, &mut []),
-                calls::find(store, columns, count, 0, &mut []),
-                calls::scan(store, columns, count),
-                calls::check(store, columns, count, &[]),
-                calls::straighten(store, columns, count, &[], &mut [], &mut []),
-            ];
-            assert_eq!(answers, [refused; 5], "count {count}, edition {edition}");
-        }
-    }
-    for prefix in [11, 1 << 32, usize::MAX] {
-        let answer = calls::find(Store::ZERO, columns, 10, prefix, &mut []);
-        assert_eq!(answer, Answer { code: 18, place: 10 }, "prefix {prefix}");
     }
 }

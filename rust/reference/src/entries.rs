@@ -12,7 +12,7 @@ use crate::store::{Store, REGISTERS};
 use crate::straighten;
 use crate::tally::{self, Tally};
 
-/// A code and its place, as the library packs them into one number. A place that is too large for it is told as the largest.
+/// A code and its place, as the library packs them into one number.
 #[derive(Clone, Copy, Debug, PartialEq, Eq)]
 pub struct Answer {
     pub code: u32,
@@ -27,7 +27,7 @@ pub const MOST_JUDGED: usize = 10;
 
 fn answer(result: Result<(u32, usize), Refusal>) -> Answer {
     let (code, place) = result.unwrap_or_else(|refusal| (u32::from(refusal.number), refusal.place));
-    Answer { code, place: u32::try_from(place).unwrap_or(u32::MAX) }
+    Answer { code, place: u32::try_from(place).expect("a place of 32 bits, as counts are") }
 }
 
 /// Reads a file into 32 start values and columns.

@@ -90,28 +90,28 @@ pub fn read(file: &[u8], starts: &mut [u32; 32], columns: ColumnsMut) -> Answer 
 }
 
 /// Writes the first `count` events as a history file. Code 0: its length.
-pub fn write(store: Store, columns: Columns, count: usize, output: &mut [u8]) -> Answer {
+pub fn write(store: Store, columns: Columns, count: u32, output: &mut [u8]) -> Answer {
     with_store!(sendoshi_write, store, columns, count, output.as_mut_ptr(), output.len())
 }
 
 /// Writes the lowest marking of the first `prefix` of `count` events. Code 0: its length; code 100: there is none.
-pub fn find(store: Store, columns: Columns, count: usize, prefix: usize, output: &mut [u8]) -> Answer {
+pub fn find(store: Store, columns: Columns, count: u32, prefix: u32, output: &mut [u8]) -> Answer {
     with_store!(sendoshi_find, store, columns, count, prefix, output.as_mut_ptr(), output.len())
 }
 
 /// Judges every prefix of the first `count` events. Code 0: opaque; codes 101 to 104: the first fault.
-pub fn scan(store: Store, columns: Columns, count: usize) -> Answer {
+pub fn scan(store: Store, columns: Columns, count: u32) -> Answer {
     with_store!(sendoshi_scan, store, columns, count)
 }
 
 /// Checks a marking file of the first `count` events. Code 0: accepted; codes 201 to 205: the broken rule.
-pub fn check(store: Store, columns: Columns, count: usize, file: &[u8]) -> Answer {
+pub fn check(store: Store, columns: Columns, count: u32, file: &[u8]) -> Answer {
     with_store!(sendoshi_check, store, columns, count, file.as_ptr(), file.len())
 }
 
 /// Writes a marking file of the first `count` events with its careless read points moved to their readers, and lists the events of
 /// those moved. Code 0: the number moved and the length ([`Answer::halves`]); codes 201 to 203 and 205: the rule broken all the same.
-pub fn straighten(store: Store, columns: Columns, count: usize, file: &[u8], output: &mut [u8], moved: &mut [u32]) -> Answer {
+pub fn straighten(store: Store, columns: Columns, count: u32, file: &[u8], output: &mut [u8], moved: &mut [u32]) -> Answer {
     with_store!(
         sendoshi_straighten,
         store,
@@ -127,17 +127,17 @@ pub fn straighten(store: Store, columns: Columns, count: usize, file: &[u8], out
 }
 
 /// Counts the transactions begun in the first `count` events.
-pub fn transactions(columns: Columns, count: usize) -> Answer {
+pub fn transactions(columns: Columns, count: u32) -> Answer {
     with_columns!(sendoshi_transactions, columns, count)
 }
 
 /// Counts the store reads in the first `count` events.
-pub fn store_reads(columns: Columns, count: usize) -> Answer {
+pub fn store_reads(columns: Columns, count: u32) -> Answer {
     with_columns!(sendoshi_store_reads, columns, count)
 }
 
 /// Tallies the transactions begun in the first `count` events. Code 0: how many committed, were aborted, are pending and are live
 /// ([`Answer::quarters`]).
-pub fn tally(columns: Columns, count: usize) -> Answer {
+pub fn tally(columns: Columns, count: u32) -> Answer {
     with_columns!(sendoshi_tally, columns, count)
 }

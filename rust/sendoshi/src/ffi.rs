@@ -1,4 +1,4 @@
-//! The library's functions as version 2 of `include/sendoshi.h` declares them. A slice is passed as a pointer and a length, the 32
+//! The library's functions as version 3 of `include/sendoshi.h` declares them. A slice is passed as a pointer and a length, the 32
 //! start values as one pointer.
 //!
 //! Each answers code × 2^32 + place. They have no condition on numbers or contents. What they cannot test, and a caller must see
@@ -31,7 +31,7 @@ extern "C" {
         registers_length: usize,
         values: *const u32,
         values_length: usize,
-        count: usize,
+        count: u32,
         output: *mut u8,
         output_length: usize,
     ) -> u64;
@@ -47,8 +47,8 @@ extern "C" {
         registers_length: usize,
         values: *const u32,
         values_length: usize,
-        count: usize,
-        prefix: usize,
+        count: u32,
+        prefix: u32,
         output: *mut u8,
         output_length: usize,
     ) -> u64;
@@ -64,7 +64,7 @@ extern "C" {
         registers_length: usize,
         values: *const u32,
         values_length: usize,
-        count: usize,
+        count: u32,
     ) -> u64;
 
     pub fn sendoshi_check(
@@ -78,7 +78,7 @@ extern "C" {
         registers_length: usize,
         values: *const u32,
         values_length: usize,
-        count: usize,
+        count: u32,
         file: *const u8,
         file_length: usize,
     ) -> u64;
@@ -94,7 +94,7 @@ extern "C" {
         registers_length: usize,
         values: *const u32,
         values_length: usize,
-        count: usize,
+        count: u32,
         file: *const u8,
         file_length: usize,
         output: *mut u8,
@@ -112,7 +112,7 @@ extern "C" {
         registers_length: usize,
         values: *const u32,
         values_length: usize,
-        count: usize,
+        count: u32,
     ) -> u64;
 
     pub fn sendoshi_store_reads(
@@ -124,7 +124,7 @@ extern "C" {
         registers_length: usize,
         values: *const u32,
         values_length: usize,
-        count: usize,
+        count: u32,
     ) -> u64;
 
     pub fn sendoshi_tally(
@@ -136,6 +136,6 @@ extern "C" {
         registers_length: usize,
         values: *const u32,
         values_length: usize,
-        count: usize,
+        count: u32,
     ) -> u64;
 }

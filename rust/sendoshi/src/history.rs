@@ -3,7 +3,7 @@
 use crate::answer::NONE;
 use crate::calls::{self, Columns, ColumnsMut, Store};
 use crate::judgement::{Cause, Scan, Straightening, Verdict};
-use crate::question::{Place, Refusal};
+use crate::question::{Place, Question, Refusal};
 use crate::tally::Tally;
 
 /// No history has more events.
@@ -109,7 +109,13 @@ impl History {
     /// A copy of the history in these columns, over a store that every call takes.
     fn over(store: Store, columns: Columns) -> Result<History, Refusal> {
         let lengths = [columns.kinds.len(), columns.transactions.len(), columns.registers.len(), columns.values.len()];
-        let count = lengths.into_iter().max().unwrap_or(0);
+        let longest = lengths.into_iter().max().unwrap_or(0);
+        // Asked here and not by the library, because a length may have more bits than a call's count.
+        if lengths.into_iter().any(|length| length < longest) {
+            return Err(Refusal { question: Question::CountTooLarge, place: Place::Event(longest) });
+        }
+        // Of more than 2,048 events one of the first 2,049 is refused, however many there are.
+        let count = longest.min(MOST_EVENTS + 1) as u32;
         calls::transactions(columns, count).done(Place::Event)?;
         Ok(History {
             edition: store.edition,
@@ -150,15 +156,20 @@ impl History {
         self.kinds.is_empty()
     }
 
+    /// The number of events, as the calls take it.
+    fn count(&self) -> u32 {
+        u32::try_from(self.len()).expect("a history has at most 2,048 events")
+    }
+
     /// The number of transactions begun.
     pub fn transactions(&self) -> usize {
-        let answer = calls::transactions(self.columns(), self.len());
+        let answer = calls::transactions(self.columns(), self.count());
         answer.done(Place::Event).unwrap_or_else(|refusal| refused_again(refusal))
     }
 
     /// The number of store reads: returned reads of a register that their transaction had not written before.
     pub fn store_reads(&self) -> usize {
-        let answer = calls::store_reads(self.columns(), self.len());
+        let answer = calls::store_reads(self.columns(), self.count());
         answer.done(Place::Event).unwrap_or_else(|refusal| refused_again(refusal))
     }
 
@@ -179,7 +190,7 @@ impl History {
     /// # Ok::<(), sendoshi::Refusal>(())
     /// ```
     pub fn tally(&self) -> Tally {
-        let answer = calls::tally(self.columns(), self.len());
+        let answer = calls::tally(self.columns(), self.count());
         answer.done(Place::Event).unwrap_or_else(|refusal| refused_again(refusal));
         let [committed, aborted, pending, live] = answer.quarters();
         Tally { committed, aborted, pending, live }
@@ -201,7 +212,7 @@ impl History {
     pub fn to_bytes(&self) -> Vec<u8> {
         // The head has 6 bytes, a start record 10 and no event more than 12: the output is never too short.
         let mut output = vec![0; 6 + 10 * REGISTERS + 12 * self.len()];
-        let answer = calls::write(self.store(), self.columns(), self.len(), &mut output);
+        let answer = calls::write(self.store(), self.columns(), self.count(), &mut output);
         let length = answer.done(Place::Event).unwrap_or_else(|refusal| refused_again(refusal));
         output.truncate(length);
         output
@@ -225,7 +236,7 @@ impl History {
     /// # Ok::<(), sendoshi::Refusal>(())
     /// ```
     pub fn scan(&self) -> Result<Scan, Refusal> {
-        let answer = calls::scan(self.store(), self.columns(), self.len());
+        let answer = calls::scan(self.store(), self.columns(), self.count());
         match Cause::from_code(answer.code) {
             Some(cause) => Ok(Scan::Faulted { event: answer.place as usize, cause }),
             None => answer.done(Place::Event).map(|_| Scan::Opaque),
@@ -254,7 +265,9 @@ impl History {
     pub fn lowest_marking(&self, prefix: usize) -> Result<Option<Vec<u8>>, Refusal> {
         // Room for a place of every transaction and a read point at every event: the output is never too short.
         let mut output = vec![0; 6 + 8 * MOST_JUDGED + 10 * prefix.min(self.len())];
-        let answer = calls::find(self.store(), self.columns(), self.len(), prefix, &mut output);
+        // A prefix of more than 32 bits is longer than the history, and so is the largest of 32 bits.
+        let prefix = u32::try_from(prefix).unwrap_or(u32::MAX);
+        let answer = calls::find(self.store(), self.columns(), self.count(), prefix, &mut output);
         if answer.code == NONE {
             return Ok(None);
         }
@@ -279,7 +292,7 @@ impl History {
     /// # Ok::<(), sendoshi::Refusal>(())
     /// ```
     pub fn check(&self, marking: &[u8]) -> Result<Verdict, Refusal> {
-        let answer = calls::check(self.store(), self.columns(), self.len(), marking);
+        let answer = calls::check(self.store(), self.columns(), self.count(), marking);
         match answer.broken() {
             Some((rule, event, transaction)) => Ok(Verdict::Broken { rule, event, transaction }),
             // The events have passed their questions, so what is refused is the file.
@@ -315,7 +328,7 @@ impl History {
     pub fn straighten(&self, marking: &[u8]) -> Result<Straightening, Refusal> {
         // The result is as long as the marking, and a list with an entry for every event has one for every store read.
         let (mut output, mut moved) = (vec![0; marking.len()], vec![0; self.len()]);
-        let answer = calls::straighten(self.store(), self.columns(), self.len(), marking, &mut output, &mut moved);
+        let answer = calls::straighten(self.store(), self.columns(), self.count(), marking, &mut output, &mut moved);
         if let Some((rule, event, transaction)) = answer.broken() {
             return Ok(Straightening::Broken { rule, event, transaction });
         }

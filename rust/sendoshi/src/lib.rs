@@ -29,13 +29,13 @@
 //! not fit is refused with a [`Question`] and a [`Place`], and a refusal leaves every lent buffer as it was. What the library
 //! cannot test is given by Rust: a slice is good for its length, and a buffer that is written is borrowed by the call alone. The
 //! wrapper only sees to it that the buffers it allocates itself are long enough, so that [`History`] never meets the questions
-//! about lent buffers (14, 15, 32), and that it holds no edition but 1 and 2, so that question 3 is about a file. [`calls`] has the
-//! functions on the caller's own buffers.
+//! about lent buffers (14, 15, 32), that it holds no edition but 1 and 2, so that question 3 is about a file, and that no length is
+//! cut to the 32 bits of a call's count, for which it asks question 17 itself. [`calls`] has the functions on the caller's own buffers.
 //!
 //! # Linking
 //!
-//! The build script looks for `libexports.a` in the folder named by the environment variable `SENDOSHI_LIB_DIR`, or else in the
-//! repository's `target/staticlib`, where `rt staticlib exports` puts it.
+//! The build script looks for `libsendoshi.a` in the folder named by the environment variable `SENDOSHI_LIB_DIR`, or else in the
+//! repository's `target/staticlib`, where `rt staticlib sendoshi` puts it.
 
 pub mod answer;
 pub mod calls;

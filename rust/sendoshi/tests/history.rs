@@ -49,7 +49,7 @@ fn a_tally_follows_the_events() {
     for (length, [committed, aborted, pending, live]) in expected {
         let tally = history.prefix(length).unwrap().tally();
         assert_eq!(tally, Tally { committed, aborted, pending, live }, "{length} events");
-        let answer = calls::tally(history.columns(), length);
+        let answer = calls::tally(history.columns(), length as u32);
         assert_eq!((answer.code, answer.quarters()), (0, [committed, aborted, pending, live]), "{length} of 10 events");
     }
 }
@@ -121,6 +121,18 @@ fn an_event_is_refused_by_its_own_question() {
     assert_eq!(History::from_columns(columns), Err(refusal(Question::StrayField, Place::Event(9))));
 }
 
+/// One transaction that goes on reading. The last two lengths are small in their lower 16 bits.
+#[test]
+fn a_history_has_at_most_2048_events() {
+    for length in [2_047, 2_048, 2_049, 2_050, 65_536, 65_546] {
+        let kinds: Vec<u16> = [16].into_iter().chain([17, 18].into_iter().cycle()).take(length).collect();
+        let (zeros, values) = (vec![0; length], vec![0; length]);
+        let columns = Columns { kinds: &kinds, transactions: &zeros, registers: &zeros, values: &values };
+        let expected = if length > 2_048 { Err(refusal(Question::TooManyEvents, Place::Event(2_048))) } else { Ok(length) };
+        assert_eq!(History::from_columns(columns).map(|history| history.len()), expected, "{length} events");
+    }
+}
+
 #[test]
 fn a_prefix_is_a_history() {
     let history = h0();
@@ -131,6 +143,10 @@ fn a_prefix_is_a_history() {
     assert_eq!(prefix.check(&marking), Ok(Verdict::Accepted));
     assert_eq!(history.prefix(11), None);
     assert!(history.prefix(0).unwrap().is_empty());
+    // Cut to 32 or to 16 bits, the last three would be prefixes of six events.
+    for long in [11, u32::MAX as usize, usize::MAX, 65_536 + 6, (1 << 32) + 6, (1 << 48) + 6] {
+        assert_eq!(history.lowest_marking(long), Err(refusal(Question::PrefixTooLong, Place::Event(10))), "{long} events");
+    }
 }
 
 /// H0 over a store in which register 3 starts with 9 and register 31 with 1.

@@ -1,5 +1,5 @@
-//! The scan and the finder beside those of an earlier version in the same run. SENDOSHI_EARLIER names its static library made
-//! into a shared one: `cc -shared -o earlier.so -Wl,--whole-archive libexports.a -Wl,--no-whole-archive`.
+//! The scan and the finder beside those of an earlier version in the same run. SENDOSHI_EARLIER names its static library (of version 2
+//! of the header: libexports.a) made into a shared one: `cc -shared -o earlier.so -Wl,--whole-archive ARCHIVE -Wl,--no-whole-archive`.
 
 use crate::growth::captures;
 use crate::hard::{finds, patience, scans};
@@ -21,7 +21,8 @@ const RTLD_NOW: c_int = 2;
 
 type Slice<T> = (*const T, usize);
 
-/// The two calls, as version 2 of the header declares them.
+/// The two calls, as version 2 of the header declares them. Those of version 3 have counts of 32 bits, and find them in the lower halves
+/// of these: on x86-64, for which alone the library is made, every number is passed in 64 bits.
 type Scan = unsafe extern "C" fn(
     u16,
     *const [u32; 32],
@@ -64,7 +65,7 @@ impl Earlier {
         // SAFETY: the path ends with a zero byte; loading the library runs no code of its own.
         let library = unsafe { dlopen(path.as_ptr(), RTLD_NOW) };
         assert!(!library.is_null(), "{path:?} is no shared library");
-        // SAFETY: these are the functions of these names in version 2 of the header, whose types stand above.
+        // SAFETY: these are the functions of these names in version 2 or 3 of the header, whose types stand above.
         unsafe {
             Earlier { scan: transmute(symbol(library, c"sendoshi_scan")), find: transmute(symbol(library, c"sendoshi_find")) }
         }

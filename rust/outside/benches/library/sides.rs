@@ -2,6 +2,7 @@
 
 use crate::earlier::Earlier;
 use crate::measure::{measure, Measured};
+use outside::lent::lent_count;
 use outside::views::{find_answer, scan_answer};
 use plain::{Scanned, Straightened, Tally, Verdict};
 use reference::event::{Columns as Held, Event};
@@ -26,6 +27,11 @@ impl Capture {
     pub fn new(events: &[Event]) -> Capture {
         let file = history_file::write(&HeldStore::ZERO, events);
         Capture { file, held: Held::of(events), count: events.len(), output: vec![0; 32_768] }
+    }
+
+    /// The number of events, as the library takes it.
+    fn lent_count(&self) -> u32 {
+        lent_count(self.count)
     }
 
     fn library(&self) -> Columns<'_> {
@@ -61,7 +67,8 @@ impl Capture {
     pub fn write(&self) -> Measured {
         let mut output = self.output.clone();
         let mut other = self.output.clone();
-        let library = |output: &mut [u8]| calls::write(STORE, black_box(self.library()), self.count, output).place as usize;
+        let library =
+            |output: &mut [u8]| calls::write(STORE, black_box(self.library()), self.lent_count(), output).place as usize;
         let plain = |output: &mut [u8]| plain::write(PLAIN_STORE, black_box(self.plain()), self.count, output).ok();
         assert_eq!(Some(library(&mut output)), plain(&mut other));
         assert_eq!(output, other);
@@ -69,7 +76,7 @@ impl Capture {
     }
 
     pub fn tally(&self) -> Measured {
-        let library = || calls::tally(black_box(self.library()), self.count);
+        let library = || calls::tally(black_box(self.library()), self.lent_count());
         let plain = || plain::tally(black_box(self.plain()), self.count);
         let Tally { committed, aborted, pending, live } = plain().expect("a capture that is readable");
         assert_eq!((library().code, library().quarters()), (0, [committed, aborted, pending, live]));
@@ -92,7 +99,7 @@ impl Capture {
     }
 
     fn scan_with(&self, other: impl Fn() -> Answer) -> Measured {
-        let library = || calls::scan(STORE, black_box(self.library()), self.count);
+        let library = || calls::scan(STORE, black_box(self.library()), self.lent_count());
         assert_eq!(library(), other());
         measure(library, other)
     }
@@ -131,7 +138,8 @@ impl Capture {
     fn find_with(&self, other: impl Fn(&mut [u8]) -> Answer) -> Measured {
         let mut output = self.output.clone();
         let mut other_output = self.output.clone();
-        let library = |output: &mut [u8]| calls::find(STORE, black_box(self.library()), self.count, self.count, output);
+        let count = self.lent_count();
+        let library = |output: &mut [u8]| calls::find(STORE, black_box(self.library()), count, count, output);
         assert_eq!(library(&mut output), other(&mut other_output));
         assert_eq!(output, other_output);
         measure(|| library(&mut output), || other(&mut other_output))
@@ -149,7 +157,7 @@ impl Capture {
 
     /// The checker on a marking that is accepted.
     pub fn check(&self, marking: &[u8]) -> Measured {
-        let library = || calls::check(STORE, black_box(self.library()), self.count, black_box(marking));
+        let library = || calls::check(STORE, black_box(self.library()), self.lent_count(), black_box(marking));
         let plain = || plain::check(PLAIN_STORE, black_box(self.plain()), self.count, black_box(marking));
         assert_eq!(library().code, 0);
         assert_eq!(plain(), Ok(Verdict::Accepted));
@@ -161,7 +169,7 @@ impl Capture {
         let (mut output, mut list) = (self.output.clone(), vec![0; self.count]);
         let (mut other, mut other_list) = (self.output.clone(), vec![0; self.count]);
         let library = |output: &mut [u8], list: &mut [u32]| {
-            let answer = calls::straighten(STORE, black_box(self.library()), self.count, black_box(marking), output, list);
+            let answer = calls::straighten(STORE, black_box(self.library()), self.lent_count(), black_box(marking), output, list);
             (answer.code == 0).then_some(answer.halves())
         };
         let plain = |output: &mut [u8], list: &mut [u32]| {
@@ -189,7 +197,7 @@ pub fn scan_all_beside(captures: &[Capture], earlier: &Earlier) -> Measured {
 }
 
 fn all_with(captures: &[Capture], is_opaque: impl Fn(&Capture) -> bool) -> Measured {
-    let library = || captures.iter().filter(|c| calls::scan(STORE, black_box(c.library()), c.count).code == 0).count();
+    let library = || captures.iter().filter(|c| calls::scan(STORE, black_box(c.library()), c.lent_count()).code == 0).count();
     let other = || captures.iter().filter(|c| is_opaque(c)).count();
     assert_eq!((library(), other()), (captures.len(), captures.len()), "all captures are opaque");
     let Measured { library, plain, ratio, samples } = measure(library, other);
