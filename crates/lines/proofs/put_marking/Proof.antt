@@ -40,7 +40,7 @@ same-length-2 c = search needs
 returns-2 : tie.Need-returns-2
 returns-2 c =
     let call = c .before .before in
-    put-as (ap markingLine (sym (call .before .before .before .before .marking2 .given .1))) (omega arith) (call .put-refused .ensures)
+    put-as (ap markingLine (sym (call .before .before .before .before .before .marking2 .given .1))) (omega arith) (call .put-refused .ensures)
 
 pub put-marking-spec : {M : Type 1} → statement M
 put-marking-spec =

@@ -37,7 +37,7 @@ same-length-2 c = search needs
 returns-2 : tie.Need-returns-2
 returns-2 c =
     let call = c .before .before in
-    put-as (ap opacityLine (sym (call .before .before .before .opacity2 .given .1))) (omega arith) (call .put-unscanned .ensures)
+    put-as (ap opacityLine (sym (call .before .before .before .before .opacity2 .given .1))) (omega arith) (call .put-unscanned .ensures)
 
 pub put-opacity-spec : {M : Type 1} → statement M
 put-opacity-spec =

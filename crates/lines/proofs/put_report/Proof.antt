@@ -27,7 +27,7 @@ put-judged-requires c κs = search needs
 
 returns : tie.Need-returns
 unfolding lines
-returns c = put-first (ap lines (sym (c .before .before .before .before .report .given .1))) (c .put-refused .ensures)
+returns c = put-first (ap lines (sym (c .before .before .before .before .before .report .given .1))) (c .put-refused .ensures)
 
 returns-2 : tie.Need-returns-2
 unfolding lines
