@@ -177,7 +177,8 @@ module _ (s : List ℕ) (by : Bytes s) (l : Log) (file : historyOf s ≡ readabl
           ap (markingBy start h) (b .holds)
           ∙ ap Marking.Ruled (broken-iff-first start h is-readable (b .marked) r e t .1 (b .at, b .first, b .event, b .transaction))
 
--- The report on a history file of edition 1, or on any other that is not of edition 2, is the one that it was before there were start values.
+-- The report on a history file of edition 1, or on any other that is not of edition 2, is the one that it was before there were start
+-- values.
 pub first-edition : (s marking : List ℕ) → (u16At s 4 ≡ 2 → ⊥) → reportOn s marking ≡ firstReport s marking
 unfolding reportOn firstReport
 first-edition s marking n = ap (λ (x : Outcome). saidOf x marking) (same-history s n) ∙ go (firstHistory s)

@@ -1,5 +1,5 @@
--- To be believed: the report on a capture ("Scan and report"), as the numbers of its lines, from the bytes of a history file and of a marking
--- file.
+-- To be believed: the report on a capture ("Scan and report"), as the numbers of its lines, from the bytes of a history file and of a
+-- marking file.
 -- Assumes nothing.
 use Prim.Native.Nat.{ℕ}
 use mathlib.Core.List.{List}

@@ -1,6 +1,6 @@
--- To be believed: every answer as one number, code × 2^32 + place (include/sendoshi.h). The code is 0 for done, 1 to 99 for the question that
--- says no, 100 for none, 101 to 104 for the causes, 201 to 205 for the rules A to E. One definition serves all answers: it is given what an
--- answer says.
+-- To be believed: every answer as one number, code × 2^32 + place (include/sendoshi.h). The code is 0 for done, 1 to 99 for the question
+-- that says no, 100 for none, 101 to 104 for the causes, 201 to 205 for the rules A to E. One definition serves all answers: it is given
+-- what an answer says.
 -- Assumes nothing.
 use Prim.Native.Nat.{ℕ, _+_, _*_, _≤_, _<_}
 use mathlib.Core.List.{List, [], _∷_}
@@ -20,8 +20,8 @@ halves high low = high * 65536 + low
 unfoldable pub pair : ℕ → ℕ → ℕ
 pair high low = high * 256 + low
 
--- The place of what a call gives: of one number that number; of two, such as a length and how many were moved, the first in the lower half; of
--- a tally's four a byte each, the first uppermost. (No call gives three.)
+-- The place of what a call gives: of one number that number; of two, such as a length and how many were moved, the first in the lower
+-- half; of a tally's four a byte each, the first uppermost. (No call gives three.)
 unfoldable pub place : List ℕ → ℕ
 place [] = 0
 place (n ∷ []) = n

@@ -20,8 +20,8 @@ upperOf p = p / 65536
 abbrev pub lowerOf : ℕ → ℕ
 lowerOf p = p % 65536
 
--- What a place holds where the call is done, by the call: nothing (scan and check), one number (write, find and the counts), two (read: the count
--- and the edition; straighten: the length and how many were moved), four (tally).
+-- What a place holds where the call is done, by the call: nothing (scan and check), one number (write, find and the counts), two (read:
+-- the count and the edition; straighten: the length and how many were moved), four (tally).
 abbrev pub noValue : ℕ → List ℕ
 noValue p = []
 
@@ -34,8 +34,8 @@ twoValues p = lowerOf p ∷ upperOf p ∷ []
 abbrev pub fourValues : ℕ → List ℕ
 fourValues p = p / 16777216 ∷ p / 65536 % 256 ∷ p / 256 % 256 ∷ p % 256 ∷ []
 
--- Whether a question is asked of a file, so that its place is a byte: all of read, none of most; of check and straighten 1, 2 and 21 to 29, the
--- marking's, where 3 to 17 are asked of edition and start values, events and buffers.
+-- Whether a question is asked of a file, so that its place is a byte: all of read, none of most; of check and straighten 1, 2 and 21 to
+-- 29, the marking's, where 3 to 17 are asked of edition and start values, events and buffers.
 abbrev pub always : ℕ → Bool
 always q = true
 

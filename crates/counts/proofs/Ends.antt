@@ -1,5 +1,5 @@
--- In a readable history a transaction ends once at most: the committed are as many as the events that record a commit, and the aborted as those
--- that record an abort.
+-- In a readable history a transaction ends once at most: the committed are as many as the events that record a commit, and the aborted as
+-- those that record an abort.
 -- Assumes nothing.
 use Prim.Native.Nat.{ℕ, zero, suc, _+_, _≤_, _<_}
 use native.Mathlib.Nat.{le-of-lt, le-refl}

@@ -1,4 +1,5 @@
--- To be believed: the answers of the counts ("Scan and report"): "transactions" counts those begun, "reads" the store reads; and of the tally.
+-- To be believed: the answers of the counts ("Scan and report"): "transactions" counts those begun, "reads" the store reads; and of the
+-- tally.
 -- Assumes nothing.
 use Prim.Native.Nat.{ℕ}
 use mathlib.Core.List.{[], _∷_}

@@ -1,4 +1,5 @@
--- To be believed: the finder's answer ("Finder"): the marking of the lowest justification of a prefix, or none, or the first question that says no.
+-- To be believed: the finder's answer ("Finder"): the marking of the lowest justification of a prefix, or none, or the first question that
+-- says no.
 -- Assumes nothing.
 use Prim.Native.Nat.{ℕ, _+_, _*_, _≤_}
 use mathlib.Core.Path.{_≡_}

@@ -1,5 +1,5 @@
--- The theorems about the checker's answer, gathered: each says what the paper says. The words are those of specs/ here and in `opacity`; the
--- edition and the start values are the caller's, whichever they are.
+-- The theorems about the checker's answer, gathered: each says what the paper says. The words are those of specs/ here and in `opacity`;
+-- the edition and the start values are the caller's, whichever they are.
 -- Assumes nothing.
 use Prim.Native.Nat.{ℕ}
 use native.Mathlib.Omega.{arith}
@@ -226,7 +226,8 @@ module _ (edition : ℕ) (starts : List ℕ) (c : Columns) (n : ℕ) (file : Lis
       fine Readable e k = e
       fine (Refused r) e k = absurd (let z : _≡_ {A = ℕ} 0 1 = cc in omega arith)
 
--- The bytes of a content that is readable for the history are judged as that content is; where its verdict is accepted, the checker accepts them.
+-- The bytes of a content that is readable for the history are judged as that content is; where its verdict is accepted, the checker
+-- accepts them.
 pub bytes-judged : (edition : ℕ) (starts : List ℕ) (c : Columns) (n : ℕ) (m : Marking) → historyAnswer edition starts c n ≡ Readable → ReadableFor (history c n) m
     → verdictAnswer edition starts c n (markingBytes m) ≡ Ruled (verdict (startOf starts) (history c n) m)
 bytes-judged edition starts c n m fine f = answered edition starts c n (markingBytes m) fine m (bytes-content (history c n) m (history-readable edition starts c n fine .1) f)

@@ -60,8 +60,8 @@ pub record Breaking (edition : ℕ) (starts : List ℕ) (c : Columns) (n : ℕ) 
   pub event : e ≡ namedEvent (history c n) r at
   pub transaction : t ≡ namedTransaction (history c n) r at
 
--- no question says no, the content of the file is m, and its outcomes and order are a justification of which no other committed writer of the
--- register stands between a read's point and its reader
+-- no question says no, the content of the file is m, and its outcomes and order are a justification of which no other committed writer of
+-- the register stands between a read's point and its reader
 pub record Justifying (edition : ℕ) (starts : List ℕ) (c : Columns) (n : ℕ) (file : List ℕ) : Type 0 where
   pub fine : historyAnswer edition starts c n ≡ Readable
   pub marking : Marking

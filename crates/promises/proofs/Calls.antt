@@ -1,6 +1,6 @@
--- The calls of the library, one after the other: what was written is read, what was read is written, what was found or straightened is accepted,
--- and no lent buffer changes where a call is not done, nor behind what it gives where it is. A number is read as the header says (`decoded`);
--- `count ≤ most` is what the type of a count says.
+-- The calls of the library, one after the other: what was written is read, what was read is written, what was found or straightened is
+-- accepted, and no lent buffer changes where a call is not done, nor behind what it gives where it is. A number is read as the header says
+-- (`decoded`); `count ≤ most` is what the type of a count says.
 -- Assumes nothing.
 use Prim.Native.Nat.{ℕ, _+_, _*_, _≤_}
 use native.Mathlib.Omega.{arith}

@@ -1,5 +1,6 @@
--- The three demands, each sentence with the statement that says it, over the answers of the public functions on raw bytes and columns; each proof is
--- a citation. `ensures` of each function says that its result and every lent buffer are such an answer; no public function requires anything.
+-- The three demands, each sentence with the statement that says it, over the answers of the public functions on raw bytes and columns;
+-- each proof is a citation. `ensures` of each function says that its result and every lent buffer are such an answer; no public function
+-- requires anything.
 -- Assumes nothing.
 use Prim.Native.Nat.{ℕ, _≤_, _<_}
 use mathlib.Core.Path.{_≡_}
@@ -133,8 +134,8 @@ module _ (edition : ℕ) (starts : List ℕ) (c : Columns) (count : ℕ) where
   pub faulted-exactly : (e w : ℕ) → (scanSaid (scanAnswer edition starts c count) ≡ faulted e w) ↔ (Passed edition starts c count × FaultsAt (startOf starts) (history c count) e w)
   faulted-exactly = scan.faulted-said edition starts c count
 
--- "the finder gives the marking of the lowest justification exactly when there is one, else none, and the checker accepts it.": from the bytes of a
--- readable file on, for every prefix of at most 10 transactions and an output as long as the paper says
+-- "the finder gives the marking of the lowest justification exactly when there is one, else none, and the checker accepts it.": from the
+-- bytes of a readable file on, for every prefix of at most 10 transactions and an output as long as the paper says
 module _ (file : List ℕ) (c : Columns) (count prefix : ℕ) (output : List ℕ) (d : FromFile file c count prefix output) where
   abbrev edition : ℕ
   edition = readAnswer file c .result .edition

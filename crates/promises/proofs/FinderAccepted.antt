@@ -1,5 +1,5 @@
--- The checker accepts what the finder writes (the last words of demand 3): given the same edition, start values and columns, the prefix length
--- as the count, and exactly the bytes of the returned length, its answer is accepted.
+-- The checker accepts what the finder writes (the last words of demand 3): given the same edition, start values and columns, the prefix
+-- length as the count, and exactly the bytes of the returned length, its answer is accepted.
 -- Assumes nothing.
 use Prim.Native.Nat.{ℕ, _≤_}
 use native.Mathlib.Omega.{arith}

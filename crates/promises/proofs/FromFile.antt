@@ -1,5 +1,5 @@
--- Demand 3 on its own domain: from the bytes of a readable file on, for every prefix of at most 10 transactions and an output as long as the
--- paper says.
+-- Demand 3 on its own domain: from the bytes of a readable file on, for every prefix of at most 10 transactions and an output as long as
+-- the paper says.
 -- Assumes nothing.
 use Prim.Native.Nat.{ℕ, _≤_}
 use mathlib.Core.Path.{_≡_, sym, ap, subst, _∙_}

@@ -1,5 +1,5 @@
--- The answers of checker, straightening, finder and scan in the words of the events: what a justification is, `Explains` says without the terms of
--- the definitions, and rule D says that no other committed writer stands between.
+-- The answers of checker, straightening, finder and scan in the words of the events: what a justification is, `Explains` says without the
+-- terms of the definitions, and rule D says that no other committed writer stands between.
 -- Assumes nothing.
 use Prim.Native.Nat.{ℕ, _≤_}
 use mathlib.Core.Path.{_≡_}

@@ -1,5 +1,5 @@
--- What stands in the columns past the count, and what a buffer held before, make no difference to an answer: for the reader, the writer, the
--- checker, the counts and the tally. For the finder, the scan and the straightening this is `past-count` in their own Theorems.
+-- What stands in the columns past the count, and what a buffer held before, make no difference to an answer: for the reader, the writer,
+-- the checker, the counts and the tally. For the finder, the scan and the straightening this is `past-count` in their own Theorems.
 -- Assumes nothing.
 use Prim.Native.Nat.{ℕ}
 use mathlib.Core.Path.{_≡_, refl, sym, ap, _∙_}

@@ -40,8 +40,8 @@ pub record TooShort (file : List ℕ) (c : Columns) : Type 0 where
 abbrev pub NoneBetween : List Event → Marking → Type 0
 NoneBetween h m = (i : ℕ) → i < length h → isStoreRead h i ≡ true → WriterBetween h (m .places) (gapOf (m .points) i) i → ⊥
 
--- The history in the columns and the marking in the file are readable, the marking's outcomes and order are a justification in the words of the
--- events, and no other committed writer stands between a read's point and its reader.
+-- The history in the columns and the marking in the file are readable, the marking's outcomes and order are a justification in the words
+-- of the events, and no other committed writer stands between a read's point and its reader.
 pub record Accepts (edition : ℕ) (starts : List ℕ) (c : Columns) (n : ℕ) (file : List ℕ) : Type 0 where
   pub fine : historyAnswer edition starts c n ≡ Readable
   pub marking : Marking

@@ -1,5 +1,5 @@
--- Each number of an answer stands where the call's number has room for it, and comes back out of it: for every edition, start values, columns,
--- file and lent buffer, and every count that its type holds.
+-- Each number of an answer stands where the call's number has room for it, and comes back out of it: for every edition, start values,
+-- columns, file and lent buffer, and every count that its type holds.
 -- Assumes nothing.
 use mathlib.Core.Path.{_≡_, refl, sym, ap, subst, _∙_}
 use mathlib.Core.Logic.{_⊎_, inl, inr, ⊎-elim}

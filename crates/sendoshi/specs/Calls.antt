@@ -1,5 +1,5 @@
--- To be believed: what each call gives (include/sendoshi.h), over the answers of the functions called: its number, and each buffer that it is
--- lent to fill, afterwards.
+-- To be believed: what each call gives (include/sendoshi.h), over the answers of the functions called: its number, and each buffer that it
+-- is lent to fill, afterwards.
 -- Assumes nothing.
 use Prim.Native.Nat.{ℕ}
 use mathlib.Core.List.{List}

@@ -1,5 +1,5 @@
--- The verdict on the straightened marking: A, B and C are those of the marking given, D is never broken, and E is broken exactly where a store
--- read is not legal in the marking's order.
+-- The verdict on the straightened marking: A, B and C are those of the marking given, D is never broken, and E is broken exactly where a
+-- store read is not legal in the marking's order.
 -- Assumes nothing.
 use Prim.Native.Nat.{ℕ, _<_}
 use native.Mathlib.Nat.{lt-trans}

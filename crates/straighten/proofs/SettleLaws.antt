@@ -1,4 +1,5 @@
--- From what the parts of the code say to the answer: the bytes and the room of a marking in arrays, and the answer by what was read and judged.
+-- From what the parts of the code say to the answer: the bytes and the room of a marking in arrays, and the answer by what was read and
+-- judged.
 -- Assumes nothing.
 use Prim.Native.Nat.{ℕ, _≤_}
 use native.Mathlib.Omega.{arith}

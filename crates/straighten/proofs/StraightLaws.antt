@@ -1,5 +1,5 @@
--- The straightened marking: which points are kept, which are moved and which events are listed; that it is readable and keeps D, and is accepted
--- exactly if its outcomes and order are a justification.
+-- The straightened marking: which points are kept, which are moved and which events are listed; that it is readable and keeps D, and is
+-- accepted exactly if its outcomes and order are a justification.
 -- Assumes nothing.
 use Prim.Native.Nat.{ℕ, _≤_, _<_}
 use native.Mathlib.Omega.{arith}

@@ -1,6 +1,6 @@
--- The theorems about straightened read points, gathered: each says what the request says. The words are those of specs/ here, in `opacity` and in
--- `marking`; the edition and the start values are the caller's, whichever they are. What the straightened marking is like for itself, point by
--- point, is in StraightLaws and RuleLaws.
+-- The theorems about straightened read points, gathered: each says what the request says. The words are those of specs/ here, in `opacity`
+-- and in `marking`; the edition and the start values are the caller's, whichever they are. What the straightened marking is like for
+-- itself, point by point, is in StraightLaws and RuleLaws.
 -- Assumes nothing.
 use Prim.Native.Nat.{ℕ, _<_}
 use native.Mathlib.Omega.{arith}

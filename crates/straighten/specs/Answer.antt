@@ -35,8 +35,8 @@ pub record Given : Type 0 where
 abbrev pub gives : Straightening → List ℕ → List ℕ → Given
 gives r o l = record { result = r; output = o; list = l }
 
--- Where no rule is broken, the marking is written from the output's first byte and the moved events from the list's first entry, and nothing
--- behind them changes; a broken rule leaves both alone.
+-- Where no rule is broken, the marking is written from the output's first byte and the moved events from the list's first entry, and
+-- nothing behind them changes; a broken rule leaves both alone.
 abbrev pub settled : List ℕ → List ℕ → List ℕ → List ℕ → Verdict → Given
 settled bytes moved output list Accepted = gives (Straightened (length bytes) (length moved)) (over bytes output) (over moved list)
 settled bytes moved output list (Breaks r e t) = gives (Broken r e t) output list

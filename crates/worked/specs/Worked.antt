@@ -1,6 +1,6 @@
--- To be believed: the worked histories, as one list with what the definitions must say of each: the starred ones of the paper ("Histories to
--- try"), histories with start values, some that catch what those do not, marking files, markings with their points straightened, tallies, and
--- seven of the source document 001.
+-- To be believed: the worked histories, as one list with what the definitions must say of each: the starred ones of the paper ("Histories
+-- to try"), histories with start values, some that catch what those do not, marking files, markings with their points straightened,
+-- tallies, and seven of the source document 001.
 -- Assumes nothing.
 use Prim.Native.Nat.{ℕ}
 use mathlib.Core.Bool.{Bool, true, false}
@@ -117,9 +117,9 @@ unfolding point marking
 two J a b = marking J (point 5 a ∷ point 9 b ∷ [])
 
 -- ---- what is said of a history: the scan's answer; its lowest marking, and that marking's file; the verdict on a marking; what the checker says
--- of a marking file; a marking with its points straightened, the events moved, and the verdict then; whether an order run one at a time gives
--- every read its value; the counts of the report; its tally; the question, with its event, that refuses a call with this edition and these
--- start values
+-- of a marking file; a marking with its points straightened, the events moved, and the verdict then; whether an order run one at a time
+-- gives every read its value; the counts of the report; its tally; the question, with its event, that refuses a call with this edition and
+-- these start values
 
 pub data Claim : Type 0 where
   scanned : Scanned → Claim
