@@ -4,3 +4,4 @@ pub mod MoveLaws
 pub mod TallyLaws
 pub mod Theorems
 pub mod Ends
+pub mod SaidLaws

@@ -10,3 +10,4 @@ pub mod CheckLaws
 pub mod StartLaws
 pub mod ReadableLaws
 pub mod FieldLaws
+pub mod SaidLaws

@@ -43,6 +43,7 @@ use Rattle.straighten.specs.Answer.{straightenedAnswer, said as straightSaid}
 use Rattle.straighten.proofs.AnswerLaws.{told as straight-told}
 use Rattle.straighten.proofs.Theorems.{said-straightened, said-broken, never-broken-D, untouched, written-behind, written-accepted}
 use Rattle.counts.specs.declared.tally.Tally.{Tally}
+use Rattle.counts.proofs.SaidLaws.{transactions-exactly, tallied-exactly}
 use Rattle.counts.proofs.Theorems.{adds-up}
 use Rattle.codes.specs.Codes.{most, coded}
 use Rattle.codes.specs.Decoded.{decoded, noValue, oneValue, twoValues, fourValues, always, never, ofMarking, codeOf}
@@ -50,7 +51,6 @@ use Rattle.codes.proofs.CodeLaws.{told-back, done-code}
 use Rattle.sendoshi.specs.Calls.{put, startsAfter, readCall, writeCall, findCall, scanCall, checkCall, straightenCall, transactionsCall, tallyCall}
 use Rattle.sendoshi.proofs.Bounds.{read-told, write-told, find-told, scan-told, straighten-told, transactions-told, tally-told}
 use Rattle.promises.proofs.FinderAccepted.{found-accepted}
-use Rattle.promises.proofs.SaidBy.{transactions-exactly, tallied-exactly}
 
 -- ---- what an answer is, by what its number says
 

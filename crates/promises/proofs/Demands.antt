@@ -22,10 +22,12 @@ use Rattle.opacity.specs.Marking.{Marking, marked, markingBytes, ruleNumber}
 use Rattle.opacity.specs.Scan.{AllJustified, FaultsAt}
 use Rattle.opacity.specs.Verdicts.{AllHold}
 use Rattle.reader.specs.declared.Reading.the-variants.{Read}
-use Rattle.reader.specs.Reading.{historyOf, refused, eventsIn, told, readAnswer, said as readSaid}
+use Rattle.reader.specs.Reading.{TooShort, historyOf, refused, eventsIn, told, readAnswer, said as readSaid}
 use Rattle.writer.specs.declared.Writing.the-variants.{Written}
 use Rattle.writer.specs.Writing.{SameEntries, fileOf, answered, writtenAnswer, said as writtenSaid}
+use Rattle.reader.proofs.SaidLaws as reader
 use Rattle.writer.proofs.RoundTrip as round
+use Rattle.writer.proofs.SaidLaws as writer
 use Rattle.finder.specs.Answer.{findRefusal, foundAnswer, said as foundSaid}
 use Rattle.finder.proofs.Theorems as finder
 use Rattle.scan.specs.Answer.{Passed, scanRefusal, scanAnswer, said as scanSaid}
@@ -35,9 +37,8 @@ use Rattle.marking.specs.Answer.{verdictAnswer, said as checkSaid, Breaking}
 use Rattle.marking.proofs.Theorems as checker
 use Rattle.straighten.specs.Answer.{straightenedAnswer, said as straightSaid, Passes, Short}
 use Rattle.straighten.proofs.Theorems as straighten
-use Rattle.promises.specs.Words.{IsRead, TooShort, Accepts, AllExplained, FromFile}
+use Rattle.promises.specs.Words.{Accepts, AllExplained, FromFile}
 use Rattle.promises.proofs.BuffersKept as kept
-use Rattle.promises.proofs.SaidBy as said-by
 use Rattle.promises.proofs.InWords as words
 use Rattle.promises.proofs.FromFile as from
 
@@ -47,14 +48,14 @@ use Rattle.promises.proofs.FromFile as from
 -- a history's file: the first question that says no, at its record's byte; or 14, at the file's length
 pub unreadable-history : (file : List ℕ) (c : Columns) (q b : ℕ) → (readSaid (readAnswer file c .result) ≡ atByte q b)
     ↔ ((historyOf file ≡ refused q b) ⊎ (TooShort file c × (refuse q b ≡ refuse 14 (length file))))
-unreadable-history = said-by.read-refused
+unreadable-history = reader.read-refused
 
 module _ (edition : ℕ) (starts : List ℕ) (c : Columns) (count : ℕ) where
   -- columns: 17, 3 or an event's own question; or, of the writer, 15 with the count
   pub unwritable-history : (output : List ℕ) (q e : ℕ) → (writtenSaid (writtenAnswer edition starts c count output .result) ≡ atEvent q e)
       ↔ ((historyAnswer edition starts c count ≡ Refused (refuse q e))
       ⊎ ((historyAnswer edition starts c count ≡ Readable) × (length output < length (fileOf edition starts (history c count))) × (refuse q e ≡ refuse 15 count)))
-  unwritable-history output = said-by.written-refused edition starts c count output
+  unwritable-history output = writer.written-refused edition starts c count output
 
   pub uncheckable-history : (file : List ℕ) (q e : ℕ) → (checkSaid (verdictAnswer edition starts c count file) ≡ atEvent q e) ↔ (historyAnswer edition starts c count ≡ Refused (refuse q e))
   uncheckable-history file = checker.history-said edition starts c count file

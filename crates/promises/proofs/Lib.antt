@@ -5,4 +5,3 @@ pub mod FinderAccepted
 pub mod FromFile
 pub mod InWords
 pub mod PastCount
-pub mod SaidBy

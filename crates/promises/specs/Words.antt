@@ -2,13 +2,13 @@
 -- Assumes nothing.
 use Prim.Native.Nat.{ℕ, _≤_, _<_}
 use mathlib.Core.Path.{_≡_}
-use mathlib.Core.Bool.{true, false}
+use mathlib.Core.Bool.{true}
 use mathlib.Core.List.{List}
 use lib.ListN.{length, take}
 use Rattle.events.specs.declared.columns.Checked.the-variants.{Readable}
 use Rattle.events.specs.declared.event.Event.{Event}
 use Rattle.events.specs.Bytes.{Bytes}
-use Rattle.events.specs.Columns.{Columns, history, hold}
+use Rattle.events.specs.Columns.{Columns, history}
 use Rattle.events.specs.Events.{begins}
 use Rattle.events.specs.Starts.{startOf}
 use Rattle.events.specs.Questions.{historyAnswer}
@@ -18,23 +18,9 @@ use Rattle.opacity.specs.Marking.{Marking, gapOf}
 use Rattle.opacity.specs.Transactions.{isStoreRead}
 use Rattle.opacity.specs.Verdicts.{WriterBetween}
 use Rattle.reader.specs.declared.Reading.the-variants.{Read}
-use Rattle.reader.specs.Reading.{Log, readable, historyOf, eventsIn, readAnswer}
+use Rattle.reader.specs.Reading.{eventsIn, readAnswer}
 use Rattle.finder.specs.Answer.{markingSize}
 use Rattle.marking.specs.File.{known, content, fileRead}
-
--- the file is readable, with so many events and of this edition, and the columns hold as many entries
-pub record IsRead (file : List ℕ) (c : Columns) (n edition : ℕ) : Type 0 where
-  pub says : Log
-  pub readable : historyOf file ≡ readable says
-  pub count : length (says .events) ≡ n
-  pub edition-is : says .edition ≡ edition
-  pub room : hold c (length (says .events)) ≡ true
-
--- 14: the file is readable, and a column is too short
-pub record TooShort (file : List ℕ) (c : Columns) : Type 0 where
-  pub says : Log
-  pub readable : historyOf file ≡ readable says
-  pub short : hold c (length (says .events)) ≡ false
 
 -- no other committed writer of the register stands between a read's point and its reader
 abbrev pub NoneBetween : List Event → Marking → Type 0

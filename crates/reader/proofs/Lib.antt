@@ -3,3 +3,4 @@ pub mod FillLaws
 pub mod AnswerLaws
 pub mod OpeningLaws
 pub mod FirstEdition
+pub mod SaidLaws

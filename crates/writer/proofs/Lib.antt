@@ -5,3 +5,4 @@ pub mod ReadBack
 pub mod WriteBack
 pub mod RoundTrip
 pub mod FirstEdition
+pub mod SaidLaws
