@@ -39,6 +39,7 @@ use Rattle.scan.specs.Answer.{sizeRefusal, decided}
 use Rattle.scan.proofs.AnswerLaws.{decided-refused, decided-scanned, scanned-e, refused-31, passes-31, passes-31-e}
 use Rattle.capture.specs.declared.Marking.{Marking}
 use Rattle.capture.specs.declared.Report.{Report}
+use Rattle.capture.specs.Words.{Justifying, Breaks}
 use Rattle.capture.specs.Report.{countsOf, markingBy, markingOf, opacityOf, judged, saidOf, reportOn, firstSaid, firstReport}
 
 -- A history is refused exactly where one of its questions says no, with that question's byte,
@@ -117,29 +118,22 @@ module _ (s : List ℕ) (by : Bytes s) (l : Log) (file : historyOf s ≡ readabl
       let o = faulted-iff start h is-readable e why in
       (λ d. (w .0 d .0, o .0 (w .0 d .1)), λ p. w .1 (p .0, o .1 (p .1)))
 
-  -- the marking file holds a marking that justifies the history and keeps rule D
-  pub record Justifying : Type 0 where
-    pub marked : Content
-    pub holds : fileRead (known h) marking ≡ content marked
-    pub justified : Justified start h (marked .places)
-    pub ruleD : RuleD h marked
-
   -- and "marking accepted" exactly where the marking's outcomes and order are a justification and no other committed writer of the register
   -- stands between a read's point and its reader.
-  pub says-accepted : (markingOf start h marking ≡ Marking.Ruled Verdict.Accepted) ↔ Justifying
+  pub says-accepted : (markingOf start h marking ≡ Marking.Ruled Verdict.Accepted) ↔ Justifying start h marking
   unfolding markingOf
   says-accepted = (go (fileRead (known h) marking) refl, back)
     where
       by-rules : (m : Content) → fileRead (known h) marking ≡ content m → (verdict start h m ≡ Verdict.Accepted) ↔ (Justified start h (m .places) × RuleD h m)
       by-rules m e = accepted-iff-justified start h is-readable m (content-readable h marking m is-readable e)
 
-      go : (x : FileRead) → fileRead (known h) marking ≡ x → markingBy start h x ≡ Marking.Ruled Verdict.Accepted → Justifying
+      go : (x : FileRead) → fileRead (known h) marking ≡ x → markingBy start h x ≡ Marking.Ruled Verdict.Accepted → Justifying start h marking
       go (content m) e d =
           let a = by-rules m e .0 cc in
           record { marked = m; holds = e; justified = a .0; ruleD = a .1 }
       go (unread q byte) e d = absurd (let z : _≡_ {A = ℕ} 0 1 = cc in omega arith)
 
-      back : Justifying → markingBy start h (fileRead (known h) marking) ≡ Marking.Ruled Verdict.Accepted
+      back : Justifying start h marking → markingBy start h (fileRead (known h) marking) ≡ Marking.Ruled Verdict.Accepted
       back j = ap (markingBy start h) (j .holds) ∙ ap Marking.Ruled (by-rules (j .marked) (j .holds) .1 (j .justified, j .ruleD))
 
   -- "marking refused N byte B" exactly where question N of the marking says no at byte B,
@@ -151,28 +145,19 @@ module _ (s : List ℕ) (by : Bytes s) (l : Log) (file : historyOf s ≡ readabl
       go (content m) d = absurd (let z : _≡_ {A = ℕ} 0 1 = cc in omega arith)
       go (unread a b) d = let e : refuse a b ≡ refuse q byte = cc in λ i. unread (e i .question) (e i .at)
 
-  -- the first broken rule of what the marking file holds, where it is broken lowest, names this event and transaction
-  pub record Breaks (r : Rule) (e t : ℕ) : Type 0 where
-    pub marked : Content
-    pub holds : fileRead (known h) marking ≡ content marked
-    pub at : ℕ
-    pub first : FirstBroken start h marked r at
-    pub event : e ≡ namedEvent h r at
-    pub transaction : t ≡ namedTransaction h r at
-
   -- and "marking rule R event E transaction T" exactly where the marking is readable and R is the first rule that it breaks.
-  pub says-broken : (r : Rule) (e t : ℕ) → (markingOf start h marking ≡ Marking.Ruled (Verdict.Broken r e t)) ↔ Breaks r e t
+  pub says-broken : (r : Rule) (e t : ℕ) → (markingOf start h marking ≡ Marking.Ruled (Verdict.Broken r e t)) ↔ Breaks start h marking r e t
   unfolding markingOf
   says-broken r e t = (go (fileRead (known h) marking) refl, back)
     where
-      go : (x : FileRead) → fileRead (known h) marking ≡ x → markingBy start h x ≡ Marking.Ruled (Verdict.Broken r e t) → Breaks r e t
+      go : (x : FileRead) → fileRead (known h) marking ≡ x → markingBy start h x ≡ Marking.Ruled (Verdict.Broken r e t) → Breaks start h marking r e t
       go (content m) f d =
           let v : verdict start h m ≡ Verdict.Broken r e t = cc in
           let w = broken-iff-first start h is-readable m r e t .0 v in
           record { marked = m; holds = f; at = w .0; first = w .1; event = w .2; transaction = w .3 }
       go (unread q byte) f d = absurd (let z : _≡_ {A = ℕ} 0 1 = cc in omega arith)
 
-      back : Breaks r e t → markingBy start h (fileRead (known h) marking) ≡ Marking.Ruled (Verdict.Broken r e t)
+      back : Breaks start h marking r e t → markingBy start h (fileRead (known h) marking) ≡ Marking.Ruled (Verdict.Broken r e t)
       back b =
           ap (markingBy start h) (b .holds)
           ∙ ap Marking.Ruled (broken-iff-first start h is-readable (b .marked) r e t .1 (b .at, b .first, b .event, b .transaction))

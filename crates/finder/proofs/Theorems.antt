@@ -30,6 +30,7 @@ use Rattle.tables.specs.Calls.{askedOf, thenChecked}
 use Rattle.tables.proofs.CallLaws.{asked-yes, asked-no, then-then}
 use Rattle.finder.specs.declared.Finding.{Finding}
 use Rattle.finder.specs.Answer.{Given, gives, said, Passed, decided, prefixRefusal, callRefusal, findRefusal, lowestMarking, foundAnswer, firstEditionRefusal, firstEditionAnswer}
+use Rattle.finder.specs.Words.{Passes, Found, Written}
 use Rattle.finder.proofs.AnswerLaws.{said-marking, said-none, said-refused, passes, decided-refused, decided-marking, decided-none, marking-e, none-e, refused-e, passed, marking-some, some-marking, none-marking, marking-none}
 
 -- a call: edition, start values, columns, count, prefix length, and the output as it was
@@ -38,14 +39,10 @@ module _ (edition : ℕ) (starts : List ℕ) (c : Columns) (count prefix : ℕ) 
   abbrev pub judged : List Event
   judged = take prefix (history c count)
 
-  -- no question says no
-  abbrev pub Passes : Type 0
-  Passes = findRefusal edition starts c count prefix (length output) ≡ Checked.Readable
-
-  inside : Passes → prefix ≤ length (history c count)
+  inside : Passes edition starts c count prefix output → prefix ≤ length (history c count)
   inside x = rw (history-length c count) (passed edition starts c count prefix (length output) x .inside)
 
-  judged-readable : Passes → readable judged ≡ true
+  judged-readable : Passes edition starts c count prefix output → readable judged ≡ true
   judged-readable x = readable-take (history c count) prefix (inside x) (passed edition starts c count prefix (length output) x .readable)
 
   -- A question refuses exactly where it is the first that says no, and then the output is as it was.
@@ -61,7 +58,7 @@ module _ (edition : ℕ) (starts : List ℕ) (c : Columns) (count prefix : ℕ) 
   refused-unchanged r x = refused-e _ _ output r x .1
 
   -- A marking is found exactly where the prefix has a justification,
-  pub marking-exactly : Passes → ((n : ℕ) × (foundAnswer edition starts c count prefix output .result ≡ Finding.Marking n)) ↔ ((J : List Place) × Justified (startOf starts) judged J)
+  pub marking-exactly : Passes edition starts c count prefix output → ((n : ℕ) × (foundAnswer edition starts c count prefix output .result ≡ Finding.Marking n)) ↔ ((J : List Place) × Justified (startOf starts) judged J)
   unfolding foundAnswer
   marking-exactly x = (
     λ w.
@@ -75,7 +72,7 @@ module _ (edition : ℕ) (starts : List ℕ) (c : Columns) (count prefix : ℕ) 
   )
 
   -- and none exactly where it has none; with none the output is as it was.
-  pub none-exactly : Passes → (foundAnswer edition starts c count prefix output .result ≡ Finding.None) ↔ ((J : List Place) → Justified (startOf starts) judged J → ⊥)
+  pub none-exactly : Passes edition starts c count prefix output → (foundAnswer edition starts c count prefix output .result ≡ Finding.None) ↔ ((J : List Place) → Justified (startOf starts) judged J → ⊥)
   unfolding foundAnswer
   none-exactly x =
       let e = lowest-none (startOf starts) judged (judged-readable x) in (
@@ -88,26 +85,13 @@ module _ (edition : ℕ) (starts : List ℕ) (c : Columns) (count prefix : ℕ) 
   none-unchanged x = none-e _ _ output x .2
 
   -- The lowest justification's marking is what is written, from the output's first byte, and its length is what is returned.
-  pub lowest-written : Passes → (J : List Place) → LowestJustified (startOf starts) judged J
+  pub lowest-written : Passes edition starts c count prefix output → (J : List Place) → LowestJustified (startOf starts) judged J
       → foundAnswer edition starts c count prefix output ≡ gives (Finding.Marking (length (markingBytes (marked judged J)))) (over (markingBytes (marked judged J)) output)
   unfolding foundAnswer
   lowest-written x J j = sym (decided-marking _ output _ x (some-marking (startOf starts) judged (lowest-some (startOf starts) judged (judged-readable x) J .1 j)) refl refl)
 
-  -- the length of the marking of the lowest justification
-  abbrev pub Found : ℕ → Type 0
-  Found n = (J : List Place) × LowestJustified (startOf starts) judged J × (length (markingBytes (marked judged J)) ≡ n)
-
-  -- What is written is the marking of the lowest justification. It is readable for the prefix, and the rules accept it.
-  pub record Written (n : ℕ) : Type 0 where
-    pub passes : Passes
-    pub order : List Place
-    pub lowest : LowestJustified (startOf starts) judged order
-    pub bytes : take n (foundAnswer edition starts c count prefix output .output) ≡ markingBytes (marked judged order)
-    pub behind : drop n (foundAnswer edition starts c count prefix output .output) ≡ drop n output
-    pub readable : ReadableFor judged (marked judged order)
-    pub accepted : verdict (startOf starts) judged (marked judged order) ≡ Verdict.Accepted
-
-  pub written : (n : ℕ) → foundAnswer edition starts c count prefix output .result ≡ Finding.Marking n → Written n
+  -- What is written is the marking of the lowest justification; it is readable for the prefix, and the rules accept it.
+  pub written : (n : ℕ) → foundAnswer edition starts c count prefix output .result ≡ Finding.Marking n → Written edition starts c count prefix output n
   unfolding foundAnswer
   written n x =
       let m = marking-e _ _ output n x in
@@ -127,14 +111,14 @@ module _ (edition : ℕ) (starts : List ℕ) (c : Columns) (count prefix : ℕ) 
 
   -- The same in the words of a machine that runs the transactions one at a time: the marking is that of the lowest order that explains
   -- the prefix, and none is found exactly where no order explains it.
-  pub lowest-serial-written : Passes → (J : List Place) → LowestSerial (startOf starts) judged J
+  pub lowest-serial-written : Passes edition starts c count prefix output → (J : List Place) → LowestSerial (startOf starts) judged J
       → foundAnswer edition starts c count prefix output ≡ gives (Finding.Marking (length (markingBytes (marked judged J)))) (over (markingBytes (marked judged J)) output)
   unfolding foundAnswer
   lowest-serial-written x J s =
       let e = prefix-lowest-serial (startOf starts) (history c count) (passed edition starts c count prefix (length output) x .readable) prefix (inside x) J .1 s in
       sym (decided-marking _ output _ x (some-marking (startOf starts) judged e) refl refl)
 
-  pub none-serial : Passes → (foundAnswer edition starts c count prefix output .result ≡ Finding.None) ↔ ((K : List Place) → Serial (startOf starts) judged K → ⊥)
+  pub none-serial : Passes edition starts c count prefix output → (foundAnswer edition starts c count prefix output .result ≡ Finding.None) ↔ ((K : List Place) → Serial (startOf starts) judged K → ⊥)
   unfolding foundAnswer
   none-serial x =
       let e = prefix-none-serial (startOf starts) (history c count) (passed edition starts c count prefix (length output) x .readable) prefix (inside x) in (
@@ -145,15 +129,15 @@ module _ (edition : ℕ) (starts : List ℕ) (c : Columns) (count prefix : ℕ) 
   -- What the finder says, for every call: the length of the marking of the lowest justification exactly where no question says no and there
   -- is one,
   pub found-said : (n : ℕ) → (said (foundAnswer edition starts c count prefix output .result) ≡ done (n ∷ []))
-      ↔ (Passed edition starts c count prefix (length output) × Found n)
+      ↔ (Passed edition starts c count prefix (length output) × Found starts c count prefix n)
   unfolding said
   found-said n = (
     λ x.
         let w = written n (said-marking _ n x) in
         let e = lowest-written (w .passes) (w .order) (w .lowest) in
         let k : Finding.Marking (length (markingBytes (marked judged (w .order)))) ≡ Finding.Marking n = ap (λ (g : Given). g .result) (sym e) ∙ said-marking _ n x in
-        (passed edition starts c count prefix (length output) (w .passes), (w .order, w .lowest, cc)),
-    λ w. ap (λ (g : Given). said (g .result)) (lowest-written (passes edition starts c count prefix (length output) (w .0)) (w .1 .0) (w .1 .1)) ∙ ap (λ (i : ℕ). done (i ∷ [])) (w .1 .2),
+        (passed edition starts c count prefix (length output) (w .passes), record { order = w .order; lowest = w .lowest; size = cc }),
+    λ w. ap (λ (g : Given). said (g .result)) (lowest-written (passes edition starts c count prefix (length output) (w .0)) (w .1 .order) (w .1 .lowest)) ∙ ap (λ (i : ℕ). done (i ∷ [])) (w .1 .size),
   )
 
   -- none exactly where no question says no and there is none,

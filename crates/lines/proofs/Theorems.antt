@@ -21,7 +21,8 @@ use Rattle.capture.specs.declared.Marking.{Marking}
 use Rattle.scan.specs.declared.Scanning.{Scanning}
 use Rattle.capture.specs.declared.Report.{Report}
 use Rattle.capture.specs.Report.{countsOf, markingOf, opacityOf, reportOn}
-use Rattle.capture.proofs.Theorems.{four-lines, says-opaque, says-accepted, Justifying}
+use Rattle.capture.proofs.Theorems.{four-lines, says-opaque, says-accepted}
+use Rattle.capture.specs.Words.{Justifying}
 use Rattle.lines.specs.Text.{text, decimal}
 use Rattle.lines.specs.Lines.{countsLine, tallyLine, refusedLine, brokenLine, verdictLine, markingLine}
 use Rattle.lines.specs.Lines.{faultedLine, unscannedLine, scannedLine, opacityLine, lines}
@@ -92,7 +93,7 @@ module _ (s : List ℕ) (by : Bytes s) (l : Log) (file : historyOf s ≡ readabl
   four-texts = ap lines (four-lines s by l file marking)
 
   -- where the third is "marking accepted" exactly if the marking justifies the history and keeps rule D,
-  pub accepted-means : (markingLine (markingOf start h marking) ≡ text "marking accepted\n") ↔ Justifying s by l file marking
+  pub accepted-means : (markingLine (markingOf start h marking) ≡ text "marking accepted\n") ↔ Justifying start h marking
   accepted-means = Iff·trans (accepted-text (markingOf start h marking)) (says-accepted s by l file marking)
 
   -- and the last is "opaque yes" exactly if every prefix has a justification.

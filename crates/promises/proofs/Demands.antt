@@ -7,7 +7,7 @@ use mathlib.Core.Path.{_≡_}
 use mathlib.Core.Logic.{_↔_, _⊎_}
 use mathlib.Core.Bool.{true}
 use mathlib.Core.List.{List, [], _∷_}
-use lib.ListN.{length, take}
+use lib.ListN.{length, take, drop}
 use Rattle.events.specs.declared.columns.Checked.the-variants.{Readable, Refused}
 use Rattle.events.specs.Bytes.{Bytes, over}
 use Rattle.events.specs.Columns.{Columns, history, hold, Fitting}
@@ -37,10 +37,14 @@ use Rattle.marking.specs.Answer.{verdictAnswer, said as checkSaid, Breaking}
 use Rattle.marking.proofs.Theorems as checker
 use Rattle.straighten.specs.Answer.{straightenedAnswer, said as straightSaid, Passes, Short}
 use Rattle.straighten.proofs.Theorems as straighten
+use Rattle.codes.specs.Codes.{most, coded}
+use Rattle.codes.specs.Decoded.{decoded, oneValue, twoValues, always, never}
+use Rattle.sendoshi.specs.Calls.{put, readCall, writeCall, findCall, checkCall}
 use Rattle.promises.specs.Words.{Accepts, AllExplained, FromFile}
 use Rattle.promises.proofs.BuffersKept as kept
 use Rattle.promises.proofs.InWords as words
 use Rattle.promises.proofs.FromFile as from
+use Rattle.promises.proofs.Calls as calls
 
 -- ---- Demand 1. "What is not a readable history or marking, or a lent buffer that is too short, is refused with the paper's number and its byte
 -- or event;"
@@ -158,3 +162,42 @@ module _ (file : List ℕ) (c : Columns) (count prefix : ℕ) (output : List ℕ
   pub found-is-accepted : (n : ℕ) → foundSaid (foundAnswer edition starts filled count prefix output .result) ≡ done (n ∷ [])
       → checkSaid (verdictAnswer edition starts filled prefix (take n (foundAnswer edition starts filled count prefix output .output))) ≡ done []
   found-is-accepted = from.found-is-accepted file c count prefix output d
+
+-- ---- The same of the library's calls, whose numbers are read as the header says (`count ≤ most` is what the type of a count says)
+
+-- write, then read: count, edition, start values and entries come back
+pub calls-write-then-read : (edition : ℕ) (starts : List ℕ) (c : Columns) (count : ℕ) → count ≤ most → (out : List ℕ) (len : ℕ)
+    → decoded oneValue never (writeCall edition starts c count out .number) ≡ done (len ∷ [])
+    → (lent : List ℕ) (d : Columns) → FittingStarts starts → Fitting c → hold d count ≡ true
+    → (decoded twoValues always (readCall (take len (writeCall edition starts c count out .output)) lent d .number) ≡ done (count ∷ edition ∷ []))
+    × (readCall (take len (writeCall edition starts c count out .output)) lent d .starts ≡ starts)
+    × SameEntries count (readCall (take len (writeCall edition starts c count out .output)) lent d .columns) c
+calls-write-then-read = calls.write-then-read
+
+-- read, then write: the file comes back, and nothing behind it changes
+pub calls-read-then-write : (file lent : List ℕ) (c : Columns) (n edition : ℕ) → decoded twoValues always (readCall file lent c .number) ≡ done (n ∷ edition ∷ [])
+    → (out : List ℕ) → Bytes file → length file ≤ length out
+    → writeCall edition (readCall file lent c .starts) (readCall file lent c .columns) n out ≡ put (coded (done (length file ∷ []))) (over file out)
+calls-read-then-write = calls.read-then-write
+
+-- find, then check: accepted
+pub calls-find-then-check : (edition : ℕ) (starts : List ℕ) (c : Columns) (count prefix : ℕ) → count ≤ most → (out : List ℕ) (n : ℕ)
+    → decoded oneValue never (findCall edition starts c count prefix out .number) ≡ done (n ∷ [])
+    → checkCall edition starts c prefix (take n (findCall edition starts c count prefix out .output)) ≡ coded (done [])
+calls-find-then-check = calls.find-then-check
+
+-- nothing changes behind what read, write and find give
+pub calls-read-behind : (file lent : List ℕ) (c : Columns) (n edition : ℕ) → decoded twoValues always (readCall file lent c .number) ≡ done (n ∷ edition ∷ [])
+    → (drop n (readCall file lent c .columns .kinds) ≡ drop n (c .kinds))
+    × (drop n (readCall file lent c .columns .transactions) ≡ drop n (c .transactions))
+    × (drop n (readCall file lent c .columns .registers) ≡ drop n (c .registers))
+    × (drop n (readCall file lent c .columns .values) ≡ drop n (c .values))
+calls-read-behind = calls.read-behind
+
+pub calls-write-behind : (edition : ℕ) (starts : List ℕ) (c : Columns) (count : ℕ) → count ≤ most → (out : List ℕ) (len : ℕ)
+    → decoded oneValue never (writeCall edition starts c count out .number) ≡ done (len ∷ []) → drop len (writeCall edition starts c count out .output) ≡ drop len out
+calls-write-behind = calls.write-behind
+
+pub calls-find-behind : (edition : ℕ) (starts : List ℕ) (c : Columns) (count prefix : ℕ) → count ≤ most → (out : List ℕ) (n : ℕ)
+    → decoded oneValue never (findCall edition starts c count prefix out .number) ≡ done (n ∷ []) → drop n (findCall edition starts c count prefix out .output) ≡ drop n out
+calls-find-behind = calls.find-behind

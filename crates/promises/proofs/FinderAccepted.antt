@@ -19,7 +19,8 @@ use Rattle.opacity.specs.Marking.{Marking, ReadableFor, marked, verdict}
 use Rattle.finder.specs.declared.Finding.{Finding}
 use Rattle.finder.specs.Answer.{Passed, foundAnswer}
 use Rattle.finder.proofs.AnswerLaws.{passed}
-use Rattle.finder.proofs.Theorems.{Written, written}
+use Rattle.finder.specs.Words.{Written}
+use Rattle.finder.proofs.Theorems.{written}
 use Rattle.marking.specs.declared.check.Checking.the-variants.{Ruled}
 use Rattle.marking.specs.Answer.{verdictAnswer}
 use Rattle.marking.proofs.Theorems.{bytes-accepted}

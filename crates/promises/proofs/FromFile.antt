@@ -69,8 +69,10 @@ module _ (file : List ℕ) (c : Columns) (count prefix : ℕ) (output : List ℕ
   pub finds-lowest : (n : ℕ) → (said (found .result) ≡ done (n ∷ []))
       ↔ ((J : List Place) × LowestJustified (startOf starts) events J × (length (markingBytes (marked events J)) ≡ n))
   finds-lowest n =
-      let f = found-said edition starts filled count prefix output n in
-      (λ x. subst Marks same-prefix (f .0 x .1), λ w. f .1 (no-question, subst Marks (sym same-prefix) w))
+      let f = found-said edition starts filled count prefix output n in (
+        λ x. let m = f .0 x .1 in subst Marks same-prefix (m .order, m .lowest, m .size),
+        λ w. let m = subst Marks (sym same-prefix) w in f .1 (no-question, record { order = m .0; lowest = m .1; size = m .2 }),
+      )
     where
       Marks : List Event → Type 0
       Marks h = (J : List Place) × LowestJustified (startOf starts) h J × (length (markingBytes (marked h J)) ≡ n)

@@ -19,15 +19,11 @@ use Rattle.opacity.specs.Serial.{AllSerial}
 use Rattle.opacity.proofs.Theorems.{opaque-iff, faulted-iff, opaque-iff-serial, cause-never-four}
 use Rattle.tables.specs.Calls.{thenChecked}
 use Rattle.scan.specs.declared.Scanning.{Scanning}
-use Rattle.scan.specs.Answer.{said, Passed, sizeRefusal, scanRefusal, decided, scanAnswer, firstEditionAnswer}
+use Rattle.scan.specs.Answer.{said, Passes, Passed, sizeRefusal, scanRefusal, decided, scanAnswer, firstEditionAnswer}
 use Rattle.scan.proofs.AnswerLaws.{said-scanned, said-refused, passes, decided-refused, decided-scanned, scanned-e, refused-e, passed}
 
 -- a call: edition, start values, columns and count
 module _ (edition : ℕ) (starts : List ℕ) (c : Columns) (count : ℕ) where
-  -- no question says no
-  abbrev pub Passes : Type 0
-  Passes = scanRefusal edition starts c count ≡ Checked.Readable
-
   -- the history has as many events as the count says, so its prefixes are those of 0 to count events
   pub whole : length (history c count) ≡ count
   whole = history-length c count
@@ -38,12 +34,12 @@ module _ (edition : ℕ) (starts : List ℕ) (c : Columns) (count : ℕ) where
   refused-exactly r = (λ x. refused-e _ _ r x, λ x. sym (decided-refused (scan (startOf starts) (history c count)) x))
 
   -- The answer is what the scan of the history says, where no question refuses.
-  scanned-exactly : Passes → (s : Scanned) → (scanAnswer edition starts c count ≡ Scanning.Scanned s) ↔ (scan (startOf starts) (history c count) ≡ s)
+  scanned-exactly : Passes edition starts c count → (s : Scanned) → (scanAnswer edition starts c count ≡ Scanning.Scanned s) ↔ (scan (startOf starts) (history c count) ≡ s)
   unfolding scanAnswer
   scanned-exactly x s = (λ w. scanned-e _ _ s w .1, λ e. sym (decided-scanned (scan (startOf starts) (history c count)) x) ∙ ap Scanning.Scanned e)
 
   -- The answer is opaque exactly where every prefix has a justification, each with the start values of the whole.
-  pub opaque-exactly : Passes → (scanAnswer edition starts c count ≡ Scanning.Scanned Scanned.Opaque) ↔ AllJustified (startOf starts) (history c count)
+  pub opaque-exactly : Passes edition starts c count → (scanAnswer edition starts c count ≡ Scanning.Scanned Scanned.Opaque) ↔ AllJustified (startOf starts) (history c count)
   opaque-exactly x =
       let s = scanned-exactly x Scanned.Opaque in
       let o = opaque-iff (startOf starts) (history c count) (passed edition starts c count x .readable) in
@@ -51,14 +47,14 @@ module _ (edition : ℕ) (starts : List ℕ) (c : Columns) (count : ℕ) where
 
   -- The answer is faulted at e exactly where the prefix that ends with e has no justification and every shorter one has; the cause is
   -- that of e's kind.
-  pub faulted-exactly : Passes → (e w : ℕ) → (scanAnswer edition starts c count ≡ Scanning.Scanned (Scanned.Faulted e w)) ↔ FaultsAt (startOf starts) (history c count) e w
+  pub faulted-exactly : Passes edition starts c count → (e w : ℕ) → (scanAnswer edition starts c count ≡ Scanning.Scanned (Scanned.Faulted e w)) ↔ FaultsAt (startOf starts) (history c count) e w
   faulted-exactly x e w =
       let s = scanned-exactly x (Scanned.Faulted e w) in
       let f = faulted-iff (startOf starts) (history c count) (passed edition starts c count x .readable) e w in
       (λ y. f .0 (s .0 y), λ g. s .1 (f .1 g))
 
   -- Opaque in the words of a machine that runs the transactions one at a time.
-  pub opaque-serial : Passes → (scanAnswer edition starts c count ≡ Scanning.Scanned Scanned.Opaque) ↔ AllSerial (startOf starts) (history c count)
+  pub opaque-serial : Passes edition starts c count → (scanAnswer edition starts c count ≡ Scanning.Scanned Scanned.Opaque) ↔ AllSerial (startOf starts) (history c count)
   opaque-serial x =
       let s = scanned-exactly x Scanned.Opaque in
       let o = opaque-iff-serial (startOf starts) (history c count) (passed edition starts c count x .readable) in

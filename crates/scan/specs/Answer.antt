@@ -44,6 +44,9 @@ pub record Passed (edition : ℕ) (starts : List ℕ) (c : Columns) (count : ℕ
   pub readable : readable (history c count) ≡ true
   pub few : begins (history c count) ≤ 10
 
+abbrev pub Passes : ℕ → List ℕ → Columns → ℕ → Type 0
+Passes edition starts c count = scanRefusal edition starts c count ≡ Checked.Readable
+
 unfoldable pub decided : Checked → Scanned → Scanning
 decided (Checked.Refused r) s = Scanning.Refused r
 decided Checked.Readable s = Scanning.Scanned s

@@ -40,6 +40,7 @@ use Rattle.straighten.specs.declared.Straightening.{Straightening}
 use Rattle.straighten.specs.declared.Straightening.the-variants.{Straightened, Broken, Refused, MarkingRefused}
 use Rattle.straighten.specs.Straight.{straightened, movedEvents, Rises, FirstIllegal}
 use Rattle.straighten.specs.Answer.{Given, gives, settled, judged, roomy, afterFile, afterColumns, straightenedAnswer, firstEditionAnswer, said, Passes, Short}
+use Rattle.straighten.specs.Words.{Written}
 use Rattle.straighten.proofs.StraightLaws.{moved-rise, straight-readable, straight-accepted, straight-length}
 use Rattle.straighten.proofs.RuleLaws.{order-rules-same, never-D, E-first-illegal}
 use Rattle.straighten.proofs.AnswerLaws.{never-15, Done, history-said, marking-said, short-said, done-said, broken-said, same-said, told}
@@ -147,21 +148,6 @@ module _ (edition : ℕ) (starts : List ℕ) (c : Columns) (n : ℕ) (file outpu
 
   -- ---- what is written
 
-  -- The output begins with the bytes of the straightened marking, as many as the file has, and the list with the moved events, rising; behind
-  -- them both are as they were. The straightened marking is readable for the history, and the checker accepts exactly these bytes.
-  pub record Written (k l : ℕ) : Type 0 where
-    pub marking : Marking
-    pub passes : Passes edition starts c n file output list marking
-    pub justified : Justified (startOf starts) events (marking .places)
-    pub size : k ≡ length file
-    pub bytes : take k (given .output) ≡ markingBytes (straightened (startOf starts) events marking)
-    pub behind-bytes : drop k (given .output) ≡ drop k output
-    pub moved : take l (given .list) ≡ movedEvents (startOf starts) events marking
-    pub behind-moved : drop l (given .list) ≡ drop l list
-    pub rising : Rises (take l (given .list))
-    pub readable : ReadableFor events (straightened (startOf starts) events marking)
-    pub accepted : verdictAnswer edition starts c n (take k (given .output)) ≡ Ruled Accepted
-
   module _ (k l : ℕ) (x : given .result ≡ Straightened k l) where
     done : Done edition starts c n file output list k l (given .output) (given .list)
     done = told edition starts c n file output list (Straightened k l) x
@@ -184,7 +170,7 @@ module _ (edition : ℕ) (starts : List ℕ) (c : Columns) (n : ℕ) (file outpu
     pub written-accepted : verdictAnswer edition starts c n (take k (given .output)) ≡ Ruled Accepted
     written-accepted = ap (verdictAnswer edition starts c n) bytes-written ∙ bytes-judged edition starts c n (straightened (startOf starts) events (done .marking)) (done .passes .fine) written-readable ∙ ap Ruled (done .accepted)
 
-    pub written : Bytes file → Written k l
+    pub written : Bytes file → Written edition starts c n file output list k l
     written by =
         let m = done .marking in
         let f = readable-for m (done .passes) in

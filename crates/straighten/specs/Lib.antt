@@ -1,3 +1,4 @@
 pub mod Straight
 pub mod Answer
 pub mod Tables
+pub mod Words
