@@ -7,14 +7,14 @@ use mathlib.Core.Bool.{true, cond}
 use mathlib.Core.List.{List}
 use lib.ListN.{length}
 use Rattle.events.specs.declared.event.Event.{Event}
-use Rattle.events.specs.declared.columns.Checked.{Checked}
+use Rattle.log.specs.declared.columns.Checked.{Checked}
 use Rattle.events.specs.declared.refusal.Refusal.{Refusal}
 use Rattle.events.specs.Said.{refuse}
-use Rattle.events.specs.Bytes.{Bytes}
-use Rattle.events.specs.Columns.{Columns, history, hold, filledWith}
-use Rattle.events.specs.Starts.{startOf}
-use Rattle.events.specs.Questions.{historyAnswer}
-use Rattle.events.proofs.ColumnLaws.{Held, hold-e, hold-i, history-length}
+use Rattle.records.specs.Bytes.{Bytes}
+use Rattle.log.specs.Columns.{Columns, history, hold, filledWith}
+use Rattle.log.specs.Starts.{startOf}
+use Rattle.log.specs.Answer.{historyAnswer}
+use Rattle.log.proofs.ColumnLaws.{Held, hold-e, hold-i, history-length}
 use Rattle.events.proofs.ReadableLaws.{readable-most}
 use Rattle.opacity.specs.Scan.{scan}
 use Rattle.scan.specs.Answer.{sizeRefusal, decided, scanAnswer}

@@ -10,10 +10,10 @@ use mathlib.Core.Bool.{true}
 use mathlib.Core.List.{List}
 use lib.ListN.{length}
 use Rattle.events.specs.declared.event.Event.{Event}
-use Rattle.events.specs.Bytes.{Bytes, u16At}
+use Rattle.records.specs.Bytes.{Bytes, u16At}
 use Rattle.events.specs.Said.{refuse}
-use Rattle.events.specs.Starts.{startOf}
-use Rattle.events.proofs.StartLaws.{no-starts}
+use Rattle.log.specs.Starts.{startOf}
+use Rattle.log.proofs.StartLaws.{no-starts}
 use Rattle.events.specs.Events.{begins}
 use Rattle.events.specs.Questions.{readable as isReadable}
 use Rattle.opacity.specs.declared.verdict.Scanned.{Scanned}

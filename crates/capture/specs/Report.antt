@@ -6,7 +6,7 @@ use mathlib.Core.List.{List}
 use lib.ListN.{length}
 use Rattle.events.specs.declared.event.Event.{Event}
 use Rattle.events.specs.Said.{refuse}
-use Rattle.events.specs.Starts.{startOf}
+use Rattle.log.specs.Starts.{startOf}
 use Rattle.opacity.specs.Justification.{zeros}
 use Rattle.opacity.specs.Counts.{counts}
 use Rattle.opacity.specs.Marking.{verdict}

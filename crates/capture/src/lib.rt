@@ -6,10 +6,10 @@
 // file: what the columns are asked again, between the reader and the other functions, always says yes.
 ghost use mathlib.Core.Path.{_≡_};
 ghost use mathlib.Core.Bool.{true};
-ghost use Rattle.events.specs.Columns.{columns, history, hold};
-ghost use Rattle.events.specs.Questions.{columnsAnswer, historyAnswer};
-ghost use Rattle.events.specs.Starts.{startOf};
-ghost use Rattle.events.specs.declared.columns.Checked.{Checked};
+ghost use Rattle.log.specs.Columns.{columns, history, hold};
+ghost use Rattle.log.specs.Answer.{columnsAnswer, historyAnswer};
+ghost use Rattle.log.specs.Starts.{startOf};
+ghost use Rattle.log.specs.declared.columns.Checked.{Checked};
 ghost use Rattle.capture.specs.Report.{countsOf, markingOf, judged, reportOn};
 use counts::tally::Tally;
 use counts::tally::tally_of;

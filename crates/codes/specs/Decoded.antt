@@ -4,7 +4,7 @@ use Prim.Native.Nat.{ℕ, _-_, _/_, _%_}
 use mathlib.Core.Bool.{Bool, true, false, cond}
 use mathlib.Core.List.{List, [], _∷_}
 use lib.Dec.{eqb, ltb}
-use Rattle.events.specs.Lists.{_or_}
+use Rattle.lists.specs.Lists.{_or_}
 use Rattle.events.specs.Said.{Said, done, nothing, faulted, broken, atEvent, atByte}
 
 abbrev pub codeOf : ℕ → ℕ

@@ -11,11 +11,11 @@ use mathlib.Core.List.{List, [], _∷_, _++_}
 use lib.ListN.{length, take}
 use lib.Seq.{take-suc, take-all}
 use borrow.Author.Tests.{ne-eqb}
-use Rattle.events.specs.Lists.{_and_, _or_, any, keep}
+use Rattle.lists.specs.Lists.{_and_, _or_, any, keep}
 use Rattle.events.specs.declared.event.Event.{Event}
 use Rattle.events.specs.Events.{noEvent, eventAt, isCommit, isAbort, isEnd, by, has, ended, begins}
 use Rattle.events.specs.Questions.{readable}
-use Rattle.events.proofs.ListLaws.{and-i, and-false-l, and-false-r, or-l, or-r, or-false, both-ways, clash, eqb-self}
+use Rattle.lists.proofs.ListLaws.{and-i, and-false-l, and-false-r, or-l, or-r, or-false, both-ways, clash, eqb-self}
 use Rattle.events.proofs.StateLaws.{has-snoc}
 use Rattle.opacity.specs.Transactions.{Status, committed, aborted, status}
 use Rattle.opacity.specs.Counts.{one}

@@ -5,11 +5,11 @@ use native.Mathlib.Omega.{arith}
 use mathlib.Core.Path.{_≡_, refl, sym, ap, _∙_}
 use mathlib.Core.Logic.{_↔_}
 use mathlib.Core.List.{List, [], _∷_}
-use Rattle.events.specs.declared.columns.Checked.{Checked}
-use Rattle.events.specs.declared.columns.Checked.the-variants.{Readable, Refused as Refuses}
-use Rattle.events.specs.Columns.{Columns, history}
+use Rattle.log.specs.declared.columns.Checked.{Checked}
+use Rattle.log.specs.declared.columns.Checked.the-variants.{Readable, Refused as Refuses}
+use Rattle.log.specs.Columns.{Columns, history}
 use Rattle.events.specs.Said.{Said, done, atEvent, refuse}
-use Rattle.events.specs.Questions.{columnsAnswer}
+use Rattle.log.specs.Answer.{columnsAnswer}
 use Rattle.opacity.specs.Counts.{counts}
 use Rattle.counts.specs.declared.tally.Tally.{Tally}
 use Rattle.counts.specs.Tally.{tally}

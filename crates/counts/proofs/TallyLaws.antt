@@ -11,13 +11,14 @@ use mathlib.Core.List.{List}
 use lib.Dec.{eqb}
 use lib.ListN.{length, getD, set, replicate, length-replicate, getD-replicate}
 use borrow.Author.Tests.{eq-eqb, ne-eqb}
-use Rattle.events.specs.Lists.{keep, range}
+use Rattle.lists.specs.Lists.{keep, range}
 use Rattle.events.specs.declared.event.Event.{Event}
 use Rattle.events.specs.Events.{isBegin, begins}
-use Rattle.events.specs.Columns.{Columns, history}
-use Rattle.events.proofs.ListLaws.{eqb-self}
-use Rattle.events.proofs.ColumnLaws.{history-length, history-at}
-use Rattle.events.proofs.ReadableLaws.{readable-most, readable-fewer}
+use Rattle.log.specs.Columns.{Columns, history}
+use Rattle.lists.proofs.ListLaws.{eqb-self}
+use Rattle.log.proofs.ColumnLaws.{history-length, history-at}
+use Rattle.events.proofs.ReadableLaws.{readable-most}
+use Rattle.log.proofs.AnswerLaws.{readable-fewer}
 use Rattle.opacity.specs.Transactions.{Status, committed, aborted, pending, live, statusNumber, status}
 use Rattle.opacity.specs.Counts.{HoldsReadable, one, ofKind, countsBegin}
 use Rattle.opacity.proofs.Bounds.{at-most-64, transaction-known}

@@ -11,13 +11,14 @@ use mathlib.Core.List.{List}
 use lib.Dec.{eqb}
 use lib.ListN.{length}
 use borrow.Author.Tests.{eqb-true, ne-eqb}
-use Rattle.events.specs.Lists.{_and_, keep, range}
+use Rattle.lists.specs.Lists.{_and_, keep, range}
 use Rattle.events.specs.declared.event.Event.{Event}
-use Rattle.events.specs.declared.columns.Checked.{Checked}
+use Rattle.log.specs.declared.columns.Checked.{Checked}
 use Rattle.events.specs.Events.{begins}
-use Rattle.events.specs.Columns.{Columns, history}
-use Rattle.events.specs.Questions.{readable, columnsAnswer}
-use Rattle.events.proofs.ListLaws.{and-false-l, eqb-self, keep-both}
+use Rattle.log.specs.Columns.{Columns, history}
+use Rattle.events.specs.Questions.{readable}
+use Rattle.log.specs.Answer.{columnsAnswer}
+use Rattle.lists.proofs.ListLaws.{and-false-l, eqb-self, keep-both}
 use Rattle.opacity.specs.Transactions.{Status, committed, aborted, pending, live, Stands, statusNumber, status}
 use Rattle.opacity.specs.Counts.{one, counts}
 use Rattle.opacity.proofs.HowMany.{howMany, how-many-suc, how-many-none, how-many-moved}

@@ -3,10 +3,10 @@
 -- Assumes nothing.
 use Prim.Native.Nat.{ℕ}
 use mathlib.Core.List.{[], _∷_}
-use Rattle.events.specs.declared.columns.Checked.{Checked}
-use Rattle.events.specs.Columns.{Columns, history}
+use Rattle.log.specs.declared.columns.Checked.{Checked}
+use Rattle.log.specs.Columns.{Columns, history}
 use Rattle.events.specs.Said.{Said, done, eventRefused}
-use Rattle.events.specs.Questions.{columnsAnswer}
+use Rattle.log.specs.Answer.{columnsAnswer}
 use Rattle.opacity.specs.Counts.{counts}
 use Rattle.counts.specs.declared.Counting.{Counting}
 use Rattle.counts.specs.declared.Tallying.{Tallying}

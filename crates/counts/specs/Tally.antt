@@ -6,7 +6,7 @@ use mathlib.Core.Bool.{Bool}
 use mathlib.Core.List.{List}
 use lib.Dec.{eqb}
 use lib.ListN.{length}
-use Rattle.events.specs.Lists.{keep, range}
+use Rattle.lists.specs.Lists.{keep, range}
 use Rattle.events.specs.declared.event.Event.{Event}
 use Rattle.events.specs.Events.{begins}
 use Rattle.opacity.specs.Transactions.{Status, committed, aborted, pending, live, statusNumber, status}

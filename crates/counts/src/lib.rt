@@ -1,15 +1,15 @@
 // The counts of the report's first line and the tally of its second, of columns that no one has put a
 // question to yet: 17 and each event's own questions come first, then the events are counted in one pass.
 ghost use mathlib.Core.Path.{_≡_};
-ghost use Rattle.events.specs.Columns.{columns};
+ghost use Rattle.log.specs.Columns.{columns};
 ghost use Rattle.counts.specs.Answer.{transactionsAnswer, storeReadsAnswer, tallyAnswer};
 
 pub mod tally;
 
 use crate::tally::Tally;
 use crate::tally::tally_of;
-use events::columns::Checked;
-use events::columns::check_columns;
+use log::columns::Checked;
+use log::columns::check_columns;
 use events::refusal::Refusal;
 
 // A count's answer: the number, or the question that says no with its event.

@@ -1,6 +1,6 @@
 // The tally of the transactions in the columns: how each stands after the last event.
 ghost use mathlib.Core.Path.{_≡_};
-ghost use Rattle.events.specs.Columns.{columns, history};
+ghost use Rattle.log.specs.Columns.{columns, history};
 ghost use Rattle.opacity.specs.Counts.{HoldsReadable};
 ghost use Rattle.counts.specs.Tally.{tally};
 ghost use Rattle.counts.specs.Moves.{moved, Room};

@@ -1,13 +1,6 @@
-pub mod ListLaws
-pub mod ColumnLaws
+pub mod EventLaws
 pub mod QuestionLaws
-pub mod BufferLaws
 pub mod KindLaws
-pub mod RecordLaws
+pub mod BodyLaws
 pub mod StateLaws
-pub mod StepLaws
-pub mod CheckLaws
-pub mod StartLaws
 pub mod ReadableLaws
-pub mod FieldLaws
-pub mod SaidLaws

@@ -1,9 +1,5 @@
-pub mod Lists
-pub mod Bytes
-pub mod Starts
 pub mod Events
-pub mod Columns
+pub mod Bodies
 pub mod Said
 pub mod Questions
-pub mod Records
 pub mod State

@@ -1,10 +1,8 @@
 -- To be believed: how an answer is said, in the paper's numbers and values. Each answer has a definition `said` beside its own.
 -- Assumes nothing.
 use Prim.Native.Nat.{ℕ}
-use mathlib.Core.List.{List, []}
+use mathlib.Core.List.{List}
 use Rattle.events.specs.declared.refusal.Refusal.{Refusal}
-use Rattle.events.specs.declared.columns.Checked.{Checked}
-use Rattle.events.specs.declared.columns.Checked.the-variants.{Readable, Refused}
 
 -- What an answer says, in whatever call. No question says no: it is done, with the values that the call gives; or the finder has nothing
 -- to write; or the scan names the event that faults the history, with its cause; or a rule is broken (1 for A to 5 for E), with its event
@@ -35,8 +33,3 @@ eventRefused r = atEvent (r .question) (r .at)
 
 abbrev pub byteRefused : Refusal → Said
 byteRefused r = atByte (r .question) (r .at)
-
--- what the questions of columns say
-unfoldable pub said : Checked → Said
-said Readable = done []
-said (Refused r) = eventRefused r

@@ -9,17 +9,18 @@ use mathlib.Core.Option.{Option, none, some, Option·none-ne-some, Option·some-
 use lib.ListN.{length, take}
 use borrow.Author.Tests.{le-leb, lt-leb, leb-true}
 use Rattle.events.specs.declared.event.Event.{Event}
-use Rattle.events.specs.declared.columns.Checked.{Checked}
+use Rattle.log.specs.declared.columns.Checked.{Checked}
 use Rattle.events.specs.declared.refusal.Refusal.{Refusal}
 use Rattle.events.specs.Said.{done, nothing, atEvent, refuse}
-use Rattle.events.specs.Bytes.{over}
+use Rattle.records.specs.Bytes.{over}
 use Rattle.events.specs.Events.{begins}
-use Rattle.events.specs.Columns.{Columns, history, hold}
-use Rattle.events.specs.Starts.{startOf, admits}
-use Rattle.events.specs.Questions.{readable, eventsAnswer, columnsAnswer}
-use Rattle.events.proofs.ColumnLaws.{history-take, hold-e}
-use Rattle.events.proofs.QuestionLaws.{answer-readable}
-use Rattle.events.proofs.ReadableLaws.{readable-columns}
+use Rattle.log.specs.Columns.{Columns, history, hold}
+use Rattle.log.specs.Starts.{startOf, admits}
+use Rattle.events.specs.Questions.{readable}
+use Rattle.log.specs.Answer.{eventsAnswer, columnsAnswer}
+use Rattle.log.proofs.ColumnLaws.{history-take, hold-e}
+use Rattle.log.proofs.AnswerLaws.{answer-readable}
+use Rattle.log.proofs.AnswerLaws.{readable-columns}
 use Rattle.opacity.specs.Justification.{Place}
 use Rattle.opacity.specs.Lowest.{lowestOf}
 use Rattle.opacity.specs.Marking.{marked, markingBytes}

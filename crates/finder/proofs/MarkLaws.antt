@@ -9,15 +9,15 @@ use mathlib.Core.List.{List, [], _∷_, _++_}
 use lib.ListN.{length, take, drop, getD, take-append-drop}
 use lib.Seq.{take-suc, take-take, drop-cons, getD-take, length-take-le}
 use borrow.Author.Tests.{ne-eqb}
-use Rattle.events.specs.Lists.{any}
+use Rattle.lists.specs.Lists.{any}
 use Rattle.opacity.specs.Justification.{Place, isOf, placed, before}
 use Rattle.opacity.specs.Marking.{placeOf}
-use Rattle.events.proofs.ListLaws.{nor-l, nor-r, nor-i}
+use Rattle.lists.proofs.ListLaws.{nor-l, nor-r, nor-i}
 use Rattle.opacity.proofs.MarkingBytes.{outcome-back, flat-append, flat-length}
 use Rattle.opacity.proofs.Orders.{before-here}
 use Rattle.places.specs.Places.{coded, decode}
-use Rattle.events.specs.Bytes as bytes
-use Rattle.events.specs.Bytes.{u16Bytes}
+use Rattle.records.specs.Bytes as bytes
+use Rattle.records.specs.Bytes.{u16Bytes}
 use Rattle.opacity.specs.Marking.{placeBytes, flat}
 use Rattle.places.proofs.LookupLaws.{decode-append, decode-snoc}
 use Rattle.tables.proofs.TreeLink.{placed-snoc}

@@ -11,21 +11,21 @@ use lib.ListN.{length, take, getD, set, replicate, length-append}
 use lib.Dec.{eqb}
 use Rattle.events.specs.Questions.{readable}
 use borrow.Author.Tests.{ne-eqb}
-use Rattle.events.specs.Lists.{_and_, isNone}
+use Rattle.lists.specs.Lists.{_and_, isNone}
 use Rattle.events.specs.declared.event.Event.{Event}
 use Rattle.events.specs.Events.{eventAt, isRead, isWrite}
 use Rattle.opacity.specs.Transactions.{lastWrite, isStoreRead, storeReads}
-use Rattle.events.specs.Columns.{Columns, entry, history}
+use Rattle.log.specs.Columns.{Columns, entry, history}
 use Rattle.opacity.specs.Counts.{ofKind}
 use Rattle.opacity.specs.Justification.{Place}
 use Rattle.opacity.specs.Marking.{placeOf, marked}
-use Rattle.events.proofs.ColumnLaws.{history-length, history-at, history-take}
+use Rattle.log.proofs.ColumnLaws.{history-length, history-at, history-take}
 use Rattle.opacity.proofs.Prefixes.{store-read-at}
 use Rattle.tables.specs.Tables.{slotOf, empty, goThrough, tablesOf}
 use Rattle.places.specs.Places.{decode}
 use Rattle.tables.specs.Order.{Judged}
-use Rattle.events.specs.Bytes as bytes
-use Rattle.events.specs.Bytes.{over}
+use Rattle.records.specs.Bytes as bytes
+use Rattle.records.specs.Bytes.{over}
 use Rattle.opacity.specs.Marking.{markingHead, placeBytes, flat, markingBytes}
 use Rattle.marking_writer.specs.Points.{readBytes}
 use Rattle.marking_writer.proofs.RunLaws.{Put, put-none, put-room, put-more}

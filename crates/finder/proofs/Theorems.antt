@@ -7,18 +7,19 @@ use mathlib.Core.Bool.{Bool, true, false}
 use mathlib.Core.List.{List, [], _∷_}
 use mathlib.Core.Option.{Option, none, some}
 use lib.ListN.{length, take, drop}
-use Rattle.events.proofs.BufferLaws.{take-over, drop-over}
+use Rattle.records.proofs.BufferLaws.{take-over, drop-over}
 use Rattle.events.specs.declared.event.Event.{Event}
-use Rattle.events.specs.declared.columns.Checked.{Checked}
+use Rattle.log.specs.declared.columns.Checked.{Checked}
 use Rattle.events.specs.declared.refusal.Refusal.{Refusal}
 use Rattle.events.specs.Said.{done, nothing, atEvent, refuse}
-use Rattle.events.specs.Bytes.{over}
-use Rattle.events.specs.Columns.{Columns, history, hold}
-use Rattle.events.specs.Starts.{startOf, noStarts}
-use Rattle.events.specs.Questions.{Question, ask, readable, eventsAnswer}
-use Rattle.events.proofs.ColumnLaws.{history-length}
+use Rattle.records.specs.Bytes.{over}
+use Rattle.log.specs.Columns.{Columns, history, hold}
+use Rattle.log.specs.Starts.{startOf, noStarts}
+use Rattle.events.specs.Questions.{Question, ask, readable}
+use Rattle.log.specs.Answer.{eventsAnswer}
+use Rattle.log.proofs.ColumnLaws.{history-length}
 use Rattle.events.proofs.QuestionLaws.{readable-take}
-use Rattle.events.proofs.StartLaws.{no-starts, first-admitted}
+use Rattle.log.proofs.StartLaws.{no-starts, first-admitted}
 use Rattle.opacity.specs.Justification.{Place, Justified}
 use Rattle.opacity.specs.Lowest.{LowestJustified}
 use Rattle.opacity.specs.Serial.{Serial, LowestSerial}

@@ -9,13 +9,14 @@ use mathlib.Core.Option.{Option, none, some}
 use lib.Dec.{leb}
 use lib.ListN.{length, take}
 use Rattle.events.specs.declared.event.Event.{Event}
-use Rattle.events.specs.declared.columns.Checked.{Checked}
-use Rattle.events.specs.Bytes.{over}
+use Rattle.log.specs.declared.columns.Checked.{Checked}
+use Rattle.records.specs.Bytes.{over}
 use Rattle.events.specs.Events.{begins}
-use Rattle.events.specs.Columns.{Columns, history, hold}
-use Rattle.events.specs.Starts.{startOf, admits}
+use Rattle.log.specs.Columns.{Columns, history, hold}
+use Rattle.log.specs.Starts.{startOf, admits}
 use Rattle.events.specs.Said.{Said, done, nothing, eventRefused}
-use Rattle.events.specs.Questions.{ask, readable, eventsAnswer}
+use Rattle.events.specs.Questions.{ask, readable}
+use Rattle.log.specs.Answer.{eventsAnswer}
 use Rattle.opacity.specs.Transactions.{storeReads}
 use Rattle.opacity.specs.Justification.{Place, zeros}
 use Rattle.opacity.specs.Lowest.{lowestOf}

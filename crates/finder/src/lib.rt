@@ -2,17 +2,17 @@
 ghost use mathlib.Core.Path.{_≡_};
 ghost use Prim.Native.Nat.{_≤_};
 ghost use lib.ListN.{length};
-ghost use Rattle.events.specs.Columns.{columns, history};
-ghost use Rattle.events.specs.declared.columns.Checked.{Checked};
-ghost use Rattle.events.specs.Starts.{startOf};
+ghost use Rattle.log.specs.Columns.{columns, history};
+ghost use Rattle.log.specs.declared.columns.Checked.{Checked};
+ghost use Rattle.log.specs.Starts.{startOf};
 ghost use Rattle.opacity.specs.Counts.{HoldsReadable};
 ghost use Rattle.tables.specs.Order.{Judged};
 ghost use Rattle.finder.specs.Answer.{markingSize, lowestMarking, gives, decided, callRefusal, prefixRefusal, foundAnswer};
 
 pub mod writer;
 
-use events::columns::Checked;
-use events::record::Record;
+use log::columns::Checked;
+use records::record::Record;
 use events::refusal::Refusal;
 
 // Question 31: at most this many transactions are searched.
@@ -105,13 +105,13 @@ fn check_call(
 ) -> Checked
     ensures { λ r. ⌜ r ≡ callRefusal edition (now (starts .entry)) (columns (now (kinds .entry)) (now (transactions .entry)) (now (registers .entry)) (now (values .entry))) count prefix ⌝ }
 {
-    if !events::columns::columns_hold(kinds, transactions, registers, values, count) {
+    if !log::columns::columns_hold(kinds, transactions, registers, values, count) {
         return Checked::Refused(Refusal {
             question: 17,
             at: count,
         });
     }
-    if !events::starts::is_admitted(edition, starts) {
+    if !log::starts::is_admitted(edition, starts) {
         return Checked::Refused(Refusal {
             question: 3,
             at: count,
@@ -123,7 +123,7 @@ fn check_call(
             at: count,
         });
     }
-    events::columns::check_columns(kinds, transactions, registers, values, count)
+    log::columns::check_columns(kinds, transactions, registers, values, count)
 }
 
 // The lowest marking of the first `prefix` of the first `count` events, written from the output's first byte. The prefix keeps

@@ -7,8 +7,8 @@ use mathlib.Core.Path.{_≡_, refl, sym, ap, _∙_}
 use mathlib.Core.List.{List, _++_, append-assoc}
 use lib.ListN.{length, take, drop, length-append}
 use lib.Seq.{paste, take-length}
-use Rattle.events.specs.Bytes.{placed, over}
-use Rattle.events.proofs.BufferLaws.{placed-more}
+use Rattle.records.specs.Bytes.{placed, over}
+use Rattle.records.proofs.BufferLaws.{placed-more}
 use Rattle.lines.specs.Text.{decimal, Put}
 
 -- a copy of all of a run

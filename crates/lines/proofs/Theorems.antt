@@ -8,8 +8,8 @@ use mathlib.Core.Logic.{_↔_, Iff·trans}
 use mathlib.Core.List.{List, [], _∷_, _++_}
 use lib.ListN.{getD}
 use Rattle.events.specs.declared.event.Event.{Event}
-use Rattle.events.specs.Bytes.{Bytes}
-use Rattle.events.specs.Starts.{startOf}
+use Rattle.records.specs.Bytes.{Bytes}
+use Rattle.log.specs.Starts.{startOf}
 use Rattle.events.specs.Events.{begins}
 use Rattle.opacity.specs.declared.verdict.Rule.{Rule}
 use Rattle.opacity.specs.declared.verdict.Verdict.{Verdict}

@@ -8,7 +8,7 @@ use mathlib.Core.List.{List, [], _∷_, _++_}
 use lib.Dec.{ltb}
 use lib.ListN.{length}
 use Rattle.io.specs.Digits.{digits}
-use Rattle.events.specs.Bytes.{pick, placed}
+use Rattle.records.specs.Bytes.{pick, placed}
 
 -- the bytes of a text in ASCII
 abbrev pub text : String → List ℕ

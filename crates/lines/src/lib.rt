@@ -5,7 +5,7 @@ ghost use mathlib.Core.Path.{_≡_};
 ghost use mathlib.Core.List.{[], _∷_, _++_};
 ghost use Prim.Native.Nat.{_+_, _≤_};
 ghost use lib.ListN.{length};
-ghost use Rattle.events.specs.Bytes.{over};
+ghost use Rattle.records.specs.Bytes.{over};
 ghost use Rattle.capture.specs.Report.{reportOn};
 ghost use Rattle.lines.specs.Text.{text, decimal, Put};
 ghost use Rattle.lines.specs.Lines.{countsLine, tallyLine, refusedLine, letter, brokenLine, verdictLine, markingLine};

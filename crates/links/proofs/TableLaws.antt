@@ -13,11 +13,11 @@ use lib.ListN.{getD, set, replicate, length-set, getD-replicate, length-replicat
 use lib.Seq.{getD-set-same, getD-set-other}
 use borrow.Author.Tests.{eqb-true, ne-eqb, eqb-false, lt-ltb, le-ltb}
 use Rattle.events.specs.declared.event.Event.{Event}
-use Rattle.events.specs.Lists.{_and_, _or_, any, orElse, first, last, lowest}
+use Rattle.lists.specs.Lists.{_and_, _or_, any, orElse, first, last, lowest}
 use Rattle.events.specs.Events.{eventAt, isBegin, isEnd, isCommit, isAbort, asksCommit, by, has}
-use Rattle.events.specs.Columns.{Columns, entry, history}
-use Rattle.events.proofs.ListLaws.{or-false}
-use Rattle.events.proofs.ColumnLaws.{history-at, history-length}
+use Rattle.log.specs.Columns.{Columns, entry, history}
+use Rattle.lists.proofs.ListLaws.{or-false}
+use Rattle.log.proofs.ColumnLaws.{history-at, history-length}
 use Rattle.events.proofs.StateLaws.{has-snoc}
 use Rattle.opacity.specs.Transactions.{committed, aborted, pending, live, statusNumber, status, precedes}
 use Rattle.opacity.specs.Marking.{lastEvent, beginOf}

@@ -12,11 +12,11 @@ use lib.Dec.{eqb}
 use lib.ListN.{getD}
 use borrow.Author.Tests.{eqb-true, eq-eqb, ne-eqb, eqb-false}
 use Rattle.events.specs.declared.event.Event.{Event}
-use Rattle.events.specs.Lists.{_and_, _implies_, orElse, isNone, latest}
+use Rattle.lists.specs.Lists.{_and_, _implies_, orElse, isNone, latest}
 use Rattle.events.specs.Events.{eventAt, isRead, isWrite, by}
-use Rattle.events.specs.Columns.{Columns, entry, history}
-use Rattle.events.proofs.ListLaws.{latest-snoc}
-use Rattle.events.proofs.ColumnLaws.{history-at}
+use Rattle.log.specs.Columns.{Columns, entry, history}
+use Rattle.lists.proofs.ListLaws.{latest-snoc}
+use Rattle.log.proofs.ColumnLaws.{history-at}
 use Rattle.opacity.specs.Transactions.{lastWrite, ownWrite, isOwnRead, isStoreRead, ownRight, isValue}
 use Rattle.opacity.proofs.Prefixes.{own-write-at}
 use Rattle.links.specs.declared.tables.Fact.the-variants.{LastWrite}

@@ -7,7 +7,7 @@ use mathlib.Core.List.{List}
 use mathlib.Core.Option.{Option, none, some}
 use lib.Dec.{eqb}
 use lib.ListN.{length, getD}
-use Rattle.events.specs.Lists.{_and_, _implies_, isNone}
+use Rattle.lists.specs.Lists.{_and_, _implies_, isNone}
 use Rattle.events.specs.Events.{isRead}
 use Rattle.links.specs.declared.tables.Fact.the-variants.{LastWrite}
 use Rattle.opacity.specs.Counts.{ofKind}

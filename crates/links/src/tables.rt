@@ -4,7 +4,7 @@ ghost use Prim.Native.Nat.{_<_, max};
 ghost use Rattle.events.specs.Events.{isEnd};
 ghost use Rattle.opacity.specs.Counts.{ofKind};
 ghost use Rattle.links.specs.Tables.{lastOne, firstOne, standing, slotAt, Slots, Tabled};
-use events::record::Record;
+use records::record::Record;
 
 // What a table tells of a transaction: one past an event, with 0 for none, or how far it has come.
 pub enum Fact {

@@ -9,7 +9,7 @@ ghost use Rattle.links.specs.Writes.{Links, Linked, writeFrom, plusOne, 
 use crate::tables::Fact;
 use crate::tables::slot_at;
 use crate::tables::wide;
-use events::record::Record;
+use records::record::Record;
 
 // For each event, one past the last write of its transaction before it, with 0 for none.
 pub fn links(kinds: &[u16], transactions: &[u16], count: usize) -> [u16; 2048]

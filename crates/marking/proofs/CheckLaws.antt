@@ -10,12 +10,13 @@ use mathlib.Core.List.{List, [], _∷_, _++_, map, map-append}
 use lib.Dec.{eqb}
 use lib.ListN.{length, getD, List·getD-eq-default}
 use Rattle.events.specs.declared.event.Event.{Event}
-use Rattle.events.specs.Lists.{_and_, keep, push, range}
+use Rattle.lists.specs.Lists.{_and_, keep, push, range}
 use Rattle.events.specs.Events.{eventAt, noEvent, begins, isRead}
-use Rattle.events.specs.Columns.{Columns, history}
+use Rattle.log.specs.Columns.{Columns, history}
 use Rattle.events.specs.Questions.{readable}
-use Rattle.events.proofs.ListLaws.{keep-append}
-use Rattle.events.proofs.ColumnLaws.{history-length, history-at, begins-take, Held}
+use Rattle.lists.proofs.ListLaws.{keep-append}
+use Rattle.log.proofs.ColumnLaws.{history-length, history-at, Held}
+use Rattle.events.proofs.EventLaws.{begins-take}
 use Rattle.events.proofs.ReadableLaws.{readable-most}
 use Rattle.events.proofs.QuestionLaws.{begun}
 use Rattle.opacity.proofs.Bounds.{at-most-64, register-low}

@@ -14,9 +14,9 @@ use lib.ListN.{length, getD, set, replicate, length-append, List·getD-eq-defaul
 use lib.Seq.{getD-at}
 use borrow.Author.Tests.{le-leb}
 use Rattle.events.specs.declared.event.Event.{Event}
-use Rattle.events.specs.Lists.{_and_, all, every}
+use Rattle.lists.specs.Lists.{_and_, all, every}
 use Rattle.events.specs.Events.{begins}
-use Rattle.events.proofs.ListLaws.{and-i, all-append, below-cases}
+use Rattle.lists.proofs.ListLaws.{and-i, all-append, below-cases}
 use Rattle.events.specs.Questions.{readable}
 use Rattle.events.proofs.ReadableLaws.{readable-most}
 use Rattle.opacity.proofs.Finder.{events-of}

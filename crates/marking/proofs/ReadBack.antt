@@ -12,13 +12,13 @@ use lib.Dec.{eqb, ltb, leb}
 use lib.ListN.{length, length-append}
 use borrow.Author.Tests.{lt-ltb, ltb-true, le-ltb, le-leb, leb-true}
 use Rattle.events.specs.declared.event.Event.{Event}
-use Rattle.events.specs.declared.record.Found.the-variants.{Whole}
-use Rattle.events.specs.Bytes.{u16Bytes, u32Bytes}
-use Rattle.events.specs.Lists.{_and_, _or_, any, all, every, keep, push, latest, range}
+use Rattle.records.specs.declared.record.Found.the-variants.{Whole}
+use Rattle.records.specs.Bytes.{u16Bytes, u32Bytes}
+use Rattle.lists.specs.Lists.{_and_, _or_, any, all, every, keep, push, latest, range}
 use Rattle.events.specs.Questions.{refusal, readable}
-use Rattle.events.specs.Records.{recordAt}
-use Rattle.events.proofs.FieldLaws.{u16-back, u32-back, whole-at, record-back, part-back}
-use Rattle.events.proofs.ListLaws.{all-weaken, and-i, and-l, and-r, imp-i, every-i, latest-snoc, clash, keep-member}
+use Rattle.records.specs.Records.{recordAt}
+use Rattle.records.proofs.FieldLaws.{u16-back, u32-back, whole-at, record-back, part-back}
+use Rattle.lists.proofs.ListLaws.{all-weaken, and-i, and-l, and-r, imp-i, every-i, latest-snoc, clash, keep-member}
 use Rattle.events.proofs.ReadableLaws.{readable-most}
 use Rattle.opacity.specs.Transactions.{isStoreRead, storeReads}
 use Rattle.opacity.specs.Justification.{Place, placed, distinct, isOrder}

@@ -6,7 +6,7 @@ use mathlib.Core.Path.{_≡_, sym, ap, _∙_}
 use mathlib.Core.Bool.{Bool, true}
 use mathlib.Core.List.{List}
 use lib.ListN.{length, set}
-use Rattle.events.specs.Lists.{every}
+use Rattle.lists.specs.Lists.{every}
 use Rattle.opacity.specs.Marking.{Marking}
 use Rattle.marking.specs.declared.read.Reading.{Reading}
 use Rattle.marking.specs.declared.step.Step.{Step}

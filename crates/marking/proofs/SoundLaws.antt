@@ -14,9 +14,9 @@ use lib.Dec.{eqb, ltb, leb}
 use lib.ListN.{length, getD, set, replicate, length-set, length-replicate, getD-replicate}
 use lib.Seq.{getD-set-same, getD-set-other}
 use borrow.Author.Tests.{eqb-true, eq-eqb, ne-eqb, eqb-false, lt-ltb, ltb-true, le-ltb, leb-true}
-use Rattle.events.specs.Lists.{_and_, _or_, _implies_, any, all, every, latest}
+use Rattle.lists.specs.Lists.{_and_, _or_, _implies_, any, all, every, latest}
 use Rattle.events.specs.Questions.{refusal}
-use Rattle.events.proofs.ListLaws.{and-i, and-l, and-r, imp-e, not-true, any-append, all-append, or-false, below-cases, latest-snoc, every-e, clash}
+use Rattle.lists.proofs.ListLaws.{and-i, and-l, and-r, imp-e, not-true, any-append, all-append, or-false, below-cases, latest-snoc, every-e, clash}
 use Rattle.events.proofs.QuestionLaws.{head-yes}
 use Rattle.opacity.specs.Justification.{Place, isOf, placed, distinct, isOrder}
 use Rattle.opacity.specs.Marking.{Point}

@@ -9,13 +9,13 @@ use mathlib.Core.Option.{Option, none, some}
 use lib.Dec.{eqb, ltb, leb}
 use lib.ListN.{length}
 use borrow.Author.Tests.{eqb-true}
-use Rattle.events.specs.declared.record.Record.{Record}
-use Rattle.events.specs.declared.record.Found.{Found}
-use Rattle.events.specs.declared.record.Found.the-variants.{Whole, Short, End}
-use Rattle.events.specs.Bytes.{u16At}
-use Rattle.events.specs.Lists.{_and_, _or_, _implies_, all}
+use Rattle.records.specs.declared.record.Record.{Record}
+use Rattle.records.specs.declared.record.Found.{Found}
+use Rattle.records.specs.declared.record.Found.the-variants.{Whole, Short, End}
+use Rattle.records.specs.Bytes.{u16At}
+use Rattle.lists.specs.Lists.{_and_, _or_, _implies_, all}
 use Rattle.events.specs.Questions.{Question, ask, refusal, numbered}
-use Rattle.events.specs.Records.{recordAt, bodyOf}
+use Rattle.records.specs.Records.{recordAt, bodyOf}
 use Rattle.events.proofs.QuestionLaws.{numbered-none}
 use Rattle.marking.specs.declared.step.Step.{Step}
 use Rattle.marking.specs.declared.step.Step.the-variants.{Placed, Pointed, Refused, Unfinished, Finished}

@@ -7,16 +7,17 @@ use mathlib.Core.Path.{_≡_, refl, sym, ap, _∙_}
 use mathlib.Core.Logic.{_↔_}
 use mathlib.Core.Bool.{true}
 use mathlib.Core.List.{List, []}
-use Rattle.events.specs.declared.columns.Checked.{Checked}
-use Rattle.events.specs.declared.columns.Checked.the-variants.{Readable, Refused}
+use Rattle.log.specs.declared.columns.Checked.{Checked}
+use Rattle.log.specs.declared.columns.Checked.the-variants.{Readable, Refused}
 use Rattle.events.specs.declared.refusal.Refusal.{Refusal}
 use Rattle.events.specs.Said.{done, broken, atEvent, atByte, refuse}
 use Rattle.events.specs.declared.event.Event.{Event}
-use Rattle.events.specs.Bytes.{Bytes}
-use Rattle.events.specs.Columns.{Columns, history}
-use Rattle.events.specs.Starts.{startOf, noStarts}
-use Rattle.events.specs.Questions.{readable, historyAnswer}
-use Rattle.events.proofs.StartLaws.{no-starts, first-edition as first-asked, history-readable}
+use Rattle.records.specs.Bytes.{Bytes}
+use Rattle.log.specs.Columns.{Columns, history}
+use Rattle.log.specs.Starts.{startOf, noStarts}
+use Rattle.events.specs.Questions.{readable}
+use Rattle.log.specs.Answer.{historyAnswer}
+use Rattle.log.proofs.StartLaws.{no-starts, first-edition as first-asked, history-readable}
 use Rattle.opacity.specs.declared.verdict.Verdict.{Verdict}
 use Rattle.opacity.specs.declared.verdict.Verdict.the-variants.{Accepted, Broken}
 use Rattle.opacity.specs.declared.verdict.Rule.{Rule}

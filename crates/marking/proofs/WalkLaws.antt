@@ -7,7 +7,7 @@ use mathlib.Core.List.{List}
 use mathlib.Core.Option.{none, some}
 use lib.ListN.{length}
 use borrow.Author.Tests.{ne-eqb}
-use Rattle.events.proofs.RecordLaws.{whole-in}
+use Rattle.records.proofs.RecordLaws.{whole-in}
 use Rattle.opacity.specs.Marking.{Marking}
 use Rattle.marking.specs.declared.read.Reading.{Reading}
 use Rattle.marking.specs.declared.step.Step.{Step}

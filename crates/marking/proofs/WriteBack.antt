@@ -9,16 +9,16 @@ use mathlib.Core.Option.{Option, none, some, Option·getD}
 use lib.Dec.{eqb, leb}
 use lib.ListN.{length, drop, drop-of-length-le}
 use borrow.Author.Tests.{eqb-true, ltb-true}
-use Rattle.events.specs.declared.record.Found.{Found}
-use Rattle.events.specs.declared.record.Found.the-variants.{Whole, Short, End}
-use Rattle.events.specs.Bytes.{Bytes, u16At, u32At, u16Bytes, u32Bytes}
-use Rattle.events.specs.Lists.{_and_}
+use Rattle.records.specs.declared.record.Found.{Found}
+use Rattle.records.specs.declared.record.Found.the-variants.{Whole, Short, End}
+use Rattle.records.specs.Bytes.{Bytes, u16At, u32At, u16Bytes, u32Bytes}
+use Rattle.lists.specs.Lists.{_and_}
 use Rattle.events.specs.Questions.{refusal}
-use Rattle.events.specs.Records.{recordAt, bodyOf}
-use Rattle.events.proofs.FieldLaws.{field-forth, field-last, long-forth, body-length, body-bytes, record-forth, head-forth as head-bytes}
-use Rattle.events.proofs.ListLaws.{and-l, latest-snoc}
+use Rattle.records.specs.Records.{recordAt, bodyOf}
+use Rattle.records.proofs.FieldLaws.{field-forth, field-last, long-forth, body-length, body-bytes, record-forth, head-forth as head-bytes}
+use Rattle.lists.proofs.ListLaws.{and-l, latest-snoc}
 use Rattle.events.proofs.QuestionLaws.{head-yes}
-use Rattle.events.proofs.RecordLaws.{there, end-past}
+use Rattle.records.proofs.RecordLaws.{there, end-past}
 use Rattle.opacity.specs.Justification.{Place}
 use Rattle.opacity.specs.Marking.{Marking, Point, markingHead, outcomeNumber, placeBytes, pointBytes, flat, markingBytes}
 use Rattle.opacity.proofs.MarkingBytes.{outcome-back, flat-append}

@@ -4,12 +4,12 @@ use Prim.Native.Nat.{ℕ}
 use mathlib.Core.Path.{_≡_}
 use mathlib.Core.List.{List, []}
 use Rattle.events.specs.declared.event.Event.{Event}
-use Rattle.events.specs.declared.columns.Checked.{Checked}
-use Rattle.events.specs.declared.columns.Checked.the-variants.{Readable, Refused}
-use Rattle.events.specs.Columns.{Columns, history}
-use Rattle.events.specs.Starts.{startOf}
+use Rattle.log.specs.declared.columns.Checked.{Checked}
+use Rattle.log.specs.declared.columns.Checked.the-variants.{Readable, Refused}
+use Rattle.log.specs.Columns.{Columns, history}
+use Rattle.log.specs.Starts.{startOf}
 use Rattle.events.specs.Said.{Said, done, broken, eventRefused, byteRefused, refuse}
-use Rattle.events.specs.Questions.{columnsAnswer, historyAnswer}
+use Rattle.log.specs.Answer.{columnsAnswer, historyAnswer}
 use Rattle.opacity.specs.declared.verdict.Rule.{Rule}
 use Rattle.opacity.specs.declared.verdict.Verdict.{Verdict}
 use Rattle.opacity.specs.declared.verdict.Verdict.the-variants.{Accepted, Broken}

@@ -7,14 +7,14 @@ use mathlib.Core.Option.{Option, none, some, Option·getD}
 use lib.Dec.{eqb, ltb, leb}
 use lib.ListN.{length}
 use Rattle.events.specs.declared.event.Event.{Event}
-use Rattle.events.specs.declared.record.Record.{Record}
-use Rattle.events.specs.declared.record.Found.{Found}
-use Rattle.events.specs.declared.record.Found.the-variants.{Whole, Short, End}
-use Rattle.events.specs.Lists.{_and_, _or_, _implies_, any, latest, every}
-use Rattle.events.specs.Bytes.{u16At, u32At}
+use Rattle.records.specs.declared.record.Record.{Record}
+use Rattle.records.specs.declared.record.Found.{Found}
+use Rattle.records.specs.declared.record.Found.the-variants.{Whole, Short, End}
+use Rattle.lists.specs.Lists.{_and_, _or_, _implies_, any, latest, every}
+use Rattle.records.specs.Bytes.{u16At, u32At}
 use Rattle.events.specs.Events.{begins}
 use Rattle.events.specs.Questions.{Question, ask, refusal}
-use Rattle.events.specs.Records.{recordAt, bodyOf}
+use Rattle.records.specs.Records.{recordAt, bodyOf}
 use Rattle.opacity.specs.Transactions.{isStoreRead}
 use Rattle.opacity.specs.Justification.{placed}
 use Rattle.opacity.specs.Marking.{Marking, Point}

@@ -7,7 +7,7 @@ use mathlib.Core.Bool.{Bool, true, false, not, cond}
 use mathlib.Core.List.{List, [], _∷_, _++_}
 use lib.Dec.{eqb, ltb, leb}
 use lib.ListN.{length, getD}
-use Rattle.events.specs.Lists.{_and_, _implies_, all}
+use Rattle.lists.specs.Lists.{_and_, _implies_, all}
 use Rattle.events.specs.Questions.{Question, ask, refusal}
 use Rattle.opacity.specs.Justification.{placed, distinct, isOrder}
 use Rattle.opacity.specs.Marking.{Marking, Point}

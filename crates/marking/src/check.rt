@@ -1,13 +1,13 @@
 // The checker: the questions of the history, those of the marking file, and the verdict.
 ghost use mathlib.Core.Path.{_≡_};
-ghost use Rattle.events.specs.Columns.{columns, history};
-ghost use Rattle.events.specs.Starts.{startOf};
+ghost use Rattle.log.specs.Columns.{columns, history};
+ghost use Rattle.log.specs.Starts.{startOf};
 ghost use Rattle.rules.specs.Judge.{Ground};
 ghost use Rattle.marking.specs.File.{known, fileRead};
 ghost use Rattle.marking.specs.Answer.{ruled, verdictAnswer};
 use crate::read::read_marking;
-use events::columns::Checked;
-use events::columns::check_history;
+use log::columns::Checked;
+use log::columns::check_history;
 use events::refusal::Refusal;
 use links::writes::links;
 use links::writes::store_reads;

@@ -9,10 +9,10 @@ ghost use Rattle.marking.specs.State.{knownBy, readAs, Kept};
 use crate::step::NO_POINT;
 use crate::step::Step;
 use crate::step::step_at;
-use events::fields::u16_at;
-use events::record::Found;
-use events::record::Record;
-use events::record::record_at;
+use records::fields::u16_at;
+use records::record::Found;
+use records::record::Record;
+use records::record::record_at;
 
 // What was read: the question that says no, with its byte, or 0 and the places in order, with the
 // gap of each store read by event.

@@ -4,16 +4,16 @@ ghost use mathlib.Core.Bool.{Bool, false, not};
 ghost use Prim.Native.Nat.{ℕ, _+_, _≤_, _<_};
 ghost use lib.Dec.{eqb};
 ghost use lib.ListN.{length, getD};
-ghost use Rattle.events.specs.Lists.{_implies_, every};
+ghost use Rattle.lists.specs.Lists.{_implies_, every};
 ghost use Rattle.events.specs.Questions.{refusal, numbered};
-ghost use Rattle.events.specs.Records.{bodyOf};
+ghost use Rattle.records.specs.Records.{bodyOf};
 ghost use Rattle.marking.specs.File.{bodyStep, endStep, stepAt};
 ghost use Rattle.marking.specs.State.{NoneBeyond, pointBy, askedBy, placeQuestions, pointQuestions, placeStep, pointStep};
-use events::fields::u16_at;
-use events::fields::u32_at;
-use events::record::Found;
-use events::record::Record;
-use events::record::record_at;
+use records::fields::u16_at;
+use records::fields::u32_at;
+use records::record::Found;
+use records::record::Record;
+use records::record::record_at;
 
 // A place or a point with the byte where its record ends; the question that says no, at a record or
 // at the end of the file; or the end, where none says no.

@@ -6,9 +6,9 @@ use native.Mathlib.Omega.{arith}
 use mathlib.Core.Bool.{Bool, true, false}
 use mathlib.Core.List.{List, [], _∷_, _++_, map, map-append}
 use lib.ListN.{length, length-append}
-use Rattle.events.specs.Bytes.{placed, over}
-use Rattle.events.specs.Lists.{push, keep, range}
-use Rattle.events.proofs.ListLaws.{keep-append}
+use Rattle.records.specs.Bytes.{placed, over}
+use Rattle.lists.specs.Lists.{push, keep, range}
+use Rattle.lists.proofs.ListLaws.{keep-append}
 use Rattle.opacity.specs.Marking.{Point, markingHead, pointBytes, flat}
 use Rattle.opacity.proofs.MarkingBytes.{flat-append}
 use Rattle.marking_writer.specs.Points.{readBytes, pointsTo}

@@ -8,8 +8,8 @@ use native.Mathlib.Nat.{le-refl, le-of-suc-le-suc, eq-or-lt-of-le}
 use native.Mathlib.Numerals.{add-one}
 use native.Mathlib.Omega.{arith}
 use lib.ListN.{length, drop, length-append, take-append-drop}
-use Rattle.events.specs.Bytes.{placed, over}
-use Rattle.events.proofs.BufferLaws.{placed-more}
+use Rattle.records.specs.Bytes.{placed, over}
+use Rattle.records.proofs.BufferLaws.{placed-more}
 
 -- a run, and then another right behind it
 pub placed-then : (d o o′ : List ℕ) (at : ℕ) (xs ys : List ℕ) (m : ℕ) → o ≡ placed d at xs → o′ ≡ placed o m ys → at + length xs ≡ m → m ≤ length d → o′ ≡ placed d at (xs ++ ys)

@@ -4,11 +4,11 @@ ghost use mathlib.Core.Path.{_≡_};
 ghost use mathlib.Core.List.{_++_};
 ghost use Prim.Native.Nat.{_+_, _≤_};
 ghost use lib.ListN.{length};
-ghost use Rattle.events.specs.Bytes.{u16Bytes, u32Bytes, placed};
+ghost use Rattle.records.specs.Bytes.{u16Bytes, u32Bytes, placed};
 ghost use Rattle.opacity.specs.Marking.{markingHead};
 ghost use Rattle.marking_writer.specs.Points.{readBytes};
-use events::fields;
-use events::record::Record;
+use records::fields;
+use records::record::Record;
 
 pub fn put_head(out: &mut [u8])
     requires { ⌜ 6 ≤ length (now out) ⌝ }

@@ -12,10 +12,10 @@ use mathlib.Core.Option.{Option, none, some}
 use lib.ListN.{length, take, drop, take-append-drop, length-append, length-take, length-drop}
 use lib.Seq.{length-take-le, take-append-add, drop-append-le}
 use borrow.Author.Tests.{eqb-true, eqb-false, ne-eqb}
-use Rattle.events.specs.Lists.{_implies_, orElse, isNone, keep, push, latest}
+use Rattle.lists.specs.Lists.{_implies_, orElse, isNone, keep, push, latest}
 use Rattle.events.specs.declared.event.Event.{Event}
 use Rattle.events.specs.Events.{eventAt}
-use Rattle.events.proofs.ListLaws.{not-true, clash}
+use Rattle.lists.proofs.ListLaws.{not-true, clash}
 use Rattle.opacity.specs.Transactions.{lastWrite, writes, isStoreRead, LastWrite}
 use Rattle.opacity.specs.Justification.{Place, isOf, before, written}
 use Rattle.opacity.specs.Marking.{Marking, gapOf, placeOf, others, between, noWriterBetween, ruleHolds, D}

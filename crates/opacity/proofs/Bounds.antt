@@ -13,12 +13,12 @@ use lib.Dec.{eqb}
 use lib.ListN.{length, take}
 use lib.Seq.{take-suc, take-all, getD-take, length-take-le}
 use borrow.Author.Tests.{eqb-true, eq-eqb}
-use Rattle.events.specs.Lists.{_and_, _or_, keep, range}
+use Rattle.lists.specs.Lists.{_and_, _or_, keep, range}
 use Rattle.events.specs.declared.event.Event.{Event}
 use Rattle.events.specs.Events.{noEvent, eventAt, isBegin, isCall, namesRegister, begins, lastOf, pendingCall, pendingOf}
 use Rattle.events.specs.Questions.{due, fieldsDue, readable}
-use Rattle.events.proofs.ListLaws.{and-l, keep-length, range-length}
-use Rattle.events.proofs.ColumnLaws.{begins-take, begins-snoc, begins-same}
+use Rattle.lists.proofs.ListLaws.{and-l, keep-length, range-length}
+use Rattle.events.proofs.EventLaws.{begins-take, begins-snoc, begins-same}
 use Rattle.events.proofs.QuestionLaws.{fit-at, asked-at, begun}
 use Rattle.events.proofs.ReadableLaws.{readable-most}
 use Rattle.opacity.specs.Transactions.{isStoreRead, storeReads}

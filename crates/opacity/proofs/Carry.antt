@@ -13,7 +13,7 @@ use borrow.Author.Tests.{eqb-true}
 use Rattle.events.specs.declared.event.Event.{Event}
 use Rattle.events.specs.Events.{noEvent, eventAt, isBegin, isRead, isCommit, isAbort, isEnd, begins}
 use Rattle.events.specs.Questions.{readable}
-use Rattle.events.proofs.ListLaws.{and-l, and-r, nor-i, or-l, or-r, not-true}
+use Rattle.lists.proofs.ListLaws.{and-l, and-r, nor-i, or-l, or-r, not-true}
 use Rattle.events.proofs.KindLaws.{begin-not-end}
 use Rattle.events.proofs.QuestionLaws.{asked-at, begun}
 use Rattle.opacity.specs.Justification.{Place, outcome, Justified}

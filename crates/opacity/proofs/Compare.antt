@@ -8,10 +8,10 @@ use mathlib.Core.Logic.{_⊎_, inl, inr, ⊎-elim}
 use mathlib.Core.Bool.{Bool, true, false, not, cond, false≢true}
 use mathlib.Core.List.{List, [], _∷_}
 use borrow.Author.Tests.{eqb-true, eq-eqb, ltb-true, lt-ltb}
-use Rattle.events.specs.Lists.{_and_, _or_, StrictTotal}
+use Rattle.lists.specs.Lists.{_and_, _or_, StrictTotal}
 use Rattle.opacity.specs.Justification.{Place}
 use Rattle.opacity.specs.Lowest.{below, samePlace, lower}
-use Rattle.events.proofs.ListLaws.{and-l, and-r, and-i, and-false-r, or-l, or-r, nor-i, not-true, clash, eqb-self}
+use Rattle.lists.proofs.ListLaws.{and-l, and-r, and-i, and-false-r, or-l, or-r, nor-i, not-true, clash, eqb-self}
 
 or-e : (a b : Bool) → (a or b) ≡ true → (a ≡ true) ⊎ (b ≡ true)
 unfolding _or_

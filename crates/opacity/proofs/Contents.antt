@@ -7,14 +7,14 @@ use mathlib.Core.Bool.{Bool, true, false, cond}
 use mathlib.Core.List.{List, [], _∷_, _++_, foldl}
 use mathlib.Core.Option.{Option, Option·getD}
 use lib.Dec.{eqb}
-use Rattle.events.specs.Lists.{_and_, push, keep, latest}
+use Rattle.lists.specs.Lists.{_and_, push, keep, latest}
 use Rattle.events.specs.declared.event.Event.{Event}
 use Rattle.events.specs.Events.{isWrite, by}
 use Rattle.opacity.specs.Justification.{Place, written, contents}
 use Rattle.opacity.specs.Store.{Store, put, writesOf, afterWrite, afterPlace, applied}
 use Rattle.opacity.specs.Serial.{does, eventsOf, run, after, serialStore}
 use Rattle.opacity.proofs.Serial.{orElse-getD, serial-contents}
-use Rattle.events.proofs.ListLaws.{latest-snoc}
+use Rattle.lists.proofs.ListLaws.{latest-snoc}
 
 does-write : (e : Event) (s : Store) → isWrite e ≡ true → does e s ≡ put (e .register) (e .value) s
 unfolding does

@@ -11,15 +11,16 @@ use lib.Dec.{eqb}
 use lib.ListN.{length, getD, set, replicate, length-set, length-replicate, getD-replicate}
 use lib.Seq.{getD-set-same, getD-set-other}
 use borrow.Author.Tests.{eqb-true, eqb-false}
-use Rattle.events.specs.Lists.{_and_, _or_, isNone, orElse, keep, latest, range}
+use Rattle.lists.specs.Lists.{_and_, _or_, isNone, orElse, keep, latest, range}
 use Rattle.events.specs.declared.event.Event.{Event}
 use Rattle.events.specs.Events.{isBegin, isRead, isWrite, by, begins}
-use Rattle.events.specs.Columns.{Columns, entry, history}
-use Rattle.events.specs.declared.columns.Checked.the-variants.{Readable}
-use Rattle.events.specs.Questions.{readable, columnsAnswer}
-use Rattle.events.proofs.ReadableLaws.{columns-readable}
-use Rattle.events.proofs.ListLaws.{and-false-l, and-false-r, eqb-self, latest-snoc}
-use Rattle.events.proofs.ColumnLaws.{history-length, history-at, history-more, begins-more, begins-stay}
+use Rattle.log.specs.Columns.{Columns, entry, history}
+use Rattle.log.specs.declared.columns.Checked.the-variants.{Readable}
+use Rattle.events.specs.Questions.{readable}
+use Rattle.log.specs.Answer.{columnsAnswer}
+use Rattle.log.proofs.AnswerLaws.{columns-readable}
+use Rattle.lists.proofs.ListLaws.{and-false-l, and-false-r, eqb-self, latest-snoc}
+use Rattle.log.proofs.ColumnLaws.{history-length, history-at, history-more, begins-more, begins-stay}
 use Rattle.opacity.specs.Transactions.{lastWrite, isStoreRead, storeReads}
 use Rattle.opacity.specs.Counts.{HoldsReadable, one, ofKind, countsBegin, countsRead, writtenAfter}
 use Rattle.opacity.proofs.HowMany.{how-many-more}

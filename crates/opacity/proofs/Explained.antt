@@ -8,12 +8,12 @@ use mathlib.Core.Bool.{Bool, true, not}
 use mathlib.Core.List.{List, _∷_}
 use lib.ListN.{length}
 use borrow.Author.Tests.{eqb-true, eq-eqb}
-use Rattle.events.specs.Lists.{_implies_, any}
+use Rattle.lists.specs.Lists.{_implies_, any}
 use Rattle.events.specs.declared.event.Event.{Event}
 use Rattle.events.specs.Events.{eventAt, isBegin, isEnd, by, begins}
 use Rattle.events.specs.Questions.{readable}
-use Rattle.events.proofs.ListLaws.{and-l, imp-e, imp-i, every-e, every-i, or-l, or-r, not-true, any-append}
-use Rattle.events.proofs.ColumnLaws.{begins-take}
+use Rattle.lists.proofs.ListLaws.{and-l, imp-e, imp-i, every-e, every-i, or-l, or-r, not-true, any-append}
+use Rattle.events.proofs.EventLaws.{begins-take}
 use Rattle.events.proofs.QuestionLaws.{begun}
 use Rattle.opacity.specs.Transactions.{Status, committed, aborted, pending, live, Stands, status, allows, precedes}
 use Rattle.opacity.specs.Transactions.{EndedBefore}

@@ -10,14 +10,14 @@ use mathlib.Core.Option.{Option, none, some}
 use lib.Dec.{eqb, leb}
 use lib.ListN.{length, take, length-take, drop-of-length-le}
 use borrow.Author.Tests.{eqb-true, le-leb}
-use Rattle.events.specs.Lists.{all, _or_, orElse, any, keep, latest}
+use Rattle.lists.specs.Lists.{all, _or_, orElse, any, keep, latest}
 use Rattle.events.specs.declared.event.Event.{Event}
 use Rattle.events.specs.Events.{eventAt, begins}
 use Rattle.opacity.specs.Transactions.{isStoreRead, storeReads}
 use Rattle.opacity.specs.Justification.{Place, isOf, before, Justified}
 use Rattle.opacity.specs.Marking.{ReadableFor, Point, gapOf, placeOf, marked, others, between, noWriterBetween, Accepted, verdict, ruleHolds}
 use Rattle.opacity.specs.Verdicts.{RuleD}
-use Rattle.events.proofs.ListLaws.{and-i, imp-i, nor-l, nor-r, keep-member}
+use Rattle.lists.proofs.ListLaws.{and-i, imp-i, nor-l, nor-r, keep-member}
 use Rattle.opacity.proofs.Orders.{filled}
 use Rattle.opacity.proofs.Rules.{justified-accepted}
 

@@ -5,8 +5,8 @@ use Prim.Native.Nat.{ℕ, zero, suc, _<_}
 use mathlib.Core.Path.{_≡_, refl, ap}
 use mathlib.Core.Bool.{Bool, true, false, not, cond, true≢false}
 use mathlib.Core.Option.{none, some}
-use Rattle.events.specs.Lists.{_and_, _implies_, every, first}
-use Rattle.events.proofs.ListLaws.{not-false, First, first-none, none-first, lowest-here}
+use Rattle.lists.specs.Lists.{_and_, _implies_, every, first}
+use Rattle.lists.proofs.ListLaws.{not-false, First, first-none, none-first, lowest-here}
 
 -- each thing passes where no first one fails, and the other way
 pub passes : (p : ℕ → Bool) (n : ℕ) → first (λ k. not (p k)) n ≡ none → (k : ℕ) → k < n → p k ≡ true

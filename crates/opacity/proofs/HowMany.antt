@@ -9,8 +9,8 @@ use mathlib.Core.Logic.{⊎-elim}
 use mathlib.Core.Bool.{Bool, true, false}
 use mathlib.Core.List.{List, [], _∷_, _++_}
 use lib.ListN.{length, length-append}
-use Rattle.events.specs.Lists.{push, keep, range}
-use Rattle.events.proofs.ListLaws.{keep-append, keep-length, range-length, keep-same, keep-none, below-cases}
+use Rattle.lists.specs.Lists.{push, keep, range}
+use Rattle.lists.proofs.ListLaws.{keep-append, keep-length, range-length, keep-same, keep-none, below-cases}
 use Rattle.opacity.specs.Counts.{one}
 
 -- of a list: one element more

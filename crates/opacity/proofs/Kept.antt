@@ -8,11 +8,11 @@ use mathlib.Core.List.{List, [], _∷_, _++_}
 use mathlib.Core.Option.{Option·getD}
 use lib.Dec.{eqb}
 use borrow.Author.Tests.{eqb-true}
-use Rattle.events.specs.Lists.{_and_, _or_, any}
+use Rattle.lists.specs.Lists.{_and_, _or_, any}
 use Rattle.events.specs.declared.event.Event.{Event}
 use Rattle.events.specs.Events.{eventAt, isBegin, isRead, isWrite, asksCommit, isCommit, isAbort, isEnd, by, has, ended, begins}
-use Rattle.events.proofs.ListLaws.{and-false-l, and-false-r, and-l, and-r, and-i, nor-i, nor-l, nor-r, not-true, clash, eqb-self, eqb-sym, every-e, every-i, any-weaken}
-use Rattle.events.proofs.ColumnLaws.{begins-same}
+use Rattle.lists.proofs.ListLaws.{and-false-l, and-false-r, and-l, and-r, and-i, nor-i, nor-l, nor-r, not-true, clash, eqb-self, eqb-sym, every-e, every-i, any-weaken}
+use Rattle.events.proofs.EventLaws.{begins-same}
 use Rattle.events.proofs.StateLaws.{has-snoc}
 use Rattle.opacity.specs.Transactions.{committed, aborted, pending, live, status, allows, lastWrite}
 use Rattle.opacity.specs.Justification.{Place, isOf, before, outcome, contents, isOrder, outcomeKept, preceded, realTimeKept, Justified}

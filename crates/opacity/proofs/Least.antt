@@ -9,12 +9,12 @@ use mathlib.Core.List.{List, [], _∷_, _++_, append-nil, append-assoc}
 use mathlib.Core.Option.{Option, none, some, Option·none-ne-some, Option·some-injective}
 use lib.ListN.{length}
 use borrow.Author.Tests.{lt-ltb, ltb-true}
-use Rattle.events.specs.Lists.{orElse}
+use Rattle.lists.specs.Lists.{orElse}
 use Rattle.events.specs.declared.event.Event.{Event}
 use Rattle.events.specs.Events.{eventAt, begins}
 use Rattle.opacity.specs.Justification.{Place, Justified}
 use Rattle.opacity.specs.Lowest.{place, below, samePlace, fits, follows, lowestPlace, goOn, lowestOf}
-use Rattle.events.proofs.ListLaws.{and-l, and-r, and-i, or-l, or-r, eqb-self, every-i, none-some, lowest-some, lowest-at}
+use Rattle.lists.proofs.ListLaws.{and-l, and-r, and-i, or-l, or-r, eqb-self, every-i, none-some, lowest-some, lowest-at}
 use Rattle.opacity.proofs.Compare.{notAbove}
 use Rattle.opacity.proofs.Orders.{fills, filled}
 use Rattle.opacity.proofs.Steps.{fits-e, steps, known-apart, justified}

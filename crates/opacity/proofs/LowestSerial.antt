@@ -13,7 +13,7 @@ use Rattle.opacity.specs.Justification.{Place}
 use Rattle.opacity.specs.Lowest.{lowestOf, LowestJustified}
 use Rattle.opacity.specs.Store.{Store}
 use Rattle.opacity.specs.Serial.{Serial, LowestSerial}
-use Rattle.events.proofs.ListLaws.{clash}
+use Rattle.lists.proofs.ListLaws.{clash}
 use Rattle.opacity.proofs.Compare.{orders-ordered, notAbove, lower-or-same}
 use Rattle.opacity.proofs.Least.{lowest-justifies, lowest-least, none-iff}
 use Rattle.opacity.proofs.Opacity.{Begun, begun-prefix}

@@ -14,13 +14,14 @@ use lib.Dec.{eqb}
 use lib.ListN.{length, take, getD}
 use lib.Seq.{take-suc, take-all}
 use borrow.Author.Tests.{eqb-true, eq-eqb, eqb-false}
-use Rattle.events.specs.Lists.{_and_, _or_, orElse, any, keep, latest, first, last}
+use Rattle.lists.specs.Lists.{_and_, _or_, orElse, any, keep, latest, first, last}
 use Rattle.events.specs.declared.event.Event.{Event}
 use Rattle.events.specs.Events.{noEvent, eventAt, isBegin, isWrite, isEnd, by, has, begins}
 use Rattle.events.specs.Questions.{readable}
-use Rattle.events.proofs.ListLaws.{and-l, and-r, and-i, or-l, or-r, or-cases, clash, below-cases, first-none, first-some}
-use Rattle.events.proofs.ColumnLaws.{begins-snoc, begins-same}
-use Rattle.events.proofs.QuestionLaws.{any-index, asked-at}
+use Rattle.lists.proofs.ListLaws.{and-l, and-r, and-i, or-l, or-r, or-cases, clash, below-cases, first-none, first-some}
+use Rattle.events.proofs.EventLaws.{begins-snoc, begins-same}
+use Rattle.lists.proofs.ListLaws.{any-index}
+use Rattle.events.proofs.QuestionLaws.{asked-at}
 use Rattle.opacity.specs.Transactions.{precedes, lastWrite, writes, EndedBefore, LastWrite}
 use Rattle.opacity.specs.Marking.{lastEvent, beginOf}
 use Rattle.opacity.specs.Verdicts.{LastOf, BeginOf}

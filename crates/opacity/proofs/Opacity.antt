@@ -10,14 +10,14 @@ use mathlib.Core.List.{List, []}
 use mathlib.Core.Option.{Option, none, some}
 use lib.ListN.{length, take}
 use lib.Seq.{take-take, getD-take, length-take-le}
-use Rattle.events.specs.Lists.{_and_, isNone, all, keep, every, first}
+use Rattle.lists.specs.Lists.{_and_, isNone, all, keep, every, first}
 use Rattle.events.specs.declared.event.Event.{Event}
 use Rattle.events.specs.Events.{noEvent, eventAt, begins}
 use Rattle.opacity.specs.Justification.{Place, distinct, isOrder, Justified}
 use Rattle.opacity.specs.Lowest.{lowestOf}
 use Rattle.opacity.specs.Scan.{Opaque, Faulted, answer, scan, AllJustified, FaultsAt, cause}
-use Rattle.events.proofs.ListLaws.{none-first, first-none, isNone-none, none-isNone, First, first-some, none-some}
-use Rattle.events.proofs.ColumnLaws.{begins-take}
+use Rattle.lists.proofs.ListLaws.{none-first, first-none, isNone-none, none-isNone, First, first-some, none-some}
+use Rattle.events.proofs.EventLaws.{begins-take}
 use Rattle.opacity.proofs.Least.{lowest-justifies, lowest-least, none-iff}
 use Rattle.opacity.proofs.FirstLaws.{first-found}
 

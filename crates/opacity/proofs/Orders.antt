@@ -11,12 +11,12 @@ use mathlib.Core.List.{List, [], _∷_, _++_, append-nil, append-assoc}
 use lib.Dec.{eqb, ltb}
 use lib.ListN.{length}
 use borrow.Author.Tests.{ne-eqb, eqb-true, ltb-true, lt-ltb}
-use Rattle.events.specs.Lists.{_or_, _and_, any, all, keep, every, range}
+use Rattle.lists.specs.Lists.{_or_, _and_, any, all, keep, every, range}
 use Rattle.opacity.specs.Justification.{Place, isOf, placed, before, outcome, distinct, isOrder, OnePlace}
 use Rattle.opacity.specs.Lowest.{follows}
 use Rattle.opacity.specs.Counts.{one}
 use Rattle.opacity.proofs.HowMany.{howMany, how-many-suc, how-many-low, how-many-none, how-many-same, how-many-moved}
-use Rattle.events.proofs.ListLaws.{and-l, and-r, and-i, every-e, nor-l, nor-r, nor-i, or-false, not-true, eqb-self, eqb-sym, contra, any-append, any-weaken, none-append, none-back}
+use Rattle.lists.proofs.ListLaws.{and-l, and-r, and-i, every-e, nor-l, nor-r, nor-i, or-false, not-true, eqb-self, eqb-sym, contra, any-append, any-weaken, none-append, none-back}
 
 -- t has no place in P
 abbrev pub Fresh : ℕ → List Place → Type 0

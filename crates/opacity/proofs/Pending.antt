@@ -11,13 +11,14 @@ use lib.Dec.{eqb}
 use lib.ListN.{length, take}
 use lib.Seq.{take-suc, take-take, getD-take, length-take-le}
 use borrow.Author.Tests.{eqb-true, eq-eqb}
-use Rattle.events.specs.Lists.{_or_, any}
+use Rattle.lists.specs.Lists.{_or_, any}
 use Rattle.events.specs.declared.event.Event.{Event}
 use Rattle.events.specs.Events.{noEvent, eventAt, isBegin, isCall, asksCommit, isEnd, by, has, begins, ended, lastOf, pendingCall, pendingOf}
 use Rattle.events.specs.Questions.{past, readable, due}
-use Rattle.events.proofs.ListLaws.{and-false-r, and-false-l, and-false-e, and-l, and-r, nor-l, nor-r, clash, not-true, any-append, latest-snoc}
-use Rattle.events.proofs.ColumnLaws.{begins-take}
-use Rattle.events.proofs.QuestionLaws.{Fit, fit-at, asked, any-index, begun}
+use Rattle.lists.proofs.ListLaws.{and-false-r, and-false-l, and-false-e, and-l, and-r, nor-l, nor-r, clash, not-true, any-append, latest-snoc}
+use Rattle.events.proofs.EventLaws.{begins-take}
+use Rattle.events.proofs.QuestionLaws.{Fit, fit-at, asked, begun}
+use Rattle.lists.proofs.ListLaws.{any-index}
 use Rattle.opacity.specs.Transactions.{live, status}
 use Rattle.opacity.proofs.Statuses.{not-committed, not-aborted}
 use Rattle.opacity.proofs.EventKinds.{due-commit, asks-is-call}

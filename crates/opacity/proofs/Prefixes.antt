@@ -3,10 +3,10 @@
 use Prim.Native.Nat.{ℕ, _<_}
 use native.Mathlib.Nat.{le-of-lt}
 use mathlib.Core.Path.{_≡_}
-use Rattle.events.specs.Lists.{_and_, isNone}
+use Rattle.lists.specs.Lists.{_and_, isNone}
 use Rattle.events.specs.Events.{isRead}
-use Rattle.events.specs.Columns.{Columns, entry, history}
-use Rattle.events.proofs.ColumnLaws.{history-at, history-take}
+use Rattle.log.specs.Columns.{Columns, entry, history}
+use Rattle.log.proofs.ColumnLaws.{history-at, history-take}
 use Rattle.opacity.specs.Transactions.{lastWrite, ownWrite, isStoreRead}
 
 pub own-write-at : (c : Columns) (n i : ℕ) → i < n

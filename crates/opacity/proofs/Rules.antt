@@ -9,13 +9,13 @@ use mathlib.Core.List.{List, [], _∷_, _++_}
 use mathlib.Core.Option.{Option, none, Option·getD}
 use lib.ListN.{length, take, drop, take-append-drop}
 use lib.Seq.{take-take}
-use Rattle.events.specs.Lists.{isNone, keep, latest}
+use Rattle.lists.specs.Lists.{isNone, keep, latest}
 use Rattle.events.specs.declared.event.Event.{Event}
 use Rattle.events.specs.Events.{eventAt, begins}
 use Rattle.opacity.specs.Justification.{Place, isOf, before, written, contents, isOrder, legalOver, legal, Justified}
 use Rattle.opacity.specs.Marking.{Marking, placeOf, others, between, noWriterBetween, valueAtGap, A, B, C, D, E, Accepted, verdict, ruleHolds}
 use Rattle.opacity.specs.Verdicts.{AllHold, RuleD}
-use Rattle.events.proofs.ListLaws.{imp-e, imp-i, isNone-none, keep-append, latest-append}
+use Rattle.lists.proofs.ListLaws.{imp-e, imp-i, isNone-none, keep-append, latest-append}
 use Rattle.opacity.proofs.VerdictLaws.{accepted-rules}
 
 -- the places before t's are the first ones, and t's is not among them

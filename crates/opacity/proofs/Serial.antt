@@ -11,17 +11,17 @@ use mathlib.Core.Option.{Option, none, some, Option·getD}
 use lib.Dec.{eqb}
 use lib.ListN.{length, take}
 use borrow.Author.Tests.{eqb-true, eq-eqb}
-use Rattle.events.specs.Lists.{_and_, _implies_, orElse, isNone, keep, push, latest}
+use Rattle.lists.specs.Lists.{_and_, _implies_, orElse, isNone, keep, push, latest}
 use Rattle.events.specs.declared.event.Event.{Event}
 use Rattle.events.specs.Events.{eventAt, isRead, isWrite, by, begins}
 use Rattle.opacity.specs.Transactions.{isValue, lastWrite, ownWrite, isOwnRead, isStoreRead, ownRight}
 use Rattle.opacity.specs.Justification.{Place, placed, before, distinct, isOrder, written, contents, legalOver, legal, Justified}
 use Rattle.opacity.specs.Store.{Store, put}
 use Rattle.opacity.specs.Serial.{does, eventsOf, run, readsRight, after, serialStore, runsRight, Serial, AllSerial}
-use Rattle.events.proofs.ListLaws.{and-l, and-r, and-i, imp-e, imp-i, every-e}
+use Rattle.lists.proofs.ListLaws.{and-l, and-r, and-i, imp-e, imp-i, every-e}
 use Rattle.opacity.proofs.Orders.{before-here, distinct-at, Split, split}
 use Rattle.opacity.specs.Scan.{scan, Opaque}
-use Rattle.events.proofs.ColumnLaws.{begins-take}
+use Rattle.events.proofs.EventLaws.{begins-take}
 use Rattle.opacity.proofs.Opacity.{Begun, begun-prefix, opaque-prefixes, prefixes-opaque}
 
 -- ---- the view and the store

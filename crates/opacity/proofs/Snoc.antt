@@ -12,10 +12,10 @@ use lib.Dec.{eqb}
 use lib.ListN.{length, take, length-append, List·getD-append}
 use lib.Seq.{take-append-le, take-at, getD-append-seam}
 use borrow.Author.Tests.{eq-eqb}
-use Rattle.events.specs.Lists.{_and_, _or_, isNone, orElse, any, latest}
+use Rattle.lists.specs.Lists.{_and_, _or_, isNone, orElse, any, latest}
 use Rattle.events.specs.declared.event.Event.{Event}
 use Rattle.events.specs.Events.{noEvent, eventAt, isBegin, isRead, isWrite, asksCommit, isCommit, isAbort, isEnd, by, has}
-use Rattle.events.proofs.ListLaws.{and-l, and-r, and-false-r, imp-i, nor-i, nor-l, nor-r, or-l, latest-snoc, below-cases}
+use Rattle.lists.proofs.ListLaws.{and-l, and-r, and-false-r, imp-i, nor-i, nor-l, nor-r, or-l, latest-snoc, below-cases}
 use Rattle.events.proofs.StateLaws.{has-snoc}
 use Rattle.opacity.specs.Transactions.{committed, aborted, pending, live, status, allows, precedes, lastWrite, ownWrite, isOwnRead, isStoreRead, isValue, ownRight}
 use Rattle.opacity.specs.Justification.{Place, before, written, contents, legalOver, legal}

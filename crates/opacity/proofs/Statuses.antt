@@ -11,11 +11,11 @@ use lib.Dec.{eqb}
 use lib.ListN.{length, take}
 use lib.Seq.{take-suc, take-all}
 use borrow.Author.Tests.{eqb-true}
-use Rattle.events.specs.Lists.{_and_, _or_, any}
+use Rattle.lists.specs.Lists.{_and_, _or_, any}
 use Rattle.events.specs.declared.event.Event.{Event}
 use Rattle.events.specs.Events.{noEvent, eventAt, asksCommit, isCommit, isAbort, isEnd, by, has, ended}
 use Rattle.events.specs.Questions.{readable}
-use Rattle.events.proofs.ListLaws.{and-l, and-r, and-i, or-l, or-r, or-cases, nor-l, nor-r, nor-i, clash, not-true}
+use Rattle.lists.proofs.ListLaws.{and-l, and-r, and-i, or-l, or-r, or-cases, nor-l, nor-r, nor-i, clash, not-true}
 use Rattle.events.proofs.KindLaws.{begin-not-end}
 use Rattle.events.proofs.QuestionLaws.{asked-at}
 use Rattle.events.proofs.StateLaws.{has-snoc}

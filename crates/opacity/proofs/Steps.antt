@@ -9,13 +9,13 @@ use mathlib.Core.List.{List, [], _∷_, _++_, append-nil, append-assoc}
 use lib.Dec.{ltb}
 use lib.ListN.{length}
 use borrow.Author.Tests.{eq-eqb, eqb-true, ltb-true}
-use Rattle.events.specs.Lists.{all, every}
+use Rattle.lists.specs.Lists.{all, every}
 use Rattle.events.specs.declared.event.Event.{Event}
 use Rattle.events.specs.Events.{eventAt, begins}
 use Rattle.opacity.specs.Transactions.{status, allows, ownRight}
 use Rattle.opacity.specs.Justification.{Place, placed, before, outcome, distinct, isOrder, outcomeKept, preceded, legalOver, realTimeKept, legal, Justified, justifies}
 use Rattle.opacity.specs.Lowest.{fits, follows}
-use Rattle.events.proofs.ListLaws.{and-l, and-r, and-i, imp-e, imp-i, not-true, every-e, every-i, all-append}
+use Rattle.lists.proofs.ListLaws.{and-l, and-r, and-i, imp-e, imp-i, not-true, every-e, every-i, all-append}
 use Rattle.opacity.proofs.Orders.{Fresh, before-here, outcome-here, distinct-at, distinct-snoc, split, follows-at}
 
 -- what `fits` tests, by name

@@ -9,12 +9,12 @@ use mathlib.Core.Bool.{true, false}
 use mathlib.Core.List.{List, []}
 use mathlib.Core.Option.{none, some}
 use lib.ListN.{length, take}
-use Rattle.events.specs.Lists.{_implies_, StrictTotal}
+use Rattle.lists.specs.Lists.{_implies_, StrictTotal}
 use Rattle.events.specs.declared.event.Event.{Event}
 use Rattle.events.specs.Events.{begins}
 use Rattle.events.specs.Questions.{readable}
-use Rattle.events.proofs.ListLaws.{every-i}
-use Rattle.events.proofs.ColumnLaws.{begins-take}
+use Rattle.lists.proofs.ListLaws.{every-i}
+use Rattle.events.proofs.EventLaws.{begins-take}
 use Rattle.events.proofs.QuestionLaws.{begun}
 use Rattle.opacity.specs.Transactions.{precedes, EndedBefore, isStoreRead, ownRight}
 use Rattle.opacity.specs.Justification.{Place, Justified, justifies, placed, before, preceded, realTimeKept, isOrder, OnePlace}

@@ -9,9 +9,9 @@ use mathlib.Core.Bool.{true, false, not, cond}
 use mathlib.Core.List.{List}
 use mathlib.Core.Option.{Option, none, some}
 use lib.Dec.{eqb}
-use Rattle.events.specs.Lists.{first}
+use Rattle.lists.specs.Lists.{first}
 use Rattle.events.specs.declared.event.Event.{Event}
-use Rattle.events.proofs.ListLaws.{not-true, not-false, below-cases, First, first-some}
+use Rattle.lists.proofs.ListLaws.{not-true, not-false, below-cases, First, first-some}
 use Rattle.opacity.proofs.FirstLaws.{passes, none-fails, first-found}
 use Rattle.opacity.specs.Marking.{Marking, Rule, A, B, C, D, E, Verdict, Accepted, Broken, broke, tries, verdict}
 use Rattle.opacity.specs.Marking.{ruleNumber, putTo, ruleHolds, namedEvent, namedTransaction}

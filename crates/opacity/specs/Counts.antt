@@ -6,10 +6,10 @@ use mathlib.Core.Path.{_≡_}
 use mathlib.Core.Bool.{Bool, true, false, not}
 use mathlib.Core.List.{List}
 use lib.ListN.{length}
-use Rattle.events.specs.Lists.{_and_, _or_}
+use Rattle.lists.specs.Lists.{_and_, _or_}
 use Rattle.events.specs.declared.event.Event.{Event}
 use Rattle.events.specs.Events.{begins, isBegin, isRead, isWrite}
-use Rattle.events.specs.Columns.{Columns, history}
+use Rattle.log.specs.Columns.{Columns, history}
 use Rattle.events.specs.Questions.{readable}
 use Rattle.opacity.specs.Transactions.{storeReads}
 

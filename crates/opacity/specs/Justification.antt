@@ -7,7 +7,7 @@ use mathlib.Core.List.{List, [], _∷_, _++_}
 use mathlib.Core.Option.{Option, none, Option·getD}
 use lib.Dec.{eqb, ltb}
 use lib.ListN.{length}
-use Rattle.events.specs.Lists.{_and_, _implies_, any, all, latest, every}
+use Rattle.lists.specs.Lists.{_and_, _implies_, any, all, latest, every}
 use Rattle.events.specs.declared.event.Event.{Event}
 use Rattle.events.specs.Events.{eventAt, begins}
 use Rattle.opacity.specs.Transactions.{precedes, status, allows, lastWrite, isStoreRead, ownRight}

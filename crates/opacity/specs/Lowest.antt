@@ -8,7 +8,7 @@ use mathlib.Core.List.{List, [], _∷_, _++_}
 use mathlib.Core.Option.{Option, none, some}
 use lib.Dec.{eqb, ltb}
 use lib.ListN.{length}
-use Rattle.events.specs.Lists.{_and_, _or_, _implies_, orElse, every, lowest}
+use Rattle.lists.specs.Lists.{_and_, _or_, _implies_, orElse, every, lowest}
 use Rattle.events.specs.declared.event.Event.{Event}
 use Rattle.events.specs.Events.{eventAt, begins}
 use Rattle.opacity.specs.Transactions.{status, allows, ownRight}

@@ -11,8 +11,8 @@ pub use Rattle.opacity.specs.declared.verdict.Rule.{Rule}
 pub use Rattle.opacity.specs.declared.verdict.Rule.the-variants.{A, B, C, D, E}
 pub use Rattle.opacity.specs.declared.verdict.Verdict.{Verdict}
 pub use Rattle.opacity.specs.declared.verdict.Verdict.the-variants.{Accepted, Broken}
-use Rattle.events.specs.Lists.{_implies_, isNone, all, keep, latest, first, last}
-use Rattle.events.specs.Bytes.{u16Bytes, u32Bytes}
+use Rattle.lists.specs.Lists.{_implies_, isNone, all, keep, latest, first, last}
+use Rattle.records.specs.Bytes.{u16Bytes, u32Bytes}
 use Rattle.events.specs.declared.event.Event.{Event}
 use Rattle.events.specs.Events.{eventAt, begins, isBegin, by}
 use Rattle.opacity.specs.Transactions.{isStoreRead, storeReads, ownRight}

@@ -8,7 +8,7 @@ use mathlib.Core.Option.{Option, none, some}
 use lib.ListN.{length, take}
 pub use Rattle.opacity.specs.declared.verdict.Scanned.{Scanned}
 pub use Rattle.opacity.specs.declared.verdict.Scanned.the-variants.{Opaque, Faulted}
-use Rattle.events.specs.Lists.{isNone, first}
+use Rattle.lists.specs.Lists.{isNone, first}
 use Rattle.events.specs.declared.event.Event.{Event}
 use Rattle.events.specs.Events.{eventAt, isRead, isCommit, isAbort}
 use Rattle.opacity.specs.Justification.{Place, Justified}

@@ -9,7 +9,7 @@ use mathlib.Core.Bool.{Bool, true, cond}
 use mathlib.Core.List.{List, [], _∷_}
 use lib.Dec.{eqb}
 use lib.ListN.{length, take}
-use Rattle.events.specs.Lists.{_and_, _implies_, keep}
+use Rattle.lists.specs.Lists.{_and_, _implies_, keep}
 use Rattle.events.specs.declared.event.Event.{Event}
 use Rattle.events.specs.Events.{eventAt, isRead, isWrite, begins}
 use Rattle.opacity.specs.Justification.{Place, isOrder, outcomeKept, realTimeKept}

@@ -6,7 +6,7 @@ use Prim.Native.Nat.{ℕ}
 use mathlib.Core.Bool.{cond}
 use mathlib.Core.List.{List, foldl}
 use lib.Dec.{eqb}
-use Rattle.events.specs.Lists.{keep}
+use Rattle.lists.specs.Lists.{keep}
 use Rattle.events.specs.declared.event.Event.{Event}
 use Rattle.events.specs.Events.{isWrite, by}
 use Rattle.opacity.specs.Justification.{Place}

@@ -2,11 +2,11 @@
 ghost use mathlib.Core.Path.{_≡_};
 ghost use Prim.Native.Nat.{_+_, _*_, _≤_};
 ghost use lib.ListN.{length};
-ghost use Rattle.events.specs.Columns.{columns, history};
+ghost use Rattle.log.specs.Columns.{columns, history};
 ghost use Rattle.events.specs.Events.{begins};
 ghost use Rattle.opacity.specs.Transactions.{storeReads};
 ghost use Rattle.opacity.specs.Counts.{HoldsReadable, countsBegin, countsRead, writtenAfter};
-use events::record::Record;
+use records::record::Record;
 
 // One for a begin.
 pub fn counts_begin(kind: u16) -> usize

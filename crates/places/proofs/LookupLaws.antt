@@ -10,7 +10,7 @@ use lib.ListN.{length, take, getD}
 use lib.Seq.{take-suc, take-all}
 use lib.Dec.{eqb}
 use borrow.Author.Tests.{eqb-true, eqb-false, eq-eqb, ne-eqb}
-use Rattle.events.specs.Lists.{_and_, orElse, latest}
+use Rattle.lists.specs.Lists.{_and_, orElse, latest}
 use Rattle.events.specs.declared.event.Event.{Event}
 use Rattle.events.specs.Events.{isWrite, by}
 use Rattle.opacity.specs.Transactions.{lastWrite}

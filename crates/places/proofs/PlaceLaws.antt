@@ -9,8 +9,8 @@ use mathlib.Core.List.{List, [], _∷_, _++_, append-nil, append-assoc}
 use lib.ListN.{length, getD}
 use lib.Dec.{eqb, ltb}
 use borrow.Author.Tests.{ne-eqb, ltb-true}
-use Rattle.events.specs.Lists.{_or_, any, all}
-use Rattle.events.proofs.ListLaws.{and-l, and-r, every-e, any-append, all-append}
+use Rattle.lists.specs.Lists.{_or_, any, all}
+use Rattle.lists.proofs.ListLaws.{and-l, and-r, every-e, any-append, all-append}
 use Rattle.opacity.specs.Justification.{Place, isOf, placed, before, outcome, distinct, isOrder}
 use Rattle.opacity.proofs.Orders.{before-here, outcome-here, distinct-at}
 use Rattle.places.specs.Places.{codesOf, coded, decode}

@@ -10,11 +10,11 @@ use lib.Dec.{eqb}
 use lib.Bits.{bitAnd, and-le-l, and-le-r}
 use lib.Count.{trailingZeros}
 use borrow.Author.Tests.{eqb-true, eqb-false}
-use Rattle.events.specs.Lists.{_and_, all}
+use Rattle.lists.specs.Lists.{_and_, all}
 use Rattle.places.specs.Bits.{bitAt, consIf, membersIn, members}
 use Rattle.places.specs.State.{Within, Keeps}
 use Rattle.places.specs.Tree.{remove}
-use Rattle.events.proofs.ListLaws.{and-l, and-r, and-i, clash}
+use Rattle.lists.proofs.ListLaws.{and-l, and-r, and-i, clash}
 use Rattle.places.proofs.BitLaws.{member-lt, member-off, member-kept, member-gone, and-member, lowest-in, members-lowest, members-off}
 
 pub members-first : (t c : ℕ) → c < 2 ^ 64 → (c ≡ 0 → ⊥) → t ≡ trailingZeros 64 c → members c ≡ t ∷ members (c - 2 ^ t)

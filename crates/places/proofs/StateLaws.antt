@@ -10,7 +10,7 @@ use lib.ListN.{length, getD, set, take, length-append, List·getD-append}
 use lib.Seq.{getD-at, take-suc, take-suc-set}
 use lib.Count.{ones}
 use lib.Pow.{pow-add, pow-mono, shr-shr}
-use Rattle.events.proofs.ListLaws.{below-cases}
+use Rattle.lists.proofs.ListLaws.{below-cases}
 use Rattle.places.specs.declared.state.Search.{Search}
 use Rattle.places.specs.Places.{codesOf}
 use Rattle.places.specs.State.{Coded, Sound, Placeable, Extends}

@@ -8,8 +8,8 @@ use mathlib.Core.Bool.{Bool, true, false, cond}
 use mathlib.Core.Option.{Option, none, some}
 use lib.ListN.{getD}
 use lib.Dec.{eqb}
-use Rattle.events.specs.Lists.{all}
-use Rattle.events.specs.Starts.{startOf}
+use Rattle.lists.specs.Lists.{all}
+use Rattle.log.specs.Starts.{startOf}
 use Rattle.events.specs.declared.event.Event.{Event}
 use Rattle.opacity.specs.Justification.{contents}
 use Rattle.places.specs.Bits.{bitAt, members}

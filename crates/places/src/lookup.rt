@@ -2,8 +2,8 @@
 ghost use mathlib.Core.Path.{_≡_};
 ghost use Prim.Native.Nat.{_<_};
 ghost use lib.ListN.{getD};
-ghost use Rattle.events.specs.Lists.{all};
-ghost use Rattle.events.specs.Starts.{startOf};
+ghost use Rattle.lists.specs.Lists.{all};
+ghost use Rattle.log.specs.Starts.{startOf};
 ghost use Rattle.opacity.specs.Justification.{contents};
 ghost use Rattle.places.specs.Bits.{members};
 ghost use Rattle.places.specs.Places.{codesOf, decode, writesIn, writeOf};

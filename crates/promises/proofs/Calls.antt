@@ -9,15 +9,15 @@ use mathlib.Core.Bool.{true}
 use mathlib.Core.List.{List, [], _∷_, map}
 use lib.ListN.{length, take, drop, length-map}
 use Rattle.events.specs.declared.event.Event.{Event}
-use Rattle.events.specs.Bytes.{Bytes, over}
-use Rattle.events.specs.Columns.{Columns, history, hold, filledWith, Fitting}
+use Rattle.records.specs.Bytes.{Bytes, over}
+use Rattle.log.specs.Columns.{Columns, history, hold, filledWith, Fitting}
 use Rattle.events.specs.Said.{done, faulted, broken}
-use Rattle.events.specs.Starts.{FittingStarts}
+use Rattle.log.specs.Starts.{FittingStarts}
 use Rattle.events.specs.Events.{begins}
-use Rattle.events.specs.Lists.{range}
-use Rattle.events.proofs.BufferLaws.{drop-over}
-use Rattle.events.proofs.ColumnLaws.{history-length}
-use Rattle.events.proofs.ListLaws.{keep-length, range-length}
+use Rattle.lists.specs.Lists.{range}
+use Rattle.records.proofs.BufferLaws.{drop-over}
+use Rattle.log.proofs.ColumnLaws.{history-length}
+use Rattle.lists.proofs.ListLaws.{keep-length, range-length}
 use Rattle.reader.specs.declared.Reading.{Reading}
 use Rattle.reader.specs.declared.HistoryRead.{HistoryRead}
 use Rattle.reader.specs.Reading.{readAnswer, told, saidOf, said as readSaid}

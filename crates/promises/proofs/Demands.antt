@@ -8,12 +8,12 @@ use mathlib.Core.Logic.{_↔_, _⊎_}
 use mathlib.Core.Bool.{true}
 use mathlib.Core.List.{List, [], _∷_}
 use lib.ListN.{length, take, drop}
-use Rattle.events.specs.declared.columns.Checked.the-variants.{Readable, Refused}
-use Rattle.events.specs.Bytes.{Bytes, over}
-use Rattle.events.specs.Columns.{Columns, history, hold, Fitting}
+use Rattle.log.specs.declared.columns.Checked.the-variants.{Readable, Refused}
+use Rattle.records.specs.Bytes.{Bytes, over}
+use Rattle.log.specs.Columns.{Columns, history, hold, Fitting}
 use Rattle.events.specs.Said.{done, nothing, faulted, broken, atEvent, atByte, refuse, number}
-use Rattle.events.specs.Starts.{startOf, FittingStarts}
-use Rattle.events.specs.Questions.{historyAnswer}
+use Rattle.log.specs.Starts.{startOf, FittingStarts}
+use Rattle.log.specs.Answer.{historyAnswer}
 use Rattle.opacity.specs.declared.verdict.Rule.{Rule}
 use Rattle.opacity.specs.Explains.{Explains}
 use Rattle.opacity.specs.Justification.{Place, Justified}

@@ -7,13 +7,13 @@ use mathlib.Core.Path.{_≡_, sym, ap, _∙_, subst}
 use mathlib.Core.List.{List}
 use lib.ListN.{length, take}
 use Rattle.events.specs.declared.event.Event.{Event}
-use Rattle.events.specs.declared.columns.Checked.the-variants.{Readable}
-use Rattle.events.specs.Columns.{Columns, history}
-use Rattle.events.specs.Starts.{startOf}
-use Rattle.events.specs.Questions.{historyAnswer}
-use Rattle.events.proofs.ColumnLaws.{Held, hold-e, history-take}
-use Rattle.events.proofs.ReadableLaws.{readable-columns, readable-fewer}
-use Rattle.events.proofs.StartLaws.{fine-answer}
+use Rattle.log.specs.declared.columns.Checked.the-variants.{Readable}
+use Rattle.log.specs.Columns.{Columns, history}
+use Rattle.log.specs.Starts.{startOf}
+use Rattle.log.specs.Answer.{historyAnswer}
+use Rattle.log.proofs.ColumnLaws.{Held, hold-e, history-take}
+use Rattle.log.proofs.AnswerLaws.{readable-columns, readable-fewer}
+use Rattle.log.proofs.StartLaws.{fine-answer}
 use Rattle.opacity.specs.declared.verdict.Verdict.the-variants.{Accepted}
 use Rattle.opacity.specs.Marking.{Marking, ReadableFor, marked, verdict}
 use Rattle.finder.specs.declared.Finding.{Finding}

@@ -8,13 +8,13 @@ use mathlib.Core.Bool.{true}
 use mathlib.Core.List.{List, [], _∷_}
 use lib.ListN.{length, take}
 use Rattle.events.specs.declared.event.Event.{Event}
-use Rattle.events.specs.Columns.{Columns, history, hold}
+use Rattle.log.specs.Columns.{Columns, history, hold}
 use Rattle.events.specs.Events.{begins}
 use Rattle.events.specs.Said.{done, nothing}
-use Rattle.events.specs.Starts.{startOf}
+use Rattle.log.specs.Starts.{startOf}
 use Rattle.events.specs.Questions.{readable}
-use Rattle.events.proofs.ColumnLaws.{hold-i}
-use Rattle.events.proofs.StartLaws.{fine, history-readable}
+use Rattle.log.proofs.ColumnLaws.{hold-i}
+use Rattle.log.proofs.StartLaws.{fine, history-readable}
 use Rattle.opacity.specs.Justification.{Place, Justified}
 use Rattle.opacity.specs.Lowest.{LowestJustified}
 use Rattle.opacity.specs.Marking.{marked, markingBytes}

@@ -8,12 +8,12 @@ use mathlib.Core.Bool.{true}
 use mathlib.Core.List.{List, [], _∷_}
 use lib.ListN.{length, take}
 use Rattle.events.specs.declared.event.Event.{Event}
-use Rattle.events.specs.Columns.{Columns, history}
+use Rattle.log.specs.Columns.{Columns, history}
 use Rattle.events.specs.Said.{done}
-use Rattle.events.specs.Starts.{startOf}
+use Rattle.log.specs.Starts.{startOf}
 use Rattle.events.specs.Questions.{readable}
 use Rattle.events.proofs.QuestionLaws.{readable-take}
-use Rattle.events.proofs.StartLaws.{history-readable}
+use Rattle.log.proofs.StartLaws.{history-readable}
 use Rattle.opacity.specs.Explains.{Explains}
 use Rattle.opacity.specs.Justification.{Place, zeros}
 use Rattle.opacity.specs.Marking.{Marking}

@@ -7,12 +7,12 @@ use mathlib.Core.Bool.{Bool, true, false, cond}
 use mathlib.Core.List.{List}
 use lib.Dec.{leb}
 use lib.ListN.{length}
-use Rattle.events.specs.declared.columns.Checked.{Checked}
-use Rattle.events.specs.declared.columns.Checked.the-variants.{Readable, Refused as Refuses}
+use Rattle.log.specs.declared.columns.Checked.{Checked}
+use Rattle.log.specs.declared.columns.Checked.the-variants.{Readable, Refused as Refuses}
 use Rattle.events.specs.Said.{refuse}
-use Rattle.events.specs.Bytes.{over}
-use Rattle.events.specs.Columns.{Columns, history, hold, filledWith}
-use Rattle.events.specs.Questions.{columnsAnswer, historyAnswer}
+use Rattle.records.specs.Bytes.{over}
+use Rattle.log.specs.Columns.{Columns, history, hold, filledWith}
+use Rattle.log.specs.Answer.{columnsAnswer, historyAnswer}
 use Rattle.reader.specs.declared.HistoryRead.{HistoryRead}
 use Rattle.reader.specs.Reading.{Log, Outcome, readable, refused, historyOf, told, declined, answered as filledIn, filled, readAnswer}
 use Rattle.writer.specs.declared.Writing.{Writing}

@@ -5,13 +5,13 @@ use mathlib.Core.Path.{_≡_}
 use mathlib.Core.Bool.{true}
 use mathlib.Core.List.{List}
 use lib.ListN.{length, take}
-use Rattle.events.specs.declared.columns.Checked.the-variants.{Readable}
+use Rattle.log.specs.declared.columns.Checked.the-variants.{Readable}
 use Rattle.events.specs.declared.event.Event.{Event}
-use Rattle.events.specs.Bytes.{Bytes}
-use Rattle.events.specs.Columns.{Columns, history}
+use Rattle.records.specs.Bytes.{Bytes}
+use Rattle.log.specs.Columns.{Columns, history}
 use Rattle.events.specs.Events.{begins}
-use Rattle.events.specs.Starts.{startOf}
-use Rattle.events.specs.Questions.{historyAnswer}
+use Rattle.log.specs.Starts.{startOf}
+use Rattle.log.specs.Answer.{historyAnswer}
 use Rattle.opacity.specs.Explains.{Explains}
 use Rattle.opacity.specs.Justification.{Place}
 use Rattle.opacity.specs.Marking.{Marking, gapOf}

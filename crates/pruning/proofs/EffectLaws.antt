@@ -11,8 +11,8 @@ use lib.Seq.{getD-set-same, getD-set-other}
 use lib.Bits.{bitAnd, bitOr, and-le-l, and-le-r, or-add-and, or-mod}
 use lib.Dec.{eqb}
 use borrow.Author.Tests.{eqb-true, eqb-false, ne-eqb}
-use Rattle.events.specs.Lists.{all}
-use Rattle.events.specs.Starts.{startOf}
+use Rattle.lists.specs.Lists.{all}
+use Rattle.log.specs.Starts.{startOf}
 use Rattle.opacity.specs.Justification.{written, contents}
 use Rattle.opacity.proofs.Contents.{contents-more}
 use Rattle.places.specs.Bits.{bitAt, members}

@@ -11,9 +11,9 @@ use lib.Bits.{bitAnd}
 use lib.Dec.{eqb}
 use lib.Count.{ones, trailingZeros}
 use borrow.Author.Tests.{eqb-true, ne-eqb}
-use Rattle.events.specs.Lists.{_and_, all}
-use Rattle.events.specs.Starts.{startOf}
-use Rattle.events.proofs.ListLaws.{clash, all-weaken}
+use Rattle.lists.specs.Lists.{_and_, all}
+use Rattle.log.specs.Starts.{startOf}
+use Rattle.lists.proofs.ListLaws.{clash, all-weaken}
 use Rattle.opacity.specs.Justification.{written}
 use Rattle.opacity.proofs.Contents.{contents-more}
 use Rattle.places.specs.declared.state.Search.{Search}

@@ -9,7 +9,7 @@ use mathlib.Core.Option.{none}
 use lib.ListN.{getD}
 use lib.Dec.{eqb}
 use borrow.Author.Tests.{eqb-true, eqb-false, eq-eqb}
-use Rattle.events.proofs.ListLaws.{not-true, clash}
+use Rattle.lists.proofs.ListLaws.{not-true, clash}
 use Rattle.places.specs.declared.state.Search.{Search}
 use Rattle.places.specs.Bits.{bitAt}
 use Rattle.places.specs.Places.{writesIn}

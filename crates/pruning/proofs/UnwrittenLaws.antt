@@ -10,9 +10,9 @@ use lib.Seq.{getD-append-seam, getD-set-same, getD-set-other}
 use lib.Bits.{bitAnd, bitXor}
 use lib.Dec.{eqb, ltb}
 use borrow.Author.Tests.{eqb-true, eqb-false, ltb-true, lt-ltb}
-use Rattle.events.specs.Lists.{_and_, all}
-use Rattle.events.specs.Starts.{startOf}
-use Rattle.events.proofs.ListLaws.{and-l, and-r, and-i, both-ways}
+use Rattle.lists.specs.Lists.{_and_, all}
+use Rattle.log.specs.Starts.{startOf}
+use Rattle.lists.proofs.ListLaws.{and-l, and-r, and-i, both-ways}
 use Rattle.opacity.specs.Justification.{contents}
 use Rattle.places.specs.Bits.{bitAt, members}
 use Rattle.places.specs.Places.{decode, writesIn, writeOf}

@@ -8,8 +8,8 @@ use mathlib.Core.List.{List, [], _∷_, _++_}
 use mathlib.Core.Bool.{Bool, true, false, not, cond}
 use lib.ListN.{length, getD}
 use lib.Dec.{eqb}
-use Rattle.events.specs.Lists.{_and_, all}
-use Rattle.events.specs.Starts.{startOf}
+use Rattle.lists.specs.Lists.{_and_, all}
+use Rattle.log.specs.Starts.{startOf}
 use Rattle.opacity.specs.Justification.{contents}
 use Rattle.places.specs.declared.state.Search.{Search}
 use Rattle.places.specs.Bits.{bitAt, members}

@@ -5,7 +5,7 @@ ghost use mathlib.Core.List.{List};
 ghost use Prim.Native.Nat.{ℕ, _*_, _+_, _%_, _^_, _<_};
 ghost use lib.Bits.{bitOr};
 ghost use lib.Dec.{eqb};
-ghost use Rattle.events.specs.Lists.{all};
+ghost use Rattle.lists.specs.Lists.{all};
 ghost use Rattle.places.specs.Bits.{bitAt, members};
 ghost use Rattle.places.specs.Places.{writesIn};
 ghost use Rattle.places.specs.State.{Sound};

@@ -2,7 +2,7 @@
 ghost use mathlib.Core.Path.{_≡_};
 ghost use mathlib.Core.List.{List};
 ghost use Prim.Native.Nat.{ℕ, _<_};
-ghost use Rattle.events.specs.Lists.{all};
+ghost use Rattle.lists.specs.Lists.{all};
 ghost use Rattle.places.specs.Bits.{members};
 ghost use Rattle.places.specs.Places.{writesIn};
 ghost use Rattle.places.specs.Tree.{legalAt};

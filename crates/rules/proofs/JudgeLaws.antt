@@ -10,11 +10,11 @@ use lib.Dec.{eqb, ltb}
 use lib.ListN.{getD, take, drop}
 use borrow.Author.Tests.{ltb-true}
 use Rattle.events.specs.declared.event.Event.{Event}
-use Rattle.events.specs.Lists.{_implies_, isNone, first, latest}
+use Rattle.lists.specs.Lists.{_implies_, isNone, first, latest}
 use Rattle.events.specs.Events.{eventAt, begins}
-use Rattle.events.specs.Columns.{Columns, history}
-use Rattle.events.proofs.ListLaws.{First, first-some}
-use Rattle.events.proofs.ColumnLaws.{history-at, history-length}
+use Rattle.log.specs.Columns.{Columns, history}
+use Rattle.lists.proofs.ListLaws.{First, first-some}
+use Rattle.log.proofs.ColumnLaws.{history-at, history-length}
 use Rattle.opacity.specs.declared.verdict.Verdict.{Verdict}
 use Rattle.opacity.specs.declared.verdict.Verdict.the-variants.{Accepted, Broken}
 use Rattle.opacity.specs.declared.verdict.Rule.{Rule}

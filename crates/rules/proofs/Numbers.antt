@@ -8,8 +8,8 @@ use mathlib.Core.Path.{_≡_, refl, sym, ap, _∙_}
 use mathlib.Core.Logic.{⊎-elim}
 use mathlib.Core.Bool.{Bool, true, false, not, cond}
 use mathlib.Core.Option.{Option, none, some, Option·getD}
-use Rattle.events.specs.Lists.{_and_, orElse, first, lowest, every}
-use Rattle.events.proofs.ListLaws.{clash, every-e, first-none, first-some, none-first, First, below-cases}
+use Rattle.lists.specs.Lists.{_and_, orElse, first, lowest, every}
+use Rattle.lists.proofs.ListLaws.{clash, every-e, first-none, first-some, none-first, First, below-cases}
 use Rattle.rules.specs.Orders.{broken}
 
 module _ (p : ℕ → Bool) (n : ℕ) where

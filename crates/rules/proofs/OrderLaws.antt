@@ -13,9 +13,9 @@ use lib.Dec.{eqb, ltb}
 use lib.ListN.{length, getD, take, drop, set, replicate, length-set, length-replicate, length-append}
 use lib.Seq.{getD-set-same, getD-set-other, split-at, getD-take, getD-at, take-append-le, take-all}
 use borrow.Author.Tests.{eqb-true, eq-eqb, ne-eqb, eqb-false, lt-ltb, ltb-true, ltb-false, le-ltb}
-use Rattle.events.specs.Lists.{_or_, any, all}
-use Rattle.events.proofs.ListLaws.{and-l, and-r, every-e, below-cases}
-use Rattle.events.proofs.QuestionLaws.{any-index}
+use Rattle.lists.specs.Lists.{_or_, any, all}
+use Rattle.lists.proofs.ListLaws.{and-l, and-r, every-e, below-cases}
+use Rattle.lists.proofs.ListLaws.{any-index}
 use Rattle.opacity.specs.Justification.{Place, isOf, placed, before, outcome, distinct, isOrder}
 use Rattle.opacity.specs.Marking.{placeOf}
 use Rattle.opacity.proofs.Orders.{Fresh, before-here, distinct-at, outcome-here}

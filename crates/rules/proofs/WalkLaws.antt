@@ -13,9 +13,9 @@ use lib.ListN.{take, drop, getD}
 use lib.Seq.{drop-append-le, drop-length}
 use borrow.Author.Tests.{le-leb, lt-leb}
 use Rattle.events.specs.declared.event.Event.{Event}
-use Rattle.events.specs.Lists.{orElse, latest, keep, push}
-use Rattle.events.specs.Columns.{Columns, history}
-use Rattle.events.proofs.ListLaws.{latest-snoc, orElse-none}
+use Rattle.lists.specs.Lists.{orElse, latest, keep, push}
+use Rattle.log.specs.Columns.{Columns, history}
+use Rattle.lists.proofs.ListLaws.{latest-snoc, orElse-none}
 use Rattle.opacity.specs.Transactions.{lastWrite}
 use Rattle.opacity.specs.Justification.{Place, isOf, written, isOrder}
 use Rattle.opacity.specs.Marking.{others, between, placeOf}

@@ -7,9 +7,9 @@ use mathlib.Core.Bool.{Bool, true, not}
 use mathlib.Core.List.{List, [], _∷_, map}
 use lib.ListN.{length, getD}
 use Rattle.events.specs.declared.event.Event.{Event}
-use Rattle.events.specs.Lists.{first}
+use Rattle.lists.specs.Lists.{first}
 use Rattle.events.specs.Events.{begins}
-use Rattle.events.specs.Columns.{Columns, history}
+use Rattle.log.specs.Columns.{Columns, history}
 use Rattle.opacity.specs.declared.verdict.Verdict.{Verdict}
 use Rattle.opacity.specs.declared.verdict.Verdict.the-variants.{Accepted, Broken}
 use Rattle.opacity.specs.declared.verdict.Rule.{Rule}

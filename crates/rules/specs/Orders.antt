@@ -8,7 +8,7 @@ use mathlib.Core.List.{List, [], _∷_, _++_}
 use mathlib.Core.Option.{Option·getD}
 use lib.Dec.{eqb, ltb}
 use lib.ListN.{length, getD}
-use Rattle.events.specs.Lists.{_implies_, first, every}
+use Rattle.lists.specs.Lists.{_implies_, first, every}
 use Rattle.opacity.specs.Justification.{Place}
 use Rattle.links.specs.Tables.{Filled, earlier}
 

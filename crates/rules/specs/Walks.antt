@@ -8,7 +8,7 @@ use mathlib.Core.List.{List}
 use mathlib.Core.Option.{Option, none, Option·getD}
 use lib.Dec.{eqb, leb}
 use lib.ListN.{length, getD}
-use Rattle.events.specs.Lists.{_implies_, orElse, isNone}
+use Rattle.lists.specs.Lists.{_implies_, orElse, isNone}
 use Rattle.links.specs.Writes.{writeFrom, Linked}
 
 -- one past the last write at place k, or 0 where that is the reader's place

@@ -2,11 +2,11 @@
 ghost use mathlib.Core.Path.{_≡_};
 ghost use Prim.Native.Nat.{ℕ, _-_, _≤_, _<_};
 ghost use lib.ListN.{length, getD};
-ghost use Rattle.events.specs.Columns.{columns, history};
+ghost use Rattle.log.specs.Columns.{columns, history};
 ghost use Rattle.opacity.specs.declared.verdict.Verdict.the-variants.{Broken};
 ghost use Rattle.opacity.specs.Marking.{verdict};
 ghost use Rattle.rules.specs.Walks.{Walkable};
-ghost use Rattle.events.specs.Starts.{startOf};
+ghost use Rattle.log.specs.Starts.{startOf};
 ghost use Rattle.rules.specs.Judge.{content, Given, readRule, readsVerdict};
 use crate::order::rule_a;
 use crate::order::rule_b;

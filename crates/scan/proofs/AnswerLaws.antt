@@ -7,16 +7,17 @@ use mathlib.Core.Bool.{true}
 use mathlib.Core.List.{List}
 use borrow.Author.Tests.{le-leb, lt-leb, leb-true}
 use Rattle.events.specs.declared.event.Event.{Event}
-use Rattle.events.specs.declared.columns.Checked.{Checked}
+use Rattle.log.specs.declared.columns.Checked.{Checked}
 use Rattle.events.specs.declared.refusal.Refusal.{Refusal}
 use Rattle.events.specs.Said.{atEvent, refuse}
 use Rattle.events.specs.Events.{begins}
-use Rattle.events.specs.Columns.{Columns, history, hold}
-use Rattle.events.specs.Starts.{startOf, admits}
-use Rattle.events.specs.Questions.{readable, historyAnswer}
-use Rattle.events.proofs.ColumnLaws.{hold-e, hold-i}
-use Rattle.events.proofs.StartLaws.{fine, fine-answer}
-use Rattle.events.proofs.ReadableLaws.{columns-readable, readable-columns}
+use Rattle.log.specs.Columns.{Columns, history, hold}
+use Rattle.log.specs.Starts.{startOf, admits}
+use Rattle.events.specs.Questions.{readable}
+use Rattle.log.specs.Answer.{historyAnswer}
+use Rattle.log.proofs.ColumnLaws.{hold-e, hold-i}
+use Rattle.log.proofs.StartLaws.{fine, fine-answer}
+use Rattle.log.proofs.AnswerLaws.{columns-readable, readable-columns}
 use Rattle.opacity.specs.declared.verdict.Scanned.{Scanned}
 use Rattle.opacity.specs.Scan.{scan}
 use Rattle.tables.proofs.CallLaws.{asked-none, asked-yes, asked-no, asked-e, then-readable, then-refused, then-e}

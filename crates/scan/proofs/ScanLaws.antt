@@ -12,16 +12,16 @@ use mathlib.Core.Option.{Option, none, some}
 use lib.ListN.{length, take}
 use lib.Dec.{eqb}
 use borrow.Author.Tests.{ne-eqb}
-use Rattle.events.specs.Lists.{isNone, first, keep}
+use Rattle.lists.specs.Lists.{isNone, first, keep}
 use Rattle.events.specs.Events.{begins, isBegin, isRead, isCommit, isAbort}
-use Rattle.events.specs.Columns.{Columns, entry, history}
-use Rattle.events.specs.Starts.{startOf}
+use Rattle.log.specs.Columns.{Columns, entry, history}
+use Rattle.log.specs.Starts.{startOf}
 use Rattle.opacity.specs.Justification.{Justified}
 use Rattle.opacity.specs.Lowest.{lowestOf}
 use Rattle.opacity.specs.Scan.{cause, scan}
 use Rattle.opacity.specs.declared.verdict.Scanned.the-variants.{Opaque, Faulted}
-use Rattle.events.proofs.ListLaws.{below-cases, clash, first-none, first-some, none-first, First}
-use Rattle.events.proofs.ColumnLaws.{history-length, history-at, history-take, begins-more, begins-stay}
+use Rattle.lists.proofs.ListLaws.{below-cases, clash, first-none, first-some, none-first, First}
+use Rattle.log.proofs.ColumnLaws.{history-length, history-at, history-take, begins-more, begins-stay}
 use Rattle.opacity.proofs.Bounds.{transaction-known}
 use Rattle.opacity.proofs.Least.{lowest-justifies, lowest-least}
 use Rattle.opacity.proofs.Opacity.{empty-justified}

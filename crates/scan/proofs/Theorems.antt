@@ -5,14 +5,14 @@ use mathlib.Core.Logic.{_↔_}
 use Prim.Native.Nat.{ℕ}
 use mathlib.Core.List.{List, []}
 use lib.ListN.{length}
-use Rattle.events.specs.declared.columns.Checked.{Checked}
+use Rattle.log.specs.declared.columns.Checked.{Checked}
 use Rattle.events.specs.declared.refusal.Refusal.{Refusal}
 use Rattle.events.specs.Said.{done, faulted, atEvent, refuse}
-use Rattle.events.specs.Columns.{Columns, history, hold}
-use Rattle.events.specs.Starts.{startOf, noStarts}
-use Rattle.events.specs.Questions.{historyAnswer}
-use Rattle.events.proofs.ColumnLaws.{history-length}
-use Rattle.events.proofs.StartLaws as start-laws
+use Rattle.log.specs.Columns.{Columns, history, hold}
+use Rattle.log.specs.Starts.{startOf, noStarts}
+use Rattle.log.specs.Answer.{historyAnswer}
+use Rattle.log.proofs.ColumnLaws.{history-length}
+use Rattle.log.proofs.StartLaws as start-laws
 use Rattle.opacity.specs.declared.verdict.Scanned.{Scanned}
 use Rattle.opacity.specs.Scan.{scan, AllJustified, FaultsAt}
 use Rattle.opacity.specs.Serial.{AllSerial}

@@ -12,13 +12,13 @@ use lib.Dec.{eqb, ltb}
 use lib.ListN.{take, getD}
 use lib.Pow.{pow-add, pow-mono}
 use borrow.Author.Tests.{ne-eqb, ltb-true, lt-ltb}
-use Rattle.events.specs.Lists.{all}
+use Rattle.lists.specs.Lists.{all}
 use Rattle.events.specs.declared.event.Event.{Event}
 use Rattle.events.specs.Events.{eventAt, isBegin, isRead, isCommit, isAbort, begins}
-use Rattle.events.specs.Columns.{Columns, entry, history}
-use Rattle.events.specs.Starts.{startOf}
-use Rattle.events.proofs.ListLaws.{and-l, and-r, and-i, all-weaken}
-use Rattle.events.proofs.ColumnLaws.{history-length, history-at, history-take, begins-more, begins-stay}
+use Rattle.log.specs.Columns.{Columns, entry, history}
+use Rattle.log.specs.Starts.{startOf}
+use Rattle.lists.proofs.ListLaws.{and-l, and-r, and-i, all-weaken}
+use Rattle.log.proofs.ColumnLaws.{history-length, history-at, history-take, begins-more, begins-stay}
 use Rattle.opacity.specs.Transactions.{lastWrite}
 use Rattle.opacity.specs.Justification.{Place, isOf, before, outcome, contents, isOrder, Justified}
 use Rattle.opacity.specs.Lowest.{place}

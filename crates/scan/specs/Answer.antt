@@ -6,12 +6,13 @@ use mathlib.Core.Bool.{true}
 use mathlib.Core.List.{List, [], _∷_}
 use lib.Dec.{leb}
 use Rattle.events.specs.declared.event.Event.{Event}
-use Rattle.events.specs.declared.columns.Checked.{Checked}
+use Rattle.log.specs.declared.columns.Checked.{Checked}
 use Rattle.events.specs.Events.{begins}
-use Rattle.events.specs.Columns.{Columns, history, hold}
-use Rattle.events.specs.Starts.{startOf, admits}
+use Rattle.log.specs.Columns.{Columns, history, hold}
+use Rattle.log.specs.Starts.{startOf, admits}
 use Rattle.events.specs.Said.{Said, done, faulted, eventRefused}
-use Rattle.events.specs.Questions.{ask, readable, columnsAnswer, historyAnswer}
+use Rattle.events.specs.Questions.{ask, readable}
+use Rattle.log.specs.Answer.{columnsAnswer, historyAnswer}
 use Rattle.opacity.specs.declared.verdict.Scanned.{Scanned}
 use Rattle.opacity.specs.Justification.{zeros}
 use Rattle.opacity.specs.Scan.{scan}

@@ -7,7 +7,7 @@ use mathlib.Core.Bool.{true, false, cond}
 use mathlib.Core.List.{List}
 use Rattle.events.specs.declared.event.Event.{Event}
 use Rattle.events.specs.Events.{isBegin}
-use Rattle.events.specs.Starts.{startOf}
+use Rattle.log.specs.Starts.{startOf}
 use Rattle.opacity.specs.Carry.{carries}
 use Rattle.places.specs.Places.{codesOf, decode, writesIn}
 use Rattle.places.specs.State.{Ordered}

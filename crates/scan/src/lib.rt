@@ -2,16 +2,16 @@
 ghost use mathlib.Core.Path.{_≡_};
 ghost use mathlib.Core.Bool.{cond};
 ghost use Prim.Native.Nat.{_+_, _<_};
-ghost use Rattle.events.specs.Columns.{columns, history};
+ghost use Rattle.log.specs.Columns.{columns, history};
 ghost use Rattle.events.specs.Events.{isBegin};
-ghost use Rattle.events.specs.Starts.{startOf};
+ghost use Rattle.log.specs.Starts.{startOf};
 ghost use Rattle.opacity.specs.Scan.{scan, cause};
 ghost use Rattle.opacity.specs.declared.verdict.Scanned.the-variants.{Faulted};
 ghost use Rattle.opacity.specs.Counts.{ofKind, HoldsReadable};
 ghost use Rattle.tables.specs.Order.{Judged};
 ghost use Rattle.scan.specs.Answer.{sizeRefusal, decided, scanAnswer};
-use events::columns::Checked;
-use events::record::Record;
+use log::columns::Checked;
+use records::record::Record;
 use events::refusal::Refusal;
 use opacity::verdict::Scanned;
 
@@ -158,7 +158,7 @@ pub fn scan_history(
 ) -> Scanning
     ensures { λ r. ⌜ r ≡ scanAnswer edition (now (starts .entry)) (columns (now (kinds .entry)) (now (transactions .entry)) (now (registers .entry)) (now (values .entry))) count ⌝ }
 {
-    let checked = events::columns::check_history(
+    let checked = log::columns::check_history(
         edition,
         starts,
         kinds,

@@ -3,7 +3,7 @@ ghost use mathlib.Core.Path.{_≡_};
 ghost use mathlib.Core.Bool.{cond};
 ghost use mathlib.Core.Option.{none};
 ghost use Prim.Native.Nat.{_≤_, _<_};
-ghost use Rattle.events.specs.Starts.{startOf};
+ghost use Rattle.log.specs.Starts.{startOf};
 ghost use Rattle.opacity.specs.Justification.{outcome};
 ghost use Rattle.opacity.specs.Carry.{seen};
 ghost use Rattle.places.specs.Places.{codesOf, decode, writesIn};
@@ -12,7 +12,7 @@ ghost use Rattle.places.specs.Tree.{firstCompletion};
 ghost use Rattle.tables.specs.Order.{constraintsOf};
 ghost use Rattle.tables.specs.Tables.{event, tablesBy};
 ghost use Rattle.scan.specs.Witness.{kept, Carryable, Judges};
-use events::record::Record;
+use records::record::Record;
 use tables::Standing;
 
 // A place is one of so many codes.

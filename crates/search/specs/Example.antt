@@ -4,8 +4,8 @@ use mathlib.Core.Path.{_≡_, refl}
 use mathlib.Core.List.{[], _∷_}
 use mathlib.Core.Option.{some}
 use lib.ListN.{replicate, set}
-use Rattle.events.specs.Lists.{_and_, all, latest}
-use Rattle.events.specs.Starts.{startOf}
+use Rattle.lists.specs.Lists.{_and_, all, latest}
+use Rattle.log.specs.Starts.{startOf}
 use Rattle.events.specs.Events.{isWrite, by}
 use Rattle.opacity.specs.Transactions.{lastWrite}
 use Rattle.opacity.specs.Justification.{written, contents}

@@ -11,17 +11,19 @@ use lib.Dec.{ltb}
 use lib.ListN.{length, take}
 use borrow.Author.Tests.{lt-ltb, le-ltb}
 use Rattle.events.specs.declared.event.Event.{Event}
-use Rattle.events.specs.declared.columns.Checked.{Checked}
+use Rattle.log.specs.declared.columns.Checked.{Checked}
 use Rattle.events.specs.declared.refusal.Refusal.{Refusal}
 use Rattle.events.specs.Said.{Said, eventRefused, byteRefused}
-use Rattle.events.specs.Lists.{_or_}
+use Rattle.lists.specs.Lists.{_or_}
 use Rattle.events.specs.Events.{isRead, isCommit, isAbort, begins}
-use Rattle.events.specs.Columns.{Columns, history}
-use Rattle.events.specs.Starts.{startOf}
-use Rattle.events.specs.Questions.{readable, columnsAnswer, historyAnswer}
-use Rattle.events.proofs.ColumnLaws.{history-length}
+use Rattle.log.specs.Columns.{Columns, history}
+use Rattle.log.specs.Starts.{startOf}
+use Rattle.events.specs.Questions.{readable}
+use Rattle.log.specs.Answer.{columnsAnswer, historyAnswer}
+use Rattle.log.proofs.ColumnLaws.{history-length}
 use Rattle.events.proofs.QuestionLaws.{readable-take}
-use Rattle.events.proofs.ReadableLaws.{columns-readable, readable-most}
+use Rattle.log.proofs.AnswerLaws.{columns-readable}
+use Rattle.events.proofs.ReadableLaws.{readable-most}
 use Rattle.opacity.specs.declared.verdict.Rule.{Rule}
 use Rattle.opacity.specs.declared.verdict.Verdict.{Verdict}
 use Rattle.opacity.specs.declared.verdict.Scanned.{Scanned}

@@ -11,17 +11,18 @@ use mathlib.Core.Option.{Option, none, some}
 use lib.Dec.{leb, eqb}
 use lib.ListN.{length, length-append}
 use borrow.Author.Tests.{leb-true, eqb-true}
-use Rattle.events.specs.declared.record.Record.{Record}
-use Rattle.events.specs.declared.record.Found.{Found}
-use Rattle.events.specs.declared.step.Step.{Step}
-use Rattle.events.specs.Lists.{_and_, _or_, all}
+use Rattle.records.specs.declared.record.Record.{Record}
+use Rattle.records.specs.declared.record.Found.{Found}
+use Rattle.steps.specs.declared.step.Step.{Step}
+use Rattle.lists.specs.Lists.{_and_, _or_, all}
 use Rattle.events.specs.Questions.{Question, refusal, Past, past, eventQuestions}
-use Rattle.events.specs.Bytes.{pick}
-use Rattle.events.specs.Records.{recordAt, bodyOf, eventIn, recordQuestions, unless, stepOn, isStart, startQuestions, startRefusal, startOn, recordOn, recordStep}
-use Rattle.events.proofs.ListLaws.{and-l, and-r, or-cases}
+use Rattle.records.specs.Bytes.{pick}
+use Rattle.records.specs.Records.{recordAt, bodyOf}
+use Rattle.steps.specs.Steps.{eventIn, recordQuestions, unless, stepOn, isStart, startQuestions, startRefusal, startOn, recordOn, recordStep}
+use Rattle.lists.proofs.ListLaws.{and-l, and-r, or-cases}
 use Rattle.events.proofs.QuestionLaws.{asked, head-yes}
-use Rattle.events.proofs.RecordLaws.{whole-in}
-use Rattle.events.proofs.StepLaws.{starting}
+use Rattle.records.proofs.RecordLaws.{whole-in}
+use Rattle.steps.proofs.StepLaws.{starting}
 use Rattle.reader.specs.Reading.{isEdition, opening, Log, readable, refused, goOn, walk, opened, historyOf}
 use Rattle.reader.proofs.OpeningLaws.{opens, head-long, head-known}
 use Rattle.reader.proofs.WalkLaws.{event-in, readable≢}

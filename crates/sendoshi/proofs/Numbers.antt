@@ -12,18 +12,19 @@ use lib.ListN.{length, take}
 use lib.Seq.{length-take-le}
 use borrow.Author.Tests.{leb-true}
 use Rattle.events.specs.declared.event.Event.{Event}
-use Rattle.events.specs.declared.columns.Checked.{Checked}
+use Rattle.log.specs.declared.columns.Checked.{Checked}
 use Rattle.events.specs.declared.refusal.Refusal.{Refusal}
 use Rattle.events.specs.Said.{refuse}
-use Rattle.events.specs.Lists.{_and_, all, lowest}
+use Rattle.lists.specs.Lists.{_and_, all, lowest}
 use Rattle.events.specs.Events.{eventAt}
-use Rattle.events.specs.Columns.{Columns, history, hold}
-use Rattle.events.specs.Starts.{admits}
-use Rattle.events.specs.Questions.{Question, refusal, Past, past, eventQuestions, columnQuestions, refusedAt, readable, refusedWith, eventsAnswer, columnsAnswer, historyAnswer}
-use Rattle.events.proofs.ListLaws.{and-l, and-r, lowest-some, Lowest}
+use Rattle.log.specs.Columns.{Columns, history, hold}
+use Rattle.log.specs.Starts.{admits}
+use Rattle.events.specs.Questions.{Question, refusal, Past, past, eventQuestions, columnQuestions, refusedAt, readable}
+use Rattle.log.specs.Answer.{refusedWith, eventsAnswer, columnsAnswer, historyAnswer}
+use Rattle.lists.proofs.ListLaws.{and-l, and-r, lowest-some, Lowest}
 use Rattle.events.proofs.QuestionLaws.{asked, fit}
-use Rattle.events.proofs.ReadableLaws.{columns-readable}
-use Rattle.events.proofs.StartLaws.{fine}
+use Rattle.log.proofs.AnswerLaws.{columns-readable}
+use Rattle.log.proofs.StartLaws.{fine}
 use Rattle.tables.specs.Calls.{askedOf, thenChecked}
 use Rattle.codes.specs.Codes.{Within}
 

@@ -9,14 +9,14 @@ use mathlib.Core.Bool.{Bool, true, false, cond}
 use mathlib.Core.List.{List}
 use lib.Dec.{leb}
 use lib.ListN.{length}
-use Rattle.events.specs.declared.columns.Checked.{Checked}
+use Rattle.log.specs.declared.columns.Checked.{Checked}
 use Rattle.events.specs.declared.refusal.Refusal.{Refusal}
 use Rattle.events.specs.Said.{refuse}
-use Rattle.events.specs.Lists.{_and_, all}
-use Rattle.events.specs.Bytes.{over}
-use Rattle.events.specs.Columns.{Columns, history, hold, filledWith}
-use Rattle.events.specs.Starts.{startOf}
-use Rattle.events.specs.Questions.{columnsAnswer, historyAnswer}
+use Rattle.lists.specs.Lists.{_and_, all}
+use Rattle.records.specs.Bytes.{over}
+use Rattle.log.specs.Columns.{Columns, history, hold, filledWith}
+use Rattle.log.specs.Starts.{startOf}
+use Rattle.log.specs.Answer.{columnsAnswer, historyAnswer}
 use Rattle.reader.specs.declared.Reading.{Reading}
 use Rattle.reader.specs.Reading.{Log, Outcome, readable as isRead, refused as unread, historyOf, told, declined, answered as answers, filled, readAnswer}
 use Rattle.writer.specs.declared.Writing.{Writing}

@@ -3,7 +3,7 @@
 -- Assumes nothing.
 use Prim.Native.Nat.{ℕ}
 use mathlib.Core.List.{List}
-use Rattle.events.specs.Columns.{Columns}
+use Rattle.log.specs.Columns.{Columns}
 use Rattle.reader.specs.declared.Reading.{Reading}
 use Rattle.reader.specs.declared.HistoryRead.{HistoryRead}
 use Rattle.reader.specs.Reading.{ReadAnswer, readAnswer, said as readSaid}

@@ -5,7 +5,7 @@
 // Assumed of the caller, since no function can test it: each slice is a pointer that is good for its
 // length, nothing else refers to what is written, and start values are a pointer to 32 numbers.
 ghost use mathlib.Core.Path.{_≡_};
-ghost use Rattle.events.specs.Columns.{columns};
+ghost use Rattle.log.specs.Columns.{columns};
 ghost use Rattle.reader.specs.Reading.{readAnswer, said as readSaid};
 ghost use Rattle.writer.specs.Writing.{writtenAnswer, said as writtenSaid};
 ghost use Rattle.finder.specs.Answer.{foundAnswer, said as foundSaid};

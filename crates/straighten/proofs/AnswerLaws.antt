@@ -10,17 +10,18 @@ use mathlib.Core.Option.{Option, none, some, Option·getD, Option·none-ne-some,
 use lib.Dec.{eqb}
 use lib.ListN.{length, take}
 use Rattle.events.specs.declared.event.Event.{Event}
-use Rattle.events.specs.declared.columns.Checked.{Checked}
-use Rattle.events.specs.declared.columns.Checked.the-variants.{Readable, Refused as Refuses}
+use Rattle.log.specs.declared.columns.Checked.{Checked}
+use Rattle.log.specs.declared.columns.Checked.the-variants.{Readable, Refused as Refuses}
 use Rattle.events.specs.declared.refusal.Refusal.{Refusal}
 use Rattle.events.specs.Said.{refuse}
-use Rattle.events.specs.Lists.{_and_, all, lowest}
-use Rattle.events.specs.Bytes.{over}
+use Rattle.lists.specs.Lists.{_and_, all, lowest}
+use Rattle.records.specs.Bytes.{over}
 use Rattle.events.specs.Events.{eventAt}
-use Rattle.events.specs.Columns.{Columns, history, hold}
-use Rattle.events.specs.Starts.{startOf, admits}
-use Rattle.events.specs.Questions.{Question, Past, past, refusal, eventQuestions, columnQuestions, refusedAt, refusedWith, eventsAnswer, historyAnswer}
-use Rattle.events.proofs.ListLaws.{and-l, and-r, eqb-self, not-true, clash, Lowest, lowest-some}
+use Rattle.log.specs.Columns.{Columns, history, hold}
+use Rattle.log.specs.Starts.{startOf, admits}
+use Rattle.events.specs.Questions.{Question, Past, past, refusal, eventQuestions, columnQuestions, refusedAt}
+use Rattle.log.specs.Answer.{refusedWith, eventsAnswer, historyAnswer}
+use Rattle.lists.proofs.ListLaws.{and-l, and-r, eqb-self, not-true, clash, Lowest, lowest-some}
 use Rattle.opacity.specs.declared.verdict.Rule.{Rule}
 use Rattle.opacity.specs.declared.verdict.Verdict.{Verdict}
 use Rattle.opacity.specs.declared.verdict.Verdict.the-variants.{Accepted, Broken as Breaks}

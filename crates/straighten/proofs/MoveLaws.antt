@@ -11,11 +11,11 @@ use lib.Dec.{leb}
 use lib.ListN.{length, getD}
 use borrow.Author.Tests.{le-leb}
 use Rattle.events.specs.declared.event.Event.{Event}
-use Rattle.events.specs.Lists.{_and_, all, keep, range}
+use Rattle.lists.specs.Lists.{_and_, all, keep, range}
 use Rattle.events.specs.Events.{eventAt, begins}
-use Rattle.events.specs.Columns.{Columns, history}
-use Rattle.events.proofs.ListLaws.{and-l, and-r, and-i, keep-same, clash}
-use Rattle.events.proofs.ColumnLaws.{history-length}
+use Rattle.log.specs.Columns.{Columns, history}
+use Rattle.lists.proofs.ListLaws.{and-l, and-r, and-i, keep-same, clash}
+use Rattle.log.proofs.ColumnLaws.{history-length}
 use Rattle.opacity.specs.Transactions.{isStoreRead, storeReads}
 use Rattle.opacity.specs.Marking.{Marking, ReadableFor, gapOf, placeOf}
 use Rattle.opacity.proofs.Finder.{events-of}

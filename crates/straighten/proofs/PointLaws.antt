@@ -9,8 +9,8 @@ use mathlib.Core.List.{List, [], _∷_, map}
 use mathlib.Core.Option.{none, some}
 use lib.Dec.{eqb, leb}
 use borrow.Author.Tests.{ne-eqb, le-leb, leb-true}
-use Rattle.events.specs.Lists.{_and_, all, keep, push, latest}
-use Rattle.events.proofs.ListLaws.{and-l, and-r, and-i, eqb-self, orElse-none, keep-both}
+use Rattle.lists.specs.Lists.{_and_, all, keep, push, latest}
+use Rattle.lists.proofs.ListLaws.{and-l, and-r, and-i, eqb-self, orElse-none, keep-both}
 use Rattle.opacity.specs.Marking.{Point, gapOf}
 use Rattle.marking.proofs.ReadBack.{rising}
 use Rattle.straighten.specs.Straight.{Rises}

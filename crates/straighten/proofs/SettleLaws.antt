@@ -10,12 +10,12 @@ use lib.Dec.{leb}
 use lib.ListN.{length, getD}
 use borrow.Author.Tests.{leb-true}
 use Rattle.events.specs.declared.event.Event.{Event}
-use Rattle.events.specs.Lists.{_and_}
-use Rattle.events.specs.Bytes.{Bytes}
-use Rattle.events.specs.Columns.{Columns, history}
+use Rattle.lists.specs.Lists.{_and_}
+use Rattle.records.specs.Bytes.{Bytes}
+use Rattle.log.specs.Columns.{Columns, history}
 use Rattle.events.specs.Events.{begins}
-use Rattle.events.proofs.ListLaws.{and-l, and-r}
-use Rattle.events.proofs.ColumnLaws.{history-length}
+use Rattle.lists.proofs.ListLaws.{and-l, and-r}
+use Rattle.log.proofs.ColumnLaws.{history-length}
 use Rattle.opacity.specs.declared.verdict.Verdict.{Verdict}
 use Rattle.opacity.specs.Counts.{HoldsReadable}
 use Rattle.opacity.specs.Transactions.{isStoreRead, storeReads}

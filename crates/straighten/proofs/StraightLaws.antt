@@ -11,9 +11,9 @@ use lib.Dec.{leb}
 use lib.ListN.{length, length-map}
 use borrow.Author.Tests.{le-leb}
 use Rattle.events.specs.declared.event.Event.{Event}
-use Rattle.events.specs.Lists.{_and_, all, keep, push, range}
+use Rattle.lists.specs.Lists.{_and_, all, keep, push, range}
 use Rattle.events.specs.Events.{eventAt, begins}
-use Rattle.events.proofs.ListLaws.{and-l, and-r, and-i, imp-i, not-true, clash, keep-length, keep-none}
+use Rattle.lists.proofs.ListLaws.{and-l, and-r, and-i, imp-i, not-true, clash, keep-length, keep-none}
 use Rattle.opacity.specs.declared.verdict.Rule.the-variants.{D, E}
 use Rattle.opacity.specs.declared.verdict.Verdict.the-variants.{Accepted}
 use Rattle.opacity.specs.Transactions.{isStoreRead, storeReads}

@@ -7,9 +7,9 @@ use mathlib.Core.Bool.{Bool, true, false, not}
 use mathlib.Core.List.{List, [], _∷_, _++_, append-assoc, append-nil}
 use lib.ListN.{length, getD, take, drop, set, length-append}
 use lib.Seq.{sets-eq}
-use Rattle.events.specs.Bytes.{placed}
-use Rattle.events.specs.Lists.{_and_, push, keep, range}
-use Rattle.events.proofs.ListLaws.{keep-append}
+use Rattle.records.specs.Bytes.{placed}
+use Rattle.lists.specs.Lists.{_and_, push, keep, range}
+use Rattle.lists.proofs.ListLaws.{keep-append}
 use Rattle.opacity.specs.Marking.{placeBytes, flat}
 use Rattle.opacity.proofs.MarkingBytes.{flat-append, flat-length}
 use Rattle.rules.specs.Orders.{placeAt, placesOf}

@@ -10,17 +10,17 @@ use mathlib.Core.Bool.{Bool, true, false, cond}
 use mathlib.Core.List.{List, [], _∷_}
 use lib.ListN.{length, take, drop}
 use Rattle.events.specs.declared.event.Event.{Event}
-use Rattle.events.specs.declared.columns.Checked.{Checked}
-use Rattle.events.specs.declared.columns.Checked.the-variants.{Readable, Refused as Refuses}
+use Rattle.log.specs.declared.columns.Checked.{Checked}
+use Rattle.log.specs.declared.columns.Checked.the-variants.{Readable, Refused as Refuses}
 use Rattle.events.specs.declared.refusal.Refusal.{Refusal}
 use Rattle.events.specs.Said.{done as isDone, broken, atEvent, atByte, refuse}
-use Rattle.events.specs.Bytes.{Bytes, over}
+use Rattle.records.specs.Bytes.{Bytes, over}
 use Rattle.events.specs.Events.{eventAt}
-use Rattle.events.specs.Columns.{Columns, history, hold}
-use Rattle.events.specs.Starts.{startOf, noStarts}
-use Rattle.events.specs.Questions.{historyAnswer}
-use Rattle.events.proofs.BufferLaws.{take-over, drop-over}
-use Rattle.events.proofs.StartLaws.{no-starts, history-readable, first-edition as first-asked}
+use Rattle.log.specs.Columns.{Columns, history, hold}
+use Rattle.log.specs.Starts.{startOf, noStarts}
+use Rattle.log.specs.Answer.{historyAnswer}
+use Rattle.records.proofs.BufferLaws.{take-over, drop-over}
+use Rattle.log.proofs.StartLaws.{no-starts, history-readable, first-edition as first-asked}
 use Rattle.opacity.specs.declared.verdict.Rule.{Rule}
 use Rattle.opacity.specs.declared.verdict.Rule.the-variants.{D, E}
 use Rattle.opacity.specs.declared.verdict.Verdict.{Verdict}

@@ -7,14 +7,14 @@ use mathlib.Core.List.{List, [], _∷_}
 use lib.Dec.{leb}
 use lib.ListN.{length}
 use Rattle.events.specs.declared.event.Event.{Event}
-use Rattle.events.specs.declared.columns.Checked.{Checked}
-use Rattle.events.specs.declared.columns.Checked.the-variants.{Readable, Refused as Refuses}
-use Rattle.events.specs.Lists.{_and_}
-use Rattle.events.specs.Bytes.{over}
-use Rattle.events.specs.Columns.{Columns, history}
-use Rattle.events.specs.Starts.{startOf}
+use Rattle.log.specs.declared.columns.Checked.{Checked}
+use Rattle.log.specs.declared.columns.Checked.the-variants.{Readable, Refused as Refuses}
+use Rattle.lists.specs.Lists.{_and_}
+use Rattle.records.specs.Bytes.{over}
+use Rattle.log.specs.Columns.{Columns, history}
+use Rattle.log.specs.Starts.{startOf}
 use Rattle.events.specs.Said.{Said, done, eventRefused, byteRefused, refuse}
-use Rattle.events.specs.Questions.{columnsAnswer, historyAnswer}
+use Rattle.log.specs.Answer.{columnsAnswer, historyAnswer}
 use Rattle.opacity.specs.declared.verdict.Verdict.{Verdict}
 use Rattle.opacity.specs.declared.verdict.Verdict.the-variants.{Accepted, Broken as Breaks}
 use Rattle.opacity.specs.Transactions.{storeReads}

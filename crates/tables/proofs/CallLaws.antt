@@ -6,10 +6,11 @@ use mathlib.Core.Path.{_≡_, refl, sym, ap, _∙_}
 use mathlib.Core.Bool.{Bool, true, false}
 use mathlib.Core.List.{List, [], _∷_}
 use mathlib.Core.Option.{Option, Option·getD}
-use Rattle.events.specs.declared.columns.Checked.{Checked}
+use Rattle.log.specs.declared.columns.Checked.{Checked}
 use Rattle.events.specs.declared.refusal.Refusal.{Refusal}
 use Rattle.events.specs.Said.{refuse}
-use Rattle.events.specs.Questions.{Question, ask, refusal, refusedWith}
+use Rattle.events.specs.Questions.{Question, ask, refusal}
+use Rattle.log.specs.Answer.{refusedWith}
 use Rattle.events.proofs.QuestionLaws.{ask-yes, ask-no}
 use Rattle.tables.specs.Calls.{askedOf, thenChecked}
 

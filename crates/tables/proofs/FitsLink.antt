@@ -11,14 +11,14 @@ use lib.ListN.{length, take, getD}
 use lib.Seq.{take-all}
 use lib.Dec.{eqb, ltb}
 use borrow.Author.Tests.{eqb-true, eqb-false, eq-eqb, ne-eqb, lt-ltb}
-use Rattle.events.specs.Lists.{_and_, _implies_, push, keep, all, every}
+use Rattle.lists.specs.Lists.{_and_, _implies_, push, keep, all, every}
 use Rattle.events.specs.declared.event.Event.{Event}
 use Rattle.events.specs.Events.{eventAt, begins}
-use Rattle.events.specs.Starts.{startOf}
+use Rattle.log.specs.Starts.{startOf}
 use Rattle.opacity.specs.Transactions.{precedes, Status, status, allows, isStoreRead}
 use Rattle.opacity.specs.Justification.{Place, placed, contents, preceded, legalOver}
 use Rattle.opacity.specs.Lowest.{place, fits}
-use Rattle.events.proofs.ListLaws.{and-false-r, imp-e, imp-i, not-true, clash, every-e, every-i, both-ways}
+use Rattle.lists.proofs.ListLaws.{and-false-r, imp-e, imp-i, not-true, clash, every-e, every-i, both-ways}
 use Rattle.places.specs.Bits.{bitAt, members}
 use Rattle.places.specs.Places.{decode, writesIn}
 use Rattle.places.specs.Tree.{upFrom, legalAt, legalReads, noneIn, ruleNext, allowsOutcome, fitsAt}

@@ -9,11 +9,11 @@ use lib.ListN.{take}
 use Rattle.events.specs.declared.event.Event.{Event}
 use Rattle.events.specs.Events.{eventAt, begins}
 use Rattle.events.specs.Questions.{readable}
-use Rattle.events.proofs.ListLaws.{and-r, not-true}
+use Rattle.lists.proofs.ListLaws.{and-r, not-true}
 use Rattle.opacity.proofs.Bounds.{transaction-known, register-low}
 use Rattle.events.proofs.QuestionLaws.{asked-at}
-use Rattle.events.specs.Columns.{Columns, history}
-use Rattle.events.proofs.ColumnLaws.{history-length, history-at}
+use Rattle.log.specs.Columns.{Columns, history}
+use Rattle.log.proofs.ColumnLaws.{history-length, history-at}
 use Rattle.tables.specs.Tables.{InTables}
 use Rattle.tables.specs.Order.{Judged}
 use Rattle.tables.proofs.Meaning.{Fine, Good}

@@ -5,10 +5,11 @@ use native.Mathlib.Omega.{arith}
 use mathlib.Core.Path.{_≡_, ap}
 use lib.ListN.{take}
 use Rattle.events.specs.Events.{begins}
-use Rattle.events.specs.Columns.{Columns, history}
+use Rattle.log.specs.Columns.{Columns, history}
 use Rattle.events.specs.Questions.{readable}
-use Rattle.events.proofs.ColumnLaws.{history-take, begins-take}
-use Rattle.events.proofs.ReadableLaws.{readable-fewer}
+use Rattle.log.proofs.ColumnLaws.{history-take}
+use Rattle.events.proofs.EventLaws.{begins-take}
+use Rattle.log.proofs.AnswerLaws.{readable-fewer}
 use Rattle.opacity.specs.Counts.{HoldsReadable}
 use Rattle.tables.specs.Order.{Judged}
 

@@ -9,18 +9,18 @@ use mathlib.Core.Option.{none}
 use lib.ListN.{length}
 use lib.Seq.{take-all}
 use borrow.Author.Tests.{eqb-true}
-use Rattle.events.specs.Lists.{every}
+use Rattle.lists.specs.Lists.{every}
 use Rattle.events.specs.declared.event.Event.{Event}
 use Rattle.events.specs.Events.{eventAt, begins}
 use Rattle.opacity.specs.Transactions.{ownRight}
 use Rattle.opacity.specs.Justification.{Place, placed, before, contents, legalOver, legal, Justified}
 use Rattle.opacity.specs.Lowest.{fits, lowestOf}
-use Rattle.events.proofs.ListLaws.{and-false-l, and-false-r, imp-e, clash, every-i}
+use Rattle.lists.proofs.ListLaws.{and-false-l, and-false-r, imp-e, clash, every-i}
 use Rattle.opacity.proofs.Least.{none-iff}
 use Rattle.places.specs.Places.{decode}
 use Rattle.places.specs.Tree.{Completion, upFrom, firstCompletion}
-use Rattle.events.specs.Columns.{Columns, history}
-use Rattle.events.specs.Starts.{startOf}
+use Rattle.log.specs.Columns.{Columns, history}
+use Rattle.log.specs.Starts.{startOf}
 use Rattle.tables.specs.Tables.{Tables, tablesOf}
 use Rattle.tables.specs.Order.{decoded, constraintsOf, foundOrder, Judged}
 use Rattle.tables.proofs.Meaning.{Good}

@@ -12,10 +12,10 @@ use lib.ListN.{length, getD}
 use lib.Seq.{take-all}
 use lib.Dec.{ltb}
 use borrow.Author.Tests.{ltb-true, lt-ltb}
-use Rattle.events.specs.Lists.{orElse, all, latest}
-use Rattle.events.proofs.ListLaws.{and-l, and-r, and-i}
+use Rattle.lists.specs.Lists.{orElse, all, latest}
+use Rattle.lists.proofs.ListLaws.{and-l, and-r, and-i}
 use Rattle.events.specs.declared.event.Event.{Event}
-use Rattle.events.specs.Starts.{startOf}
+use Rattle.log.specs.Starts.{startOf}
 use Rattle.opacity.specs.Transactions.{lastWrite}
 use Rattle.opacity.specs.Justification.{Place, written, contents}
 use Rattle.opacity.specs.Store.{applied}
@@ -26,7 +26,7 @@ use Rattle.places.specs.Places.{codesOf, decode, plus, writesIn}
 use Rattle.places.specs.State.{Coded}
 use Rattle.places.proofs.StateLaws.{length-codes}
 use Rattle.places.proofs.LookupLaws.{held}
-use Rattle.events.specs.Columns.{Columns, history}
+use Rattle.log.specs.Columns.{Columns, history}
 use Rattle.tables.specs.Order.{Judged}
 use Rattle.tables.proofs.GoodHistory.{good}
 use Rattle.tables.specs.Tables.{tablesOf}

@@ -12,11 +12,11 @@ use lib.Seq.{take-suc, getD-set-same, getD-set-other}
 use lib.Dec.{eqb}
 use lib.Bits.{bitOr}
 use borrow.Author.Tests.{eqb-true, eqb-false, eq-eqb, ne-eqb}
-use Rattle.events.specs.Lists.{_and_, _or_, orElse, any, latest}
+use Rattle.lists.specs.Lists.{_and_, _or_, orElse, any, latest}
 use Rattle.events.specs.declared.event.Event.{Event}
 use Rattle.events.specs.Events.{noEvent, eventAt, isBegin, isRead, isWrite, asksCommit, isCommit, isAbort, isEnd, by, has, ended}
 use Rattle.opacity.specs.Transactions.{precedes, Status, status, lastWrite}
-use Rattle.events.proofs.ListLaws.{and-l, and-r, and-i, or-l, or-r, or-false, any-weaken, latest-snoc}
+use Rattle.lists.proofs.ListLaws.{and-l, and-r, and-i, or-l, or-r, or-false, any-weaken, latest-snoc}
 use Rattle.events.proofs.StateLaws.{has-snoc}
 use Rattle.opacity.proofs.Snoc.{precedes-more}
 use Rattle.places.specs.Bits.{bitAt}

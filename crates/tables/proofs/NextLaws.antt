@@ -8,8 +8,8 @@ use lib.Dec.{eqb}
 use lib.Bits.{bitOr}
 use borrow.Author.Tests.{eqb-true}
 use mathlib.Core.List.{List}
-use Rattle.events.specs.Lists.{_or_}
-use Rattle.events.specs.Columns.{Columns, entry, history}
+use Rattle.lists.specs.Lists.{_or_}
+use Rattle.log.specs.Columns.{Columns, entry, history}
 use Rattle.events.specs.declared.event.Event.{Event}
 use Rattle.events.specs.Events.{isBegin, isRead, isWrite, asksCommit, isCommit, isAbort, isEnd}
 use Rattle.tables.specs.Tables.{Tables, slotOf, clashes, withRegister, begun, settled, writtenAt, readAt, next, tablesOf}

@@ -12,11 +12,11 @@ use lib.ListN.{length, take, getD, set}
 use lib.Seq.{getD-set-same, getD-set-other}
 use lib.Dec.{eqb}
 use borrow.Author.Tests.{eqb-true, eqb-false, eq-eqb, ne-eqb}
-use Rattle.events.specs.Lists.{_and_, _or_, _implies_}
+use Rattle.lists.specs.Lists.{_and_, _or_, _implies_}
 use Rattle.events.specs.declared.event.Event.{Event}
 use Rattle.events.specs.Events.{eventAt, isRead}
 use Rattle.opacity.specs.Transactions.{ownWrite, isOwnRead, isStoreRead, ownRight}
-use Rattle.events.proofs.ListLaws.{or-cases, nor-l, nor-r, clash, below-cases}
+use Rattle.lists.proofs.ListLaws.{or-cases, nor-l, nor-r, clash, below-cases}
 use Rattle.places.specs.Places.{plus}
 use Rattle.tables.specs.Tables.{Tables, slotOf, clashes, empty, goThrough, tablesOf}
 use Rattle.tables.proofs.NextLaws.{required-next, contradictory-next}

@@ -13,11 +13,11 @@ use lib.Seq.{getD-set-same, getD-set-other}
 use lib.Dec.{eqb}
 use lib.Bits.{bitOr}
 use borrow.Author.Tests.{eqb-true, eqb-false, eq-eqb, ne-eqb}
-use Rattle.events.specs.Lists.{_and_}
+use Rattle.lists.specs.Lists.{_and_}
 use Rattle.events.specs.declared.event.Event.{Event}
 use Rattle.events.specs.Events.{eventAt, isRead}
 use Rattle.opacity.specs.Transactions.{ownWrite, isStoreRead}
-use Rattle.events.proofs.ListLaws.{and-false-r, clash, below-cases}
+use Rattle.lists.proofs.ListLaws.{and-false-r, clash, below-cases}
 use Rattle.places.specs.Bits.{bitAt}
 use Rattle.places.specs.Places.{plus}
 use Rattle.tables.specs.Tables.{Tables, slotOf, withRegister, empty, goThrough, tablesOf}

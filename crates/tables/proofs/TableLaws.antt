@@ -9,7 +9,7 @@ use Rattle.events.specs.declared.event.Event.{Event}
 use Rattle.events.specs.Events.{isBegin, isRead, isWrite, asksCommit, isCommit, isAbort}
 use borrow.Author.Tests.{ne-eqb}
 use lib.Bits.{bitOr}
-use Rattle.events.specs.Columns.{Columns, entry, history}
+use Rattle.log.specs.Columns.{Columns, entry, history}
 use Rattle.tables.specs.Tables.{Tables, event, begun, settled, writtenAt, readAt, next, empty, goThrough, tablesOf}
 
 through-snoc : (s : Tables) (h : List Event) (e : Event) → goThrough s (h ++ (e ∷ [])) ≡ next (goThrough s h) e

@@ -12,10 +12,10 @@ use lib.ListN.{length, getD, length-append, List·getD-append}
 use lib.Seq.{getD-at}
 use lib.Dec.{eqb}
 use borrow.Author.Tests.{eqb-true, eqb-false, eq-eqb, ne-eqb}
-use Rattle.events.specs.Lists.{_and_, _or_, orElse, any, push, keep, lowestFrom}
+use Rattle.lists.specs.Lists.{_and_, _or_, orElse, any, push, keep, lowestFrom}
 use Rattle.opacity.specs.Justification.{Place, isOf, placed}
 use Rattle.opacity.specs.Lowest.{place, lowestPlace, goOn}
-use Rattle.events.proofs.ListLaws.{or-false, not-true, not-false, below-cases, any-append, lowest-upwards}
+use Rattle.lists.proofs.ListLaws.{or-false, not-true, not-false, below-cases, any-append, lowest-upwards}
 use Rattle.places.specs.Tree as tree
 use Rattle.places.specs.Tree.{Constraints, Completion, remove, upFrom, fitsAt, firstOf, tryOne, tryBoth, fromCandidates}
 use Rattle.places.specs.Places.{coded, decode}

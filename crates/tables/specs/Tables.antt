@@ -8,10 +8,10 @@ use mathlib.Core.List.{List, [], _∷_}
 use lib.ListN.{length, getD, set, replicate}
 use lib.Dec.{eqb}
 use lib.Bits.{bitOr}
-use Rattle.events.specs.Lists.{_and_, _or_}
+use Rattle.lists.specs.Lists.{_and_, _or_}
 use Rattle.events.specs.declared.event.Event.{Event}
 use Rattle.events.specs.Events.{isBegin, isRead, isWrite, asksCommit, isCommit, isAbort}
-use Rattle.events.specs.Columns.{Columns}
+use Rattle.log.specs.Columns.{Columns}
 use Rattle.tables.specs.declared.Standing.{Standing}
 
 -- at t: the transactions that ended before t began, its outcome, and the registers that it reads from the store; at 32 * t + r: what its

@@ -5,15 +5,15 @@ ghost use mathlib.Core.Option.{none};
 ghost use Prim.Native.Nat.{_+_, _*_, _^_, _≤_, _<_};
 ghost use lib.Bits.{bitOr};
 ghost use lib.ListN.{replicate, set};
-ghost use Rattle.events.specs.Lists.{_or_};
+ghost use Rattle.lists.specs.Lists.{_or_};
 ghost use Rattle.events.specs.Events.{isWrite};
-ghost use Rattle.events.specs.Columns.{columns, history};
-ghost use Rattle.events.specs.Starts.{startOf};
+ghost use Rattle.log.specs.Columns.{columns, history};
+ghost use Rattle.log.specs.Starts.{startOf};
 ghost use Rattle.opacity.specs.Lowest.{lowestOf};
 ghost use Rattle.places.specs.Tree.{firstCompletion, Answers};
 ghost use Rattle.tables.specs.Order.{constraintsOf, Judged, orderOf};
 ghost use Rattle.tables.specs.Tables.{tablesBy, Becomes, event, clashes, readAt, next, empty};
-use events::record::Record;
+use records::record::Record;
 
 const REGISTERS: usize = 32;
 

@@ -2,12 +2,13 @@
 -- Assumes nothing.
 use mathlib.Core.Path.{_≡_, refl}
 use mathlib.Core.Bool.{true}
-use Rattle.events.specs.Lists.{_and_, _or_, _implies_, any, all, keep, latest, every, lowest, first, last, range}
+use Rattle.lists.specs.Lists.{_and_, _or_, _implies_, any, all, keep, latest, every, lowest, first, last, range}
 use Rattle.events.specs.Events.{isKnown, isBegin, isRead, isWrite, isCall, namesRegister, asksCommit, isCommit, isAbort, isEnd, by, has, begins, ended, lastOf, pendingCall, pendingOf, latestOn}
-use Rattle.events.specs.Questions.{refusal, threadFree, due, fieldsDue, eventQuestions, columnQuestions, refusedAt, readable, eventsAnswer, historyAnswer}
-use Rattle.events.specs.Said.{said}
-use Rattle.events.specs.Starts.{startOf, allZero, admits}
-use Rattle.events.specs.Columns.{history, hold, filledWith}
+use Rattle.events.specs.Questions.{refusal, threadFree, due, fieldsDue, eventQuestions, columnQuestions, refusedAt, readable}
+use Rattle.log.specs.Answer.{eventsAnswer, historyAnswer}
+use Rattle.log.specs.Answer.{said}
+use Rattle.log.specs.Starts.{startOf, allZero, admits}
+use Rattle.log.specs.Columns.{history, hold, filledWith}
 use Rattle.opacity.specs.Transactions.{status, allows, precedes, lastWrite, ownWrite, isOwnRead, isStoreRead, storeReads, ownRight}
 use Rattle.opacity.specs.Justification.{placed, before, outcome, written, contents, distinct, isOrder, outcomeKept, preceded, legalOver, realTimeKept}
 use Rattle.opacity.specs.Lowest.{fits, lowestPlace, goOn, lowestOf}

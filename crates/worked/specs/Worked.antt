@@ -8,13 +8,15 @@ use mathlib.Core.List.{List, [], _∷_, _++_, map}
 use mathlib.Core.Option.{Option, none, some}
 use lib.Dec.{eqb, leb}
 use lib.ListN.{length, take, replicate}
-use Rattle.events.specs.Lists.{_and_, _or_, all}
+use Rattle.lists.specs.Lists.{_and_, _or_, all}
 use Rattle.events.specs.declared.event.Event.{Event}
 use Rattle.events.specs.Events.{begins}
-use Rattle.events.specs.Starts.{startOf, noStarts}
-use Rattle.events.specs.Columns.{Columns, columns, filledWith}
-use Rattle.events.specs.Said.{Said, done, nothing, faulted, broken, atEvent, atByte, said}
-use Rattle.events.specs.Questions.{readable, historyAnswer}
+use Rattle.log.specs.Starts.{startOf, noStarts}
+use Rattle.log.specs.Columns.{Columns, columns, filledWith}
+use Rattle.events.specs.Said.{Said, done, nothing, faulted, broken, atEvent, atByte}
+use Rattle.log.specs.Answer.{said}
+use Rattle.events.specs.Questions.{readable}
+use Rattle.log.specs.Answer.{historyAnswer}
 use Rattle.opacity.specs.declared.verdict.Rule.the-variants.{A, B, C, D, E}
 use Rattle.opacity.specs.declared.verdict.Verdict.{Verdict}
 use Rattle.opacity.specs.declared.verdict.Verdict.the-variants.{Accepted, Broken}

@@ -3,11 +3,11 @@
 ghost use mathlib.Core.Path.{_≡_};
 ghost use Prim.Native.Nat.{ℕ, _+_, _≤_};
 ghost use lib.ListN.{length};
-ghost use Rattle.events.specs.Bytes.{placed};
+ghost use Rattle.records.specs.Bytes.{placed};
 ghost use Rattle.writer.specs.Writing.{startRecord, startsTo};
-use events::fields::put_u16;
-use events::fields::put_u32;
-use events::record::Record;
+use records::fields::put_u16;
+use records::fields::put_u32;
+use records::record::Record;
 
 // How many bytes the start record of a value has.
 fn start_length(value: u32) -> usize

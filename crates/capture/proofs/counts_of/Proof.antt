@@ -2,9 +2,9 @@
 -- Assumes nothing.
 use mathlib.Core.Path.{sym}
 use denote.Ref.{now}
-use Rattle.events.specs.Columns.{columns}
-use Rattle.events.proofs.ColumnLaws.{history-length}
-use Rattle.events.proofs.ReadableLaws.{columns-readable}
+use Rattle.log.specs.Columns.{columns}
+use Rattle.log.proofs.ColumnLaws.{history-length}
+use Rattle.log.proofs.AnswerLaws.{columns-readable}
 use Rattle.opacity.specs.Counts.{counts}
 use Rattle.opacity.proofs.CountLaws.{checked-readable}
 use Rattle.capture.specs.Report.{countsOf}

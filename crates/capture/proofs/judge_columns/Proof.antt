@@ -3,10 +3,10 @@
 use denote.Ref.{now}
 use borrow.Author.Needs.{needs}
 use mathlib.Core.Path.{_≡_, _∙_}
-use Rattle.events.specs.declared.columns.Checked.the-variants.{Readable}
-use Rattle.events.specs.Columns.{Columns, columns}
-use Rattle.events.specs.Questions.{columnsAnswer}
-use Rattle.events.proofs.StartLaws.{fine}
+use Rattle.log.specs.declared.columns.Checked.the-variants.{Readable}
+use Rattle.log.specs.Columns.{Columns, columns}
+use Rattle.log.specs.Answer.{columnsAnswer}
+use Rattle.log.proofs.StartLaws.{fine}
 use Rattle.opacity.proofs.CountLaws.{checked-readable}
 use Rattle.capture.specs.declared.Report.{Report}
 use Rattle.capture.specs.Report.{judged}

@@ -3,7 +3,7 @@
 use mathlib.Core.Path.{sym, ap, _∙_}
 use denote.Ref.{now}
 use borrow.Author.Needs.{needs}
-use Rattle.events.specs.Columns.{columns}
+use Rattle.log.specs.Columns.{columns}
 use Rattle.capture.proofs.ReportLaws.{lineOf, marking-line}
 use Rattle.capture.proofs.marking_of.Statement.{statement}
 use Rattle.capture.proofs.marking_of.Tie as tie

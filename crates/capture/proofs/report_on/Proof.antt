@@ -2,8 +2,8 @@
 -- Assumes nothing.
 use mathlib.Core.Path.{refl}
 use borrow.Author.Needs.{needs}
-use Rattle.events.specs.Lists.{_and_}
-use Rattle.events.specs.Columns.{hold}
+use Rattle.lists.specs.Lists.{_and_}
+use Rattle.log.specs.Columns.{hold}
 use Rattle.capture.proofs.report_on.Statement.{statement}
 use Rattle.capture.proofs.report_on.Tie as tie
 

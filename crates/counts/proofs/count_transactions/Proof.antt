@@ -3,8 +3,8 @@
 use mathlib.Core.Path.{sym, ap, _∙_}
 use denote.Ref.{now}
 use borrow.Author.Needs.{needs}
-use Rattle.events.specs.Columns.{columns}
-use Rattle.events.proofs.ReadableLaws.{columns-readable}
+use Rattle.log.specs.Columns.{columns}
+use Rattle.log.proofs.AnswerLaws.{columns-readable}
 use Rattle.opacity.specs.Counts.{counts}
 use Rattle.counts.specs.declared.Counting.{Counting}
 use Rattle.counts.specs.Answer.{transactionsAnswer}

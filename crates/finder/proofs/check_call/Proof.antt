@@ -6,8 +6,8 @@ use native.Mathlib.Omega.{arith}
 use denote.Ref.{now}
 use borrow.Author.Needs.{needs}
 use borrow.Author.Tests.{not-true, not-false}
-use Rattle.events.specs.Columns.{columns, hold}
-use Rattle.events.specs.Starts.{admits}
+use Rattle.log.specs.Columns.{columns, hold}
+use Rattle.log.specs.Starts.{admits}
 use Rattle.finder.proofs.AnswerLaws.{not-held, not-admitted, too-long, events-asked}
 use Rattle.finder.proofs.check_call.Statement.{statement}
 use Rattle.finder.proofs.check_call.Tie as tie

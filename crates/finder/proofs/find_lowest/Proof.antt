@@ -3,8 +3,8 @@
 use mathlib.Core.Path.{refl}
 use native.Mathlib.Omega.{arith}
 use denote.Ref.{now}
-use Rattle.events.specs.Columns.{columns}
-use Rattle.events.specs.Starts.{startOf}
+use Rattle.log.specs.Columns.{columns}
+use Rattle.log.specs.Starts.{startOf}
 use Rattle.finder.proofs.OrderLaws.{places-found, marking-none, marking-found, marking-fits, answer-none}
 use Rattle.finder.proofs.AnswerLaws.{decided-none, decided-marking}
 use borrow.Author.Needs.{needs}

@@ -3,7 +3,7 @@
 use mathlib.Core.Path.{sym, _∙_}
 use denote.Ref.{now}
 use borrow.Author.Needs.{needs}
-use Rattle.events.specs.Columns.{columns}
+use Rattle.log.specs.Columns.{columns}
 use Rattle.finder.proofs.AnswerLaws.{call-refused, called-readable, prefix-decides}
 use Rattle.finder.proofs.find_marking.Statement.{statement}
 use Rattle.finder.proofs.find_marking.Tie as tie

@@ -5,10 +5,10 @@ use Prim.Native.Nat.{_≤_}
 use native.Mathlib.Omega.{arith}
 use denote.Ref.{now}
 use lib.ListN.{length}
-use Rattle.events.specs.declared.columns.Checked.{Checked}
-use Rattle.events.specs.Columns.{columns, history}
+use Rattle.log.specs.declared.columns.Checked.{Checked}
+use Rattle.log.specs.Columns.{columns, history}
 use Rattle.events.specs.Events.{begins}
-use Rattle.events.specs.Starts.{startOf}
+use Rattle.log.specs.Starts.{startOf}
 use Rattle.finder.specs.Answer.{lowestMarking, decided}
 use Rattle.tables.proofs.JudgedLaws.{few-judged, readable-prefix}
 use Rattle.opacity.proofs.Bounds.{reads-low}

@@ -3,8 +3,8 @@
 use mathlib.Core.Path.{sym, _∙_}
 use denote.Ref.{now}
 use borrow.Author.Needs.{needs}
-use Rattle.events.specs.Columns.{columns}
-use Rattle.events.proofs.StartLaws.{fine}
+use Rattle.log.specs.Columns.{columns}
+use Rattle.log.proofs.StartLaws.{fine}
 use Rattle.opacity.proofs.CountLaws.{checked-readable}
 use Rattle.scan.proofs.AnswerLaws.{history-refused, events-decide}
 use Rattle.scan.proofs.scan_history.Statement.{statement}

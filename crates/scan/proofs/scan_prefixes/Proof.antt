@@ -5,10 +5,10 @@ use mathlib.Core.Path.{_∙_}
 use Prim.Native.Nat.{_-_}
 use native.Mathlib.Omega.{arith}
 use denote.Ref.{now}
-use Rattle.events.specs.Columns.{columns, history}
+use Rattle.log.specs.Columns.{columns, history}
 use Rattle.tables.specs.Tables.{tablesBy}
 use Rattle.tables.proofs.GoodHistory.{in-tables}
-use Rattle.events.proofs.ColumnLaws.{history-length}
+use Rattle.log.proofs.ColumnLaws.{history-length}
 use Rattle.events.proofs.ReadableLaws.{readable-most}
 use Rattle.scan.proofs.ScanLaws.{Scanning, scanning-none, few-before, may-carry, few-begun, scanning-more, scanning-fault, scanning-end}
 use Rattle.scan.proofs.scan_prefixes.Statement.{statement}

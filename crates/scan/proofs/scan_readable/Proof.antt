@@ -4,7 +4,7 @@ use mathlib.Core.Path.{ap, _∙_}
 use native.Mathlib.Omega.{arith}
 use denote.Ref.{now}
 use borrow.Author.Needs.{needs}
-use Rattle.events.specs.Columns.{columns, history}
+use Rattle.log.specs.Columns.{columns, history}
 use Rattle.scan.specs.declared.Scanning.{Scanning}
 use Rattle.scan.proofs.AnswerLaws.{decided-refused, decided-scanned, refused-31, passes-31}
 use Rattle.scan.proofs.scan_readable.Statement.{statement}

@@ -1,7 +1,7 @@
 -- `sendoshi::sendoshi_read` meets its contract.
 -- Assumes nothing.
 use mathlib.Core.Path.{_≡_, sym, ap, subst, _∙_}
-use Rattle.events.specs.Columns.{Columns, columns}
+use Rattle.log.specs.Columns.{Columns, columns}
 use Rattle.reader.specs.Reading.{ReadAnswer, said}
 use Rattle.codes.specs.Codes.{coded, Known}
 use Rattle.codes.specs.Decoded.{decoded, twoValues, always}

@@ -2,7 +2,7 @@
 -- Assumes nothing.
 use native.Mathlib.Omega.{arith}
 use borrow.Author.Tests.{le-leb, lt-leb}
-use Rattle.events.specs.Lists.{_and_}
+use Rattle.lists.specs.Lists.{_and_}
 use Rattle.straighten.proofs.has_room.Statement.{statement}
 use Rattle.straighten.proofs.has_room.Tie as tie
 

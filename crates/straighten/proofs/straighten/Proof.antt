@@ -1,8 +1,8 @@
 -- `straighten::straighten` meets its contract.
 -- Assumes nothing.
 use mathlib.Core.Path.{sym, _∙_}
-use Rattle.events.specs.Columns.{columns}
-use Rattle.events.proofs.StartLaws.{fine}
+use Rattle.log.specs.Columns.{columns}
+use Rattle.log.proofs.StartLaws.{fine}
 use Rattle.opacity.proofs.CountLaws.{checked-readable}
 use Rattle.straighten.specs.Answer.{straightenedAnswer}
 use borrow.Author.Needs.{needs}

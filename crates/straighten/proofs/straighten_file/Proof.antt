@@ -6,10 +6,10 @@ use native.Mathlib.Omega.{arith}
 use lib.Dec.{leb}
 use lib.ListN.{length}
 use denote.Ref.{now}
-use Rattle.events.specs.Lists.{_and_}
-use Rattle.events.specs.Columns.{columns, history}
-use Rattle.events.proofs.ListLaws.{not-true, not-false}
-use Rattle.events.specs.Starts.{startOf}
+use Rattle.lists.specs.Lists.{_and_}
+use Rattle.log.specs.Columns.{columns, history}
+use Rattle.lists.proofs.ListLaws.{not-true, not-false}
+use Rattle.log.specs.Starts.{startOf}
 use Rattle.links.proofs.WriteLaws.{links-back}
 use Rattle.rules.specs.Judge.{content as inArrays}
 use Rattle.rules.proofs.JudgeLaws.{ground-tabled}

@@ -4,8 +4,8 @@ use mathlib.Core.Path.{ap, _∙_}
 use native.Mathlib.Omega.{arith}
 use lib.ListN.{length}
 use denote.Ref.{now}
-use Rattle.events.specs.Columns.{columns, history}
-use Rattle.events.specs.Starts.{startOf}
+use Rattle.log.specs.Columns.{columns, history}
+use Rattle.log.specs.Starts.{startOf}
 use Rattle.rules.specs.Judge.{content as inArrays}
 use Rattle.straighten.proofs.MoveLaws.{arrays-readable}
 use Rattle.straighten.proofs.StraightLaws.{moved-few}

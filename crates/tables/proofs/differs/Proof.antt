@@ -1,7 +1,7 @@
 -- `tables::differs` meets its contract.
 -- Assumes nothing.
 use borrow.Author.Tests.{eq-eqb, ne-eqb}
-use Rattle.events.specs.Lists.{_and_}
+use Rattle.lists.specs.Lists.{_and_}
 use Rattle.tables.specs.Tables.{clashes}
 use Rattle.tables.proofs.differs.Statement.{statement}
 use Rattle.tables.proofs.differs.Tie as tie

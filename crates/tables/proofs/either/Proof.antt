@@ -1,6 +1,6 @@
 -- `tables::either` meets its contract.
 -- Assumes nothing.
-use Rattle.events.specs.Lists.{_or_}
+use Rattle.lists.specs.Lists.{_or_}
 use Rattle.tables.proofs.either.Statement.{statement}
 use Rattle.tables.proofs.either.Tie as tie
 

@@ -4,7 +4,7 @@ use mathlib.Core.Path.{_≡_, sym, ap, _∙_}
 use Prim.Native.Nat.{ℕ, _≤_, _-_}
 use native.Mathlib.Omega.{arith}
 use denote.Ref.{now}
-use Rattle.events.specs.Columns.{columns, history}
+use Rattle.log.specs.Columns.{columns, history}
 use Rattle.places.specs.Tree.{readAnswer}
 use Rattle.tables.specs.Order.{decoded}
 use Rattle.tables.specs.Tables.{tablesBy, tablesOf, goThrough}

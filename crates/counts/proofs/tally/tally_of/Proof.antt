@@ -5,7 +5,7 @@ use mathlib.Core.Path.{_≡_, refl}
 use native.Mathlib.Omega.{arith}
 use lib.ListN.{getD}
 use borrow.Author.Needs.{needs}
-use Rattle.events.specs.Columns.{columns}
+use Rattle.log.specs.Columns.{columns}
 use Rattle.counts.proofs.TallyLaws.{Counted, tabled, counted-start, room, counted-more, counted-end}
 use Rattle.counts.proofs.tally.tally_of.Statement.{statement}
 use Rattle.counts.proofs.tally.tally_of.Tie as tie

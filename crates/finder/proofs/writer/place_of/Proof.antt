@@ -7,7 +7,7 @@ use native.Mathlib.Omega.{arith}
 use lib.ListN.{length, take}
 use Rattle.places.specs.Places.{decode}
 use mathlib.Core.Bool.{false}
-use Rattle.events.specs.Lists.{any}
+use Rattle.lists.specs.Lists.{any}
 use Rattle.opacity.specs.Justification.{placed}
 use Rattle.finder.proofs.MarkLaws.{place-none, place-here, not-yet}
 use Rattle.finder.proofs.writer.place_of.Statement.{statement}

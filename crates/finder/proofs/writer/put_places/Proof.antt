@@ -7,7 +7,7 @@ use native.Mathlib.Omega.{arith}
 use lib.ListN.{length, take}
 use denote.Ref.{now}
 use Rattle.places.specs.Places.{decode}
-use Rattle.events.specs.Bytes as bytes
+use Rattle.records.specs.Bytes as bytes
 use Rattle.opacity.specs.Marking.{flat, placeBytes}
 use Rattle.marking_writer.proofs.RunLaws.{placed-nothing}
 use Rattle.finder.proofs.MarkLaws.{places-more}

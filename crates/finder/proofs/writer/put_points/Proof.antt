@@ -7,10 +7,10 @@ use native.Mathlib.Omega.{arith}
 use lib.ListN.{take}
 use denote.Ref.{now}
 use Rattle.places.specs.Places.{decode}
-use Rattle.events.specs.Columns.{columns, history}
+use Rattle.log.specs.Columns.{columns, history}
 use Rattle.tables.proofs.GoodHistory.{in-tables}
 use Rattle.finder.proofs.PointLaws.{Pointing, pointing-none, pointing-room, pointing-more}
-use Rattle.events.proofs.ColumnLaws.{history-length}
+use Rattle.log.proofs.ColumnLaws.{history-length}
 use Rattle.events.proofs.ReadableLaws.{readable-most}
 use Rattle.finder.proofs.writer.put_points.Statement.{statement}
 use Rattle.finder.proofs.writer.put_points.Tie as tie

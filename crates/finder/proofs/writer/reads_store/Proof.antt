@@ -1,7 +1,7 @@
 -- `finder::writer::reads_store` meets its contract.
 -- Assumes nothing.
 use borrow.Author.Tests.{eq-eqb, ne-eqb}
-use Rattle.events.specs.Lists.{_and_}
+use Rattle.lists.specs.Lists.{_and_}
 use Rattle.events.specs.Events.{isRead}
 use borrow.Author.Needs.{needs}
 use Rattle.finder.proofs.writer.reads_store.Statement.{statement}

@@ -5,7 +5,7 @@ use Prim.Native.Nat.{_-_}
 use native.Mathlib.Omega.{arith}
 use lib.ListN.{length}
 use denote.Ref.{now}
-use Rattle.events.specs.Columns.{columns}
+use Rattle.log.specs.Columns.{columns}
 use Rattle.finder.proofs.PointLaws.{marking-length, marking-written}
 use borrow.Author.Needs.{needs}
 use Rattle.finder.proofs.writer.write_marking.Statement.{statement}

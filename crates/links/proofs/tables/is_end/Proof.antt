@@ -1,7 +1,7 @@
 -- `links::tables::is_end` meets its contract.
 -- Assumes nothing.
 use borrow.Author.Tests.{eq-eqb, ne-eqb}
-use Rattle.events.specs.Lists.{_or_}
+use Rattle.lists.specs.Lists.{_or_}
 use Rattle.events.specs.Events.{isEnd, isCommit, isAbort}
 use Rattle.links.proofs.tables.is_end.Statement.{statement}
 use Rattle.links.proofs.tables.is_end.Tie as tie

@@ -5,7 +5,7 @@ use Prim.Native.Nat.{_<_}
 use mathlib.Core.Path.{sym}
 use native.Mathlib.Omega.{arith}
 use borrow.Author.Tests.{eq-eqb, ne-eqb}
-use Rattle.events.specs.Lists.{_and_}
+use Rattle.lists.specs.Lists.{_and_}
 use Rattle.events.specs.Events.{isRead}
 use Rattle.links.proofs.WriteLaws.{none-zero}
 use borrow.Author.Needs.{needs}

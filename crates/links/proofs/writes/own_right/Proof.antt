@@ -6,7 +6,7 @@ use Prim.Native.Nat.{_<_}
 use mathlib.Core.Path.{sym, _∙_}
 use native.Mathlib.Omega.{arith}
 use borrow.Author.Tests.{eq-eqb, ne-eqb}
-use Rattle.events.specs.Lists.{_implies_}
+use Rattle.lists.specs.Lists.{_implies_}
 use Rattle.events.specs.Events.{isRead}
 use Rattle.links.proofs.WriteLaws.{agrees-none, agrees-some}
 use borrow.Author.Needs.{needs}

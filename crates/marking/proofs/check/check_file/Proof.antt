@@ -2,9 +2,9 @@
 -- Assumes nothing.
 use mathlib.Core.Path.{sym, ap, _∙_}
 use native.Mathlib.Omega.{arith}
-use Rattle.events.specs.Columns.{columns, history}
+use Rattle.log.specs.Columns.{columns, history}
 use Rattle.links.proofs.WriteLaws.{links-back}
-use Rattle.events.specs.Starts.{startOf}
+use Rattle.log.specs.Starts.{startOf}
 use Rattle.rules.proofs.JudgeLaws.{ground-tabled}
 use Rattle.marking.specs.declared.check.Checking.the-variants.{Ruled}
 use Rattle.marking.specs.Answer.{ruled}

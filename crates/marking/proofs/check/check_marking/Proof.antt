@@ -1,9 +1,9 @@
 -- `marking::check::check_marking` meets its contract.
 -- Assumes nothing.
 use mathlib.Core.Path.{sym, _∙_}
-use Rattle.events.specs.Columns.{columns}
+use Rattle.log.specs.Columns.{columns}
 use Rattle.marking.specs.Answer.{verdictAnswer}
-use Rattle.events.proofs.StartLaws.{history-readable}
+use Rattle.log.proofs.StartLaws.{history-readable}
 use Rattle.marking.proofs.CheckLaws.{ground}
 use borrow.Author.Needs.{needs}
 use Rattle.marking.proofs.check.check_marking.Statement.{statement}

@@ -3,7 +3,7 @@
 use Prim.Native.Nat.{_-_}
 use mathlib.Core.Path.{sym, _∙_}
 use borrow.Author.Tests.{le-leb, lt-leb}
-use Rattle.events.proofs.RecordLaws.{whole-in}
+use Rattle.records.proofs.RecordLaws.{whole-in}
 use Rattle.marking.specs.File.{opening}
 use borrow.Author.Needs.{needs}
 use Rattle.marking.proofs.read.opening_asked.Statement.{statement}

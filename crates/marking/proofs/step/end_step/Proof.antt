@@ -4,7 +4,7 @@ use Prim.Native.Nat.{_-_}
 use mathlib.Core.Path.{_≡_, sym, _∙_}
 use mathlib.Core.Bool.{true, false}
 use borrow.Author.Tests.{eq-eqb, ne-eqb, not-true, not-false}
-use Rattle.events.specs.Lists.{every}
+use Rattle.lists.specs.Lists.{every}
 use Rattle.events.specs.Questions.{refusal}
 use Rattle.marking.specs.File.{endQuestions, endStep}
 use Rattle.marking.specs.State.{pointBy}

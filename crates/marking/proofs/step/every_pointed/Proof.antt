@@ -6,7 +6,7 @@ use mathlib.Core.Bool.{true}
 use native.Mathlib.Omega.{arith}
 use borrow.Author.Tests.{not-true, not-false}
 use native.Mathlib.Nat.{not-suc-le-zero}
-use Rattle.events.proofs.ListLaws.{every-i}
+use Rattle.lists.proofs.ListLaws.{every-i}
 use Rattle.rules.proofs.Numbers.{every-fails, so-far}
 use Rattle.marking.specs.State.{pointBy}
 use borrow.Author.Needs.{needs}

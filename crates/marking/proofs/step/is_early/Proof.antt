@@ -2,7 +2,7 @@
 -- Assumes nothing.
 use Prim.Native.Nat.{_-_}
 use borrow.Author.Tests.{eq-eqb, ne-eqb}
-use Rattle.events.specs.Lists.{_implies_}
+use Rattle.lists.specs.Lists.{_implies_}
 use Rattle.marking.proofs.step.is_early.Statement.{statement}
 use Rattle.marking.proofs.step.is_early.Tie as tie
 

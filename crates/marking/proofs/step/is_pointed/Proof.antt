@@ -5,7 +5,7 @@ use mathlib.Core.Path.{_≡_}
 use mathlib.Core.Bool.{true, false}
 use borrow.Author.Tests.{not-true, not-false}
 use lib.ListN.{getD}
-use Rattle.events.specs.Lists.{_implies_}
+use Rattle.lists.specs.Lists.{_implies_}
 use borrow.Author.Needs.{needs}
 use Rattle.marking.proofs.step.is_pointed.Statement.{statement}
 use Rattle.marking.proofs.step.is_pointed.Tie as tie

@@ -5,7 +5,7 @@ use mathlib.Core.Bool.{true, false}
 use borrow.Author.Tests.{not-true, not-false, le-leb, lt-leb}
 use lib.Dec.{eqb}
 use lib.ListN.{getD}
-use Rattle.events.specs.Lists.{_and_, _implies_}
+use Rattle.lists.specs.Lists.{_and_, _implies_}
 use Rattle.events.specs.Questions.{refusal}
 use Rattle.marking.specs.State.{pointQuestions}
 use borrow.Author.Needs.{needs}

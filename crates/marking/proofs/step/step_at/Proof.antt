@@ -2,7 +2,7 @@
 -- Assumes nothing.
 use Prim.Native.Nat.{_-_}
 use mathlib.Core.Path.{sym, _∙_}
-use Rattle.events.proofs.RecordLaws.{whole-in}
+use Rattle.records.proofs.RecordLaws.{whole-in}
 use Rattle.marking.specs.File.{stepAt}
 use borrow.Author.Needs.{needs}
 use Rattle.marking.proofs.step.step_at.Statement.{statement}

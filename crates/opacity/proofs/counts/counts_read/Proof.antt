@@ -2,7 +2,7 @@
 -- Assumes nothing.
 use mathlib.Core.Path.{refl}
 use borrow.Author.Tests.{eq-eqb, ne-eqb}
-use Rattle.events.specs.Lists.{_and_}
+use Rattle.lists.specs.Lists.{_and_}
 use Rattle.events.specs.Events.{isRead}
 use Rattle.opacity.proofs.counts.counts_read.Statement.{statement}
 use Rattle.opacity.proofs.counts.counts_read.Tie as tie

@@ -7,9 +7,9 @@ use native.Mathlib.Omega.{arith}
 use borrow.Author.Needs.{needs}
 use lib.ListN.{getD}
 use denote.Ref.{now}
-use Rattle.events.specs.Lists.{_and_}
+use Rattle.lists.specs.Lists.{_and_}
 use Rattle.events.specs.Events.{isRead}
-use Rattle.events.specs.Columns.{columns}
+use Rattle.log.specs.Columns.{columns}
 use Rattle.opacity.specs.Counts.{ofKind}
 use Rattle.opacity.proofs.CountLaws.{Counting, one-at-most, slot-inside, counting-start, counting-more, counting-end}
 use Rattle.opacity.proofs.counts.store_reads.Statement.{statement}

@@ -5,8 +5,8 @@ use mathlib.Core.Path.{_≡_, refl}
 use native.Mathlib.Omega.{arith}
 use borrow.Author.Needs.{needs}
 use lib.ListN.{getD}
-use Rattle.events.specs.Lists.{keep}
-use Rattle.events.specs.Columns.{columns, history}
+use Rattle.lists.specs.Lists.{keep}
+use Rattle.log.specs.Columns.{columns, history}
 use Rattle.events.specs.Events.{isBegin, begins}
 use Rattle.opacity.specs.Counts.{ofKind}
 use Rattle.opacity.proofs.CountLaws.{begins-counted, one-at-most}

@@ -2,7 +2,7 @@
 -- Assumes nothing.
 use mathlib.Core.Path.{refl}
 use borrow.Author.Tests.{eq-eqb, ne-eqb}
-use Rattle.events.specs.Lists.{_or_}
+use Rattle.lists.specs.Lists.{_or_}
 use Rattle.events.specs.Events.{isWrite}
 use Rattle.opacity.proofs.counts.written_after.Statement.{statement}
 use Rattle.opacity.proofs.counts.written_after.Tie as tie

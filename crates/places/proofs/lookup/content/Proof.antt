@@ -4,7 +4,7 @@ use borrow.Author.Needs.{needs}
 use mathlib.Core.Path.{_≡_, sym, ap, _∙_}
 use native.Mathlib.Omega.{arith}
 use Prim.Native.Nat.{_≤_, _-_}
-use Rattle.events.specs.Starts.{startOf}
+use Rattle.log.specs.Starts.{startOf}
 use Rattle.places.specs.Places.{codesOf, decode, writesIn, writeOf}
 use Rattle.opacity.specs.Justification.{contents}
 use Rattle.places.proofs.StateLaws.{length-codes, code-at-place}

@@ -7,7 +7,7 @@ use mathlib.Core.Bool.{Bool}
 use native.Mathlib.Omega.{arith}
 use Prim.Native.Nat.{ℕ, _^_, _<_}
 use lib.Pow.{pow-pos}
-use Rattle.events.specs.Lists.{all}
+use Rattle.lists.specs.Lists.{all}
 use Rattle.places.specs.Bits.{bitAt, members}
 use Rattle.places.specs.Places.{codesOf, writesIn}
 use Rattle.places.specs.Tree.{legalAt}

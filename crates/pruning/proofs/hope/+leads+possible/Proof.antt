@@ -7,7 +7,7 @@ use native.Mathlib.Omega.{arith}
 use lib.Bits.{and-le-r}
 use lib.Count.{ones}
 use lib.Pow.{pow-pos}
-use Rattle.events.proofs.ListLaws.{clash}
+use Rattle.lists.proofs.ListLaws.{clash}
 use Rattle.places.specs.Bits.{bitAt}
 use Rattle.places.specs.State.{Within}
 use Rattle.places.specs.Tree.{constraints}

@@ -3,7 +3,7 @@
 use Prim.Native.Nat.{_<_}
 use mathlib.Core.Path.{_∙_}
 use native.Mathlib.Omega.{arith}
-use Rattle.events.specs.Starts.{startOf}
+use Rattle.log.specs.Starts.{startOf}
 use Rattle.rules.proofs.JudgeLaws.{ground-tabled, all-apart, all-walkable, verdict-a, verdict-b, verdict-reads}
 use borrow.Author.Needs.{needs}
 use Rattle.rules.proofs.judge.judge.Statement.{statement}

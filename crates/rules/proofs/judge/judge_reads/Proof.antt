@@ -6,8 +6,8 @@ use native.Mathlib.Omega.{arith}
 use native.Mathlib.Numerals.{add-one}
 use lib.ListN.{drop}
 use borrow.Author.Needs.{needs}
-use Rattle.events.specs.Columns.{columns}
-use Rattle.events.specs.Starts.{startOf}
+use Rattle.log.specs.Columns.{columns}
+use Rattle.log.specs.Starts.{startOf}
 use Rattle.rules.specs.Judge.{readRuleBy, readRules, firstOf, readsVerdict}
 use Rattle.rules.proofs.JudgeLaws.{broken-here, broken-later, rules-done}
 use Rattle.rules.proofs.judge.judge_reads.Statement.{statement}

@@ -2,7 +2,7 @@
 -- Assumes nothing.
 use Prim.Native.Nat.{_-_}
 use borrow.Author.Tests.{eq-eqb, ne-eqb, lt-ltb, le-ltb}
-use Rattle.events.specs.Lists.{_implies_}
+use Rattle.lists.specs.Lists.{_implies_}
 use Rattle.links.specs.Tables.{earlier}
 use Rattle.rules.specs.Orders.{pairBy}
 use borrow.Author.Needs.{needs}

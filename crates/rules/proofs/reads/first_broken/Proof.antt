@@ -7,8 +7,8 @@ use native.Mathlib.Omega.{arith}
 use native.Mathlib.Nat.{not-suc-le-zero}
 use borrow.Author.Tests.{not-true, not-false}
 use borrow.Author.Needs.{needs}
-use Rattle.events.specs.Columns.{columns}
-use Rattle.events.specs.Starts.{startOf}
+use Rattle.log.specs.Columns.{columns}
+use Rattle.log.specs.Starts.{startOf}
 use Rattle.rules.specs.Judge.{readRuleBy}
 use Rattle.rules.proofs.Numbers.{broken-at, broken-none, so-far}
 use Rattle.rules.proofs.reads.first_broken.Statement.{statement}

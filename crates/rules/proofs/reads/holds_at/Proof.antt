@@ -2,9 +2,9 @@
 -- Assumes nothing.
 use mathlib.Core.Path.{sym, ap, _∙_}
 use borrow.Author.Needs.{needs}
-use Rattle.events.specs.Columns.{columns}
+use Rattle.log.specs.Columns.{columns}
 use Rattle.opacity.specs.declared.verdict.Rule.{Rule}
-use Rattle.events.specs.Starts.{startOf}
+use Rattle.log.specs.Starts.{startOf}
 use Rattle.rules.specs.Judge.{readRuleBy}
 use Rattle.rules.proofs.reads.holds_at.Statement.{statement}
 use Rattle.rules.proofs.reads.holds_at.Tie as tie

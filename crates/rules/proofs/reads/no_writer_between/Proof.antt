@@ -6,7 +6,7 @@ use mathlib.Core.Bool.{true, false}
 use native.Mathlib.Omega.{arith}
 use borrow.Author.Tests.{not-true, not-false}
 use lib.ListN.{getD}
-use Rattle.events.specs.Lists.{_implies_}
+use Rattle.lists.specs.Lists.{_implies_}
 use Rattle.links.specs.Writes.{plusOne}
 use Rattle.rules.specs.Walks.{lastIn, noWriterBy}
 use Rattle.links.proofs.WriteLaws.{none-zero}

@@ -8,8 +8,8 @@ use native.Mathlib.Omega.{arith}
 use borrow.Author.Tests.{not-true, not-false}
 use lib.Dec.{eqb}
 use lib.ListN.{getD}
-use Rattle.events.specs.Lists.{_implies_}
-use Rattle.events.specs.Starts.{startOf}
+use Rattle.lists.specs.Lists.{_implies_}
+use Rattle.log.specs.Starts.{startOf}
 use Rattle.links.specs.Writes.{plusOne}
 use Rattle.rules.specs.Walks.{lastIn, valueBy}
 use Rattle.links.proofs.WriteLaws.{value-none, value-some}

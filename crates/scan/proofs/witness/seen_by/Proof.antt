@@ -5,7 +5,7 @@ use mathlib.Core.Path.{sym, ap, _∙_}
 use mathlib.Core.List.{List}
 use Prim.Native.Nat.{ℕ}
 use lib.ListN.{getD}
-use Rattle.events.specs.Starts.{startOf}
+use Rattle.log.specs.Starts.{startOf}
 use Rattle.opacity.specs.Justification.{Place, contents}
 use Rattle.places.specs.Places.{codesOf, decode, writesIn}
 use Rattle.scan.proofs.WitnessLaws.{seen-own, seen-store}

@@ -1,7 +1,7 @@
 -- `straighten::moves::breaks` meets its contract.
 -- Assumes nothing.
 use Rattle.straighten.proofs.TableLaws.{first-fails, second-tells}
-use Rattle.events.proofs.ListLaws.{not-true, not-false}
+use Rattle.lists.proofs.ListLaws.{not-true, not-false}
 use borrow.Author.Needs.{needs}
 use Rattle.straighten.proofs.moves.breaks.Statement.{statement}
 use Rattle.straighten.proofs.moves.breaks.Tie as tie

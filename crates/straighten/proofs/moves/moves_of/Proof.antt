@@ -5,8 +5,8 @@ use mathlib.Core.Path.{_≡_, subst}
 use mathlib.Core.Bool.{false}
 use native.Mathlib.Omega.{arith}
 use denote.Ref.{now}
-use Rattle.events.specs.Columns.{columns}
-use Rattle.events.specs.Starts.{startOf}
+use Rattle.log.specs.Columns.{columns}
+use Rattle.log.specs.Starts.{startOf}
 use Rattle.rules.specs.Judge.{readRuleBy}
 use Rattle.straighten.specs.Tables.{breaksBy}
 use Rattle.links.specs.Tables.{Filled}

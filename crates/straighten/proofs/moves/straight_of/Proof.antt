@@ -1,7 +1,7 @@
 -- `straighten::moves::straight_of` meets its contract.
 -- Assumes nothing.
 use native.Mathlib.Omega.{arith}
-use Rattle.events.specs.Starts.{startOf}
+use Rattle.log.specs.Starts.{startOf}
 use Rattle.rules.proofs.JudgeLaws.{ground-tabled, all-apart, all-walkable}
 use Rattle.straighten.proofs.MoveLaws.{content-same, listed-same, given-straight}
 use Rattle.straighten.proofs.moves.straight_of.Statement.{statement}

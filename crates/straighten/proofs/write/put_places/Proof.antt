@@ -6,7 +6,7 @@ use mathlib.Core.List.{_++_}
 use native.Mathlib.Omega.{arith}
 use lib.ListN.{getD}
 use denote.Ref.{now}
-use Rattle.events.specs.Bytes.{u16Bytes, placed}
+use Rattle.records.specs.Bytes.{u16Bytes, placed}
 use Rattle.marking_writer.proofs.RunLaws.{Put, put-none, put-more}
 use Rattle.straighten.proofs.TableLaws.{placesTo, placeHere, places-none, places-more, places-bytes}
 use borrow.Author.Needs.{needs}

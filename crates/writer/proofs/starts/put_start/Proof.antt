@@ -1,6 +1,6 @@
 -- `put_start` meets its contract. Assumes nothing.
-use Rattle.events.specs.Bytes.{u16Bytes, u32Bytes, placed}
-use Rattle.events.proofs.BufferLaws.{placed-more}
+use Rattle.records.specs.Bytes.{u16Bytes, u32Bytes, placed}
+use Rattle.records.proofs.BufferLaws.{placed-more}
 use Rattle.writer.specs.Writing.{startRecord}
 use Rattle.writer.proofs.FileLaws.{placed-none}
 use Rattle.writer.proofs.StartLaws.{no-record, whole-record}

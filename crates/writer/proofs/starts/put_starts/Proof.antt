@@ -5,9 +5,9 @@ use mathlib.Core.List.{List}
 use native.Mathlib.Omega.{arith}
 use lib.ListN.{length, length-append}
 use denote.Ref.{now}
-use Rattle.events.specs.Bytes.{placed}
-use Rattle.events.specs.Starts.{startOf}
-use Rattle.events.proofs.BufferLaws.{placed-more, length-placed}
+use Rattle.records.specs.Bytes.{placed}
+use Rattle.log.specs.Starts.{startOf}
+use Rattle.records.proofs.BufferLaws.{placed-more, length-placed}
 use Rattle.writer.specs.Writing.{startRecord, startsTo}
 use Rattle.writer.proofs.FileLaws.{placed-none}
 use Rattle.writer.proofs.StartLaws.{starts-more, starts-longer, starts-grow}

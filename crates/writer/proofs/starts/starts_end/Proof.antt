@@ -5,7 +5,7 @@ use native.Mathlib.Omega.{arith}
 use native.Mathlib.Numerals.{add-one}
 use lib.ListN.{length}
 use denote.Ref.{now}
-use Rattle.events.specs.Starts.{startOf}
+use Rattle.log.specs.Starts.{startOf}
 use Rattle.writer.specs.Writing.{startsTo}
 use Rattle.writer.proofs.StartLaws.{starts-most, starts-longer}
 use borrow.Author.Needs.{needs}

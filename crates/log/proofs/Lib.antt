@@ -1,0 +1,7 @@
+pub mod ColumnLaws
+pub mod AnswerLaws
+pub mod CheckLaws
+pub mod StartLaws
+pub mod SaidLaws
+pub mod RowLaws
+pub mod AdmitLaws

@@ -1,0 +1,4 @@
+pub mod Columns
+pub mod Starts
+pub mod Answer
+pub mod Rows

@@ -1,0 +1,2 @@
+// What a record past the head of a history answers.
+pub mod step;
