@@ -8,9 +8,9 @@ pub mod tally;
 
 use crate::tally::Tally;
 use crate::tally::tally_of;
+use events::refusal::Refusal;
 use log::columns::Checked;
 use log::columns::check_columns;
-use events::refusal::Refusal;
 
 // A count's answer: the number, or the question that says no with its event.
 pub enum Counting {

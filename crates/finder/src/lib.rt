@@ -11,9 +11,9 @@ ghost use Rattle.finder.specs.Answer.{markingSize, lowestMarking, gives,
 
 pub mod writer;
 
+use events::refusal::Refusal;
 use log::columns::Checked;
 use records::record::Record;
-use events::refusal::Refusal;
 
 // Question 31: at most this many transactions are searched.
 const SEARCHED: usize = 10;

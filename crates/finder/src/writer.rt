@@ -12,10 +12,10 @@ ghost use Rattle.opacity.specs.Marking.{flat, placeBytes, placeOf, marked, mark
 ghost use Rattle.places.specs.Places.{decode};
 ghost use Rattle.tables.specs.Order.{Judged};
 ghost use Rattle.finder.specs.Points.{pointsOf};
-use records::record::Record;
 use marking_writer::put_head;
 use marking_writer::put_place;
 use marking_writer::put_read;
+use records::record::Record;
 
 fn wide(x: u8) -> u16
     ensures { λ r. ⌜ r ≡ x ⌝ }

@@ -10,10 +10,10 @@ ghost use Rattle.opacity.specs.declared.verdict.Scanned.the-variants.{Faulted};
 ghost use Rattle.opacity.specs.Counts.{ofKind, HoldsReadable};
 ghost use Rattle.tables.specs.Order.{Judged};
 ghost use Rattle.scan.specs.Answer.{sizeRefusal, decided, scanAnswer};
-use log::columns::Checked;
-use records::record::Record;
 use events::refusal::Refusal;
+use log::columns::Checked;
 use opacity::verdict::Scanned;
+use records::record::Record;
 
 mod witness;
 

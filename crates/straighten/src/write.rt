@@ -9,10 +9,10 @@ ghost use Rattle.lists.specs.Lists.{push};
 ghost use Rattle.opacity.specs.Marking.{outcomeNumber, placeBytes, flat};
 ghost use Rattle.rules.specs.Orders.{placesOf};
 ghost use Rattle.straighten.specs.Tables.{listed, pointsIn, bytesIn};
-use records::record::Record;
 use marking_writer::put_head;
 use marking_writer::put_place;
 use marking_writer::put_read;
+use records::record::Record;
 
 // 0 aborted, 1 committed.
 fn outcome_number(outcome: u8) -> u16
