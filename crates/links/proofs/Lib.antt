@@ -1,3 +1,4 @@
 pub mod FilledLaws
+pub mod LogLaws
 pub mod TableLaws
 pub mod WriteLaws
