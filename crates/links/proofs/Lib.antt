@@ -1,4 +1,3 @@
-pub mod FilledLaws
 pub mod LogLaws
 pub mod TableLaws
 pub mod WriteLaws

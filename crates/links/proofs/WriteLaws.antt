@@ -20,7 +20,7 @@ use Rattle.opacity.specs.Transactions.{lastWrite}
 use Rattle.links.specs.declared.tables.Fact.the-variants.{LastWrite}
 use Rattle.links.specs.Tables.{lastOne, slot}
 use Rattle.links.specs.Writes.{Linked, following, writeFrom, plusOne}
-use Rattle.links.proofs.FilledLaws.{filled-at}
+use Rattle.lists.proofs.FilledLaws.{filled-at}
 use Rattle.links.proofs.TableLaws.{last-le}
 
 -- ---- answers as numbers

@@ -10,7 +10,8 @@ use lib.ListN.{length, getD}
 use Rattle.events.specs.declared.event.Event.{Event}
 use Rattle.events.specs.Events.{eventAt}
 use Rattle.links.specs.declared.tables.Fact.the-variants.{LastWrite}
-use Rattle.links.specs.Tables.{Filled, slot}
+use Rattle.links.specs.Tables.{slot}
+use Rattle.lists.specs.Filled.{Filled}
 
 -- each entry holds one past the last write of its event's transaction before that event, 0 for none
 abbrev pub Links : List Event → ℕ → List ℕ → Type 0
