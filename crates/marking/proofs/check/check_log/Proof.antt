@@ -43,9 +43,10 @@ read-marking-requires c κs =
     let r = c .before in
     let b = r .before .before .before in
     let s = b .before .before in
-    let f = at-most-64 (logged (s .args .log .now)) (s .pre) in
-    ((log-most (s .args .log .now) (s .pre), omega (arith, b .transactions-begun .ensures)),
-    none-beyond (s .args .log .now) (b .transactions-begun .result) (r .store-reads .result) (b .transactions-begun .ensures) (r .store-reads .ensures))
+    let f = at-most-64 (logged (s .args .log .now)) (s .pre) in (
+      (log-most (s .args .log .now) (s .pre), omega (arith, b .transactions-begun .ensures)),
+      none-beyond (s .args .log .now) (b .transactions-begun .result) (r .store-reads .result) (b .transactions-begun .ensures) (r .store-reads .ensures),
+    )
 
 returns : tie.Need-returns
 returns c =
@@ -62,10 +63,11 @@ judge-requires : tie.Need-judge-requires
 judge-requires c κs =
     let l = linked c in
     let m = l .before .before .before in
-    let s = entered m in
-    (tabled m .before .before .own-writes .ensures,
-    given (s .args .log .now) (counted m .transactions-begun .result) (tabled m .store-reads .result) (counted m .transactions-begun .ensures) (tabled m .store-reads .ensures)
-    (m .read-marking .result) (m .read-marking .ensures .1 (l .before .if1 .left)) (s .pre) (l .links .ensures))
+    let s = entered m in (
+      tabled m .before .before .own-writes .ensures,
+      given (s .args .log .now) (counted m .transactions-begun .result) (tabled m .store-reads .result) (counted m .transactions-begun .ensures) (tabled m .store-reads .ensures)
+          (m .read-marking .result) (m .read-marking .ensures .1 (l .before .if1 .left)) (s .pre) (l .links .ensures),
+    )
 
 returns-2 : tie.Need-returns-2
 returns-2 c =
