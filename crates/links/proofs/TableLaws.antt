@@ -247,7 +247,8 @@ module _ (h : List Event) (t : ℕ) where
   ranks (suc m) l =
       ap (λ (x : ℕ). cond (eqb (eventAt h m .transaction) t) (max x (standing (eventAt h m))) x) (ranks m (omega arith))
       ∙ sym (rw (take-suc h m noEvent l) (rw (has-snoc isCommit (take m h) (eventAt h m) t, has-snoc isAbort (take m h) (eventAt h m) t, has-snoc asksCommit (take m h) (eventAt h m) t)
-      (rank-more (has isCommit t (take m h)) (has isAbort t (take m h)) (has asksCommit t (take m h)) (isCommit (eventAt h m)) (isAbort (eventAt h m)) (asksCommit (eventAt h m)) (eqb (eventAt h m .transaction) t))))
+      (rank-more (has isCommit t (take m h)) (has isAbort t (take m h)) (has asksCommit t (take m h))
+      (isCommit (eventAt h m)) (isAbort (eventAt h m)) (asksCommit (eventAt h m)) (eqb (eventAt h m .transaction) t))))
 
   pub status-slot : (m : ℕ) → m ≤ length h → slot Standing h t m ≡ statusNumber (status (take m h) t)
   unfolding status

@@ -62,7 +62,8 @@ fn check_admitted(
     file: &[u8],
 ) -> Checking
     requires { ⌜ (checked ≡ Readable → Admitted (logged (take count (now rows))) count (now rows)) ⌝ }
-    ensures { λ r. ⌜ r ≡ afterColumns (startOf (now (starts .entry))) (logged (take count (now (rows .entry)))) (now (file .entry)) checked ⌝ }
+    ensures { λ r. ⌜ r ≡ afterColumns (startOf (now (starts .entry))) (logged (take count (now (rows .entry))))
+        (now (file .entry)) checked ⌝ }
 {
     match checked {
         Checked::Refused(refusal) => Checking::HistoryRefused(refusal),
@@ -82,7 +83,9 @@ pub fn check_marking(
     count: usize,
     file: &[u8],
 ) -> Checking
-    ensures { λ r. ⌜ r ≡ verdictAnswer edition (now (starts .entry)) (columns (now (kinds .entry)) (now (transactions .entry)) (now (registers .entry)) (now (values .entry))) count (now (file .entry)) ⌝ }
+    ensures { λ r. ⌜ r ≡ verdictAnswer edition (now (starts .entry))
+        (columns (now (kinds .entry)) (now (transactions .entry)) (now (registers .entry)) (now (values .entry)))
+        count (now (file .entry)) ⌝ }
 {
     if count <= 64 {
         let mut few = [[0u32; 4]; 64];

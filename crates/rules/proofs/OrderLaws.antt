@@ -70,7 +70,8 @@ pub places-at : (order outcomes : List ℕ) (n k : ℕ) → k < n → getD (plac
 unfolding placesOf
 places-at order outcomes n k l =
     sym (getD-take (suc k) (placesOf order outcomes n) k noPlace (le-refl (suc k)))
-    ∙ (ap (λ (J : List Place). getD J k noPlace) (places-take order outcomes n (suc k) l) ∙ getD-at (placesOf order outcomes k) (placeAt order outcomes k) [] noPlace k (places-length order outcomes k))
+    ∙ (ap (λ (J : List Place). getD J k noPlace) (places-take order outcomes n (suc k) l)
+    ∙ getD-at (placesOf order outcomes k) (placeAt order outcomes k) [] noPlace k (places-length order outcomes k))
 
 module _ (order outcomes : List ℕ) (b : ℕ) (o : isOrder b (placesOf order outcomes b) ≡ true) where
   -- the places cut at k
@@ -82,7 +83,9 @@ module _ (order outcomes : List ℕ) (b : ℕ) (o : isOrder b (placesOf order ou
 
   pub alone : (k : ℕ) → k < b → Fresh (getD order k 0) (placesOf order outcomes k) × Fresh (getD order k 0) (drop (suc k) (placesOf order outcomes b))
   unfolding isOrder
-  alone k l = distinct-at (placesOf order outcomes k) (placeAt order outcomes k) (drop (suc k) (placesOf order outcomes b)) (subst (λ (J : List Place). distinct J ≡ true) (cut k l) (and-l _ _ (and-r _ _ o)))
+  alone k l =
+      distinct-at (placesOf order outcomes k) (placeAt order outcomes k) (drop (suc k) (placesOf order outcomes b))
+      (subst (λ (J : List Place). distinct J ≡ true) (cut k l) (and-l _ _ (and-r _ _ o)))
 
   -- where a transaction is placed, and with which outcome
   pub place-here : (k : ℕ) → k < b → placeOf (getD order k 0) (placesOf order outcomes b) ≡ k
@@ -120,7 +123,10 @@ module _ (order outcomes : List ℕ) (b : ℕ) (o : isOrder b (placesOf order ou
 
   pub order-low : (k : ℕ) → k < b → getD order k 0 < b
   unfolding isOrder
-  order-low k l = ltb-true _ _ (ap (λ (p : Place). ltb (p .transaction) b) (sym (places-at order outcomes b k l)) ∙ all-at (λ p. ltb (p .transaction) b) (placesOf order outcomes b) noPlace k (rw (places-length order outcomes b) l) (and-l _ _ o))
+  order-low k l =
+      ltb-true _ _
+      (ap (λ (p : Place). ltb (p .transaction) b) (sym (places-at order outcomes b k l))
+      ∙ all-at (λ p. ltb (p .transaction) b) (placesOf order outcomes b) noPlace k (rw (places-length order outcomes b) l) (and-l _ _ o))
 
   pub order-apart : (j k : ℕ) → j < b → k < b → getD order j 0 ≡ getD order k 0 → j ≡ k
   order-apart j k l m e = sym (place-here j l) ∙ place-of (getD order j 0) k m (sym e)

@@ -84,7 +84,8 @@ module _ {h : List Event} {link order outcomes gaps : List ℕ} (y : Given h lin
     unfolding content straightened storeReads
     content-same =
         let e : map (pointWith (λ i. getD straight i 0)) (storeReads h) ≡ straightened start h m .points =
-        map-same (isStoreRead h) (pointWith (λ i. getD straight i 0)) (pointWith (gapAfter start h m)) (storeReads h) (λ i s j. record { event = i; gap = gap-after i s j }) (keep-passes (isStoreRead h) (range (length h)))
+        map-same (isStoreRead h) (pointWith (λ i. getD straight i 0)) (pointWith (gapAfter start h m)) (storeReads h)
+        (λ i s j. record { event = i; gap = gap-after i s j }) (keep-passes (isStoreRead h) (range (length h)))
         ∙ sym (straight-points start h m arrays-readable) in
         λ j. record { places = m .places; points = e j }
 

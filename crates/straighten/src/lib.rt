@@ -219,7 +219,10 @@ pub fn straighten(
     output: &mut [u8],
     moved: &mut [u32],
 ) -> Straightening
-    ensures { λ r. ⌜ gives r (now (output .exit)) (now (moved .exit)) ≡ straightenedAnswer edition (now (starts .entry)) (columns (now (kinds .entry)) (now (transactions .entry)) (now (registers .entry)) (now (values .entry))) count (now (file .entry)) (now (output .entry)) (now (moved .entry)) ⌝ }
+    ensures { λ r. ⌜ gives r (now (output .exit)) (now (moved .exit))
+        ≡ straightenedAnswer edition (now (starts .entry))
+        (columns (now (kinds .entry)) (now (transactions .entry)) (now (registers .entry)) (now (values .entry)))
+        count (now (file .entry)) (now (output .entry)) (now (moved .entry)) ⌝ }
 {
     if count <= 64 {
         let mut few = [[0u32; 4]; 64];

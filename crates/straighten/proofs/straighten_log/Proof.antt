@@ -58,7 +58,8 @@ holds r =
     let s = entered m in
     let b = counted m .transactions-begun in
     let t = tabled m .store-reads in
-    reading-content (s .args .log .now) (b .result) (t .result) (b .ensures) (t .ensures) (m .read-marking .result) (kept r) (s .args .file .now) (m .read-marking .ensures .0) (r .before .before .if1 .left)
+    reading-content (s .args .log .now) (b .result) (t .result) (b .ensures) (t .ensures) (m .read-marking .result) (kept r)
+    (s .args .file .now) (m .read-marking .ensures .0) (r .before .before .if1 .left)
 
 -- what 15 asks
 abbrev roomIn : tie.Start → ℕ → Bool

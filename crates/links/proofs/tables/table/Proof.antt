@@ -63,8 +63,11 @@ loop-less c = search needs
 
 loop-again : tie.Need-loop-again Inv-loop μ-loop
 loop-again c =
-    let t = c .before .before .before .before in
-    (search needs, slots-more (t .before .args .fact) (logged (t .before .args .log .now)) (t .loop .i) _ _ (t .loop .slots) (c .before .before .event-at .ensures) (c .before .wide .ensures) (low (c .before)) (c .slot-at .ensures) (t .loop .inv .1))
+    let t = c .before .before .before .before in (
+      search needs,
+      slots-more (t .before .args .fact) (logged (t .before .args .log .now)) (t .loop .i) _ _ (t .loop .slots)
+          (c .before .before .event-at .ensures) (c .before .wide .ensures) (low (c .before)) (c .slot-at .ensures) (t .loop .inv .1),
+    )
 
 returns : tie.Need-returns Inv-loop μ-loop
 returns c =

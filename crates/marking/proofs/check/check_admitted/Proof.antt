@@ -10,10 +10,13 @@ use borrow.Author.Needs.{needs}
 use Rattle.marking.proofs.check.check_admitted.Statement.{statement}
 use Rattle.marking.proofs.check.check_admitted.Tie as tie
 
+-- where no question refused, and the function's entry
+abbrev entered : tie.After-enum-told → tie.Start
+entered t = t .before .before .before
+
 -- the first rows hold a readable history
-admitted : (c : tie.After-enum-told)
-    → Admitted (logged (take (c .before .before .before .args .count) (c .before .before .before .args .rows .now))) (c .before .before .before .args .count) (c .before .before .before .args .rows .now)
-admitted c = c .before .before .before .pre (c .enum-told .given .1)
+admitted : (t : tie.After-enum-told) → Admitted (logged (take (entered t .args .count) (entered t .args .rows .now))) (entered t .args .count) (entered t .args .rows .now)
+admitted t = entered t .pre (t .enum-told .given .1)
 
 enum-known-checked : tie.Need-enum-known-checked
 enum-known-checked c = search needs

@@ -7,6 +7,13 @@ use borrow.Author.Needs.{needs}
 use Rattle.marking.proofs.check.check_marking.Statement.{statement}
 use Rattle.marking.proofs.check.check_marking.Tie as tie
 
+-- where the columns were taken in, into 64 rows or into 2,048: the function's entry
+abbrev entered : tie.After-admit → tie.Start
+entered a = a .before .before .before .before .before .before .before .before
+
+abbrev entered-2 : tie.After-admit2 → tie.Start
+entered-2 a = a .before .before .before .before .before .before .before .before
+
 abbrev given : tie.Start → Columns
 given s = columns (s .args .kinds .now) (s .args .transactions .now) (s .args .registers .now) (s .args .values .now)
 
@@ -25,7 +32,7 @@ check-admitted-requires c κs = λ e. admitted-log (c .before .before .admit .en
 returns : tie.Need-returns
 returns c =
     let a = c .before .before .before in
-    let s = a .before .before .before .before .before .before .before .before in
+    let s = entered a in
     c .check-admitted .ensures
     ∙ door (s .args .edition) (s .args .starts .now) (given s) (s .args .count) (s .args .file .now) _ (a .admit .ensures .0) (a .admit .ensures .1)
 
@@ -44,7 +51,7 @@ check-admitted-requires-2 c κs = λ e. admitted-log (c .before .before .admit2 
 returns-2 : tie.Need-returns-2
 returns-2 c =
     let a = c .before .before .before in
-    let s = a .before .before .before .before .before .before .before .before in
+    let s = entered-2 a in
     c .check-admitted2 .ensures
     ∙ door (s .args .edition) (s .args .starts .now) (given s) (s .args .count) (s .args .file .now) _ (a .admit2 .ensures .0) (a .admit2 .ensures .1)
 

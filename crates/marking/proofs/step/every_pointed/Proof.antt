@@ -1,32 +1,35 @@
--- `marking::step::every_pointed` meets its contract.
+-- `every_pointed` meets its contract: the events before i have a point, if they are store reads.
 -- Assumes nothing.
-use Prim.Native.Nat.{ℕ, _-_, _≤_, _<_}
-use mathlib.Core.Path.{_≡_, sym, _∙_, subst}
-use mathlib.Core.Bool.{true}
+use Prim.Native.Nat.{ℕ, _-_}
+use mathlib.Core.Bool.{Bool}
 use native.Mathlib.Omega.{arith}
-use borrow.Author.Tests.{not-true, not-false}
-use native.Mathlib.Nat.{not-suc-le-zero}
-use Rattle.lists.proofs.ListLaws.{every-i}
-use Rattle.rules.proofs.Numbers.{every-fails, so-far}
-use Rattle.marking.specs.State.{pointBy}
 use borrow.Author.Needs.{needs}
+use borrow.Author.Tests.{not-true, not-false}
+use Rattle.rules.proofs.Numbers.{Passing, passing-first, passing-more, not-every, every-one}
+use Rattle.marking.specs.State.{pointBy}
 use Rattle.marking.proofs.step.every_pointed.Statement.{statement}
 use Rattle.marking.proofs.step.every_pointed.Tie as tie
 
 abbrev Inv-loop : tie.InvT-loop
-Inv-loop reads count gaps i₀ i = (i ≤ count) × ((k : ℕ) → k < i → pointBy reads gaps k ≡ true)
+Inv-loop reads count gaps i₀ i = Passing (pointBy reads gaps) count i
 
 abbrev μ-loop : tie.MeasureT-loop
 μ-loop reads count gaps i₀ i = count - i
 
+-- the test, by what the function is given
+abbrev holds : tie.Start Inv-loop μ-loop → ℕ → Bool
+holds s = pointBy (s .args .reads .now) (s .args .gaps .now)
+
 loop-holds : tie.Need-loop-holds Inv-loop μ-loop
-loop-holds c = (omega arith, λ k l. absurd (not-suc-le-zero l))
+loop-holds c = passing-first (holds c) (c .args .count)
 
 is-pointed-requires : tie.Need-is-pointed-requires Inv-loop μ-loop
 is-pointed-requires c κs = omega (arith, c .before .before .pre)
 
 returns : tie.Need-returns Inv-loop μ-loop
-returns c = sym (every-fails (pointBy (c .before .before .before .before .args .reads .now) (c .before .before .before .before .args .gaps .now)) (c .before .before .before .before .args .count) (c .before .before .before .loop .i) (omega arith) (sym (c .before .is-pointed .ensures) ∙ not-true _ (c .if1 .taken)))
+returns c =
+    let t = c .before .before .before in
+    not-every (holds (t .before)) (t .loop .inv) (c .before .before .loop-test .taken) (c .before .is-pointed .ensures) (not-true _ (c .if1 .taken))
 
 add-i : tie.Need-add-i Inv-loop μ-loop
 add-i c = search needs
@@ -35,12 +38,12 @@ loop-less : tie.Need-loop-less Inv-loop μ-loop
 loop-less c = search needs
 
 loop-again : tie.Need-loop-again Inv-loop μ-loop
-loop-again c = (omega arith, so-far (pointBy (c .before .before .before .before .args .reads .now) (c .before .before .before .before .args .gaps .now)) (c .before .before .before .before .args .count) (c .before .before .before .loop .i) (c .before .before .before .loop .inv .1) (sym (c .before .is-pointed .ensures) ∙ not-false _ (c .if1 .left)))
+loop-again c =
+    let t = c .before .before .before in
+    passing-more (holds (t .before)) (t .loop .inv) (c .before .before .loop-test .taken) (c .before .is-pointed .ensures) (not-false _ (c .if1 .left))
 
 returns-2 : tie.Need-returns-2 Inv-loop μ-loop
-returns-2 c =
-    let e : c .before .loop .i ≡ c .before .before .args .count = omega arith in
-    sym (every-i (pointBy (c .before .before .args .reads .now) (c .before .before .args .gaps .now)) (c .before .before .args .count) (subst (λ (x : ℕ). (k : ℕ) → k < x → pointBy (c .before .before .args .reads .now) (c .before .before .args .gaps .now) k ≡ true) e (c .before .loop .inv .1)))
+returns-2 c = every-one (holds (c .before .before)) (c .before .loop .inv) (c .loop-test .left)
 
 pub every-pointed-spec : {M : Type 1} → statement M
 every-pointed-spec =

@@ -50,7 +50,8 @@ returns c =
     let a = c .before .before in
     let s = begun a .before in
     c .broken-by .ensures
-    ∙ verdict-a (s .pre .1) (begun a .transactions-begun .ensures) (placed a .places-of .ensures) (startOf (s .args .starts .now)) (a .before .before .before .table .ensures) (a .rule-a .ensures) (c .before .if1 .taken)
+    ∙ verdict-a (s .pre .1) (begun a .transactions-begun .ensures) (placed a .places-of .ensures) (startOf (s .args .starts .now))
+    (a .before .before .before .table .ensures) (a .rule-a .ensures) (c .before .if1 .taken)
 
 table-requires-2 : tie.Need-table-requires-2
 table-requires-2 c κs = search needs
@@ -98,7 +99,8 @@ returns-3 c =
     let s = begun a .before in
     c .judge-reads .ensures
     ∙ verdict-reads (s .pre .1) (begun a .transactions-begun .ensures) (placed a .places-of .ensures) (startOf (s .args .starts .now)) (a .before .before .before .table .ensures) (a .rule-a .ensures)
-    (a-holds b) (tabled b .before .table2 .ensures) (tabled b .table3 .ensures) (b .rule-b .ensures) (w .before .before .before .if2 .left) (w .before .before .table4 .ensures) (w .writers-of .ensures)
+    (a-holds b) (tabled b .before .table2 .ensures) (tabled b .table3 .ensures) (b .rule-b .ensures)
+    (w .before .before .before .if2 .left) (w .before .before .table4 .ensures) (w .writers-of .ensures)
 
 pub judge-spec : {M : Type 1} → statement M
 judge-spec =

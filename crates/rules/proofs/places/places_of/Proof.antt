@@ -43,7 +43,9 @@ loop-less : tie.Need-loop-less Inv-loop μ-loop
 loop-less c = search needs
 
 loop-again : tie.Need-loop-again Inv-loop μ-loop
-loop-again c = (omega arith, inverse-more _ (c .before .before .before .loop .place) (c .before .before .before .before .args .begun) (c .before .before .before .loop .k) _ _ (c .before .before .before .before .pre) (omega arith) (c .wide .ensures) refl (c .before .before .before .loop .inv .1))
+loop-again c =
+    let t = c .before .before .before in
+    (omega arith, inverse-more _ (t .loop .place) (t .before .args .begun) (t .loop .k) _ _ (t .before .pre) (omega arith) (c .wide .ensures) refl (t .loop .inv .1))
 
 returns : tie.Need-returns Inv-loop μ-loop
 returns c =

@@ -34,12 +34,15 @@ loop-less : tie.Need-loop-less Inv-loop μ-loop
 loop-less c = search needs
 
 loop-again : tie.Need-loop-again Inv-loop μ-loop
-loop-again c = (omega arith, filled-more _ _ _ (c .before .before .loop .k) _ (c .before .before .loop .writers) (omega (arith, c .before .before .before .pre .few)) (c .writer-at .ensures) (c .before .before .loop .inv .1))
+loop-again c =
+    let t = c .before .before in
+    (omega arith, filled-more _ _ _ (t .loop .k) _ (t .loop .writers) (omega (arith, t .before .pre .few)) (c .writer-at .ensures) (t .loop .inv .1))
 
 returns : tie.Need-returns Inv-loop μ-loop
 returns c =
-    let e : c .before .loop .k ≡ c .before .before .args .begun = omega arith in
-    subst (λ (x : ℕ). Writers (c .before .before .args .order .now) (c .before .before .args .outcomes .now) (c .before .before .args .last .now) x (c .before .loop .writers)) e (c .before .loop .inv .1)
+    let s = c .before .before in
+    let e : c .before .loop .k ≡ s .args .begun = omega arith in
+    subst (λ (x : ℕ). Writers (s .args .order .now) (s .args .outcomes .now) (s .args .last .now) x (c .before .loop .writers)) e (c .before .loop .inv .1)
 
 pub writers-of-spec : {M : Type 1} → statement M
 writers-of-spec =

@@ -58,7 +58,8 @@ element-copy-out-gap c = omega (arith, c .pre .1, log-most (c .args .log .now) (
 returns : tie.Need-returns
 returns c =
     let s = c .before .before in
-    no-point (startOf (s .args .starts .now)) (logged (s .args .log .now)) (s .args .link .now) (s .args .writers .now) (s .args .place .now) (s .args .gaps .now) (s .args .i) (s .args .rule) (c .if1 .taken)
+    no-point (startOf (s .args .starts .now)) (logged (s .args .log .now)) (s .args .link .now) (s .args .writers .now) (s .args .place .now) (s .args .gaps .now)
+    (s .args .i) (s .args .rule) (c .if1 .taken)
 
 event-at-requires : tie.Need-event-at-requires
 event-at-requires c κs = search needs

@@ -44,7 +44,8 @@ returns-2 c =
     let s = c .before .before .before in
     let r = s .args .e .register in
     let o = lastIn (logged (s .args .log .now)) (s .args .link .now) (s .args .writers .now) (s .args .own) r 0 (s .args .g) in
-    sym (value-some o (c .before .before .last-writer .result) (c .stored .result) (s .args .e .value) (startOf (s .args .starts .now) r) (c .before .before .last-writer .ensures) (c .before .if1 .left) (c .stored .ensures))
+    sym (value-some o (c .before .before .last-writer .result) (c .stored .result) (s .args .e .value) (startOf (s .args .starts .now) r)
+    (c .before .before .last-writer .ensures) (c .before .if1 .left) (c .stored .ensures))
 
 pub value-at-gap-spec : {M : Type 1} → statement M
 value-at-gap-spec =

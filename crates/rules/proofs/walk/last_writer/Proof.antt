@@ -82,7 +82,8 @@ loop-less c =
 loop-again : tie.Need-loop-again Inv-loop μ-loop Inv-walk μ-walk
 loop-again c =
     let t = c .before .before .before .before .before in
-    walk-follows (t .before .loop .inv) (t .loop-test .taken) (c .before .before .before .before .event-at .ensures) (entered (t .before) .pre .0 .linked) (c .wide .ensures) (c .before .before .if2 .left)
+    walk-follows (t .before .loop .inv) (t .loop-test .taken) (c .before .before .before .before .event-at .ensures)
+    (entered (t .before) .pre .0 .linked) (c .wide .ensures) (c .before .before .if2 .left)
 
 returns : tie.Need-returns Inv-loop μ-loop Inv-walk μ-walk
 returns c = walk-ends (c .before .walk .inv) (c .if1 .taken)

@@ -12,6 +12,7 @@ use Rattle.log.proofs.RowLaws.{logged-length}
 use Rattle.links.proofs.LogLaws.{log-most}
 use mathlib.Core.Bool.{Bool, false}
 use Rattle.log.specs.Starts.{startOf}
+use Rattle.opacity.specs.declared.verdict.Rule.{Rule}
 use Rattle.rules.specs.Walks.{pointRule}
 use Rattle.straighten.specs.Tables.{breaksBy}
 use borrow.Author.Needs.{needs}
@@ -23,6 +24,10 @@ Inv-loop starts log link writers place gaps moves₀ i₀ moves i = (i ≤ lengt
 
 abbrev μ-loop : tie.MeasureT-loop
 μ-loop starts log link writers place gaps moves₀ i₀ moves i = length log - i
+
+-- the rules of points, by what the function is given
+abbrev holds : tie.Start Inv-loop μ-loop → Rule → ℕ → Bool
+holds s = pointRule (startOf (s .args .starts .now)) (logged (s .args .log .now)) (s .args .link .now) (s .args .writers .now) (s .args .place .now) (s .args .gaps .now)
 
 few : (c : tie.In-loop Inv-loop μ-loop) → c .before .loop .i < 2048
 few c = omega (arith, log-most (c .before .before .args .log .now) (c .before .before .pre .walk .readable))
@@ -51,7 +56,7 @@ returns : tie.Need-returns Inv-loop μ-loop
 returns c =
     let s = c .before .before in
     let e : c .before .loop .i ≡ length (logged (s .args .log .now)) = omega (arith, logged-length (s .args .log .now)) in
-    subst (λ (k : ℕ). Filled 2048 false (breaksBy (pointRule (startOf (s .args .starts .now)) (logged (s .args .log .now)) (s .args .link .now) (s .args .writers .now) (s .args .place .now) (s .args .gaps .now))) k (c .before .loop .moves)) e (c .before .loop .inv .1)
+    subst (λ (k : ℕ). Filled 2048 false (breaksBy (holds s)) k (c .before .loop .moves)) e (c .before .loop .inv .1)
 
 pub moves-of-spec : {M : Type 1} → statement M
 moves-of-spec =
