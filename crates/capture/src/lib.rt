@@ -9,7 +9,7 @@ ghost use mathlib.Core.Bool.{true};
 ghost use Rattle.log.specs.Columns.{columns, history, hold};
 ghost use Rattle.log.specs.Answer.{columnsAnswer, historyAnswer};
 ghost use Rattle.log.specs.Starts.{startOf};
-ghost use Rattle.log.specs.declared.columns.Checked.{Checked};
+ghost use Rattle.log.specs.declared.admit.Checked.{Checked};
 ghost use Rattle.capture.specs.Report.{countsOf, markingOf, judged, reportOn};
 use counts::tally::Tally;
 use counts::tally::tally_of;

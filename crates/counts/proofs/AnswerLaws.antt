@@ -2,7 +2,7 @@
 -- Assumes nothing.
 use Prim.Native.Nat.{ℕ}
 use mathlib.Core.Path.{_≡_}
-use Rattle.log.specs.declared.columns.Checked.{Checked}
+use Rattle.log.specs.declared.admit.Checked.{Checked}
 use Rattle.events.specs.declared.refusal.Refusal.{Refusal}
 use Rattle.counts.specs.declared.Counting.{Counting}
 use Rattle.counts.specs.declared.Tallying.{Tallying}

@@ -3,7 +3,7 @@
 -- Assumes nothing.
 use Prim.Native.Nat.{ℕ}
 use mathlib.Core.List.{[], _∷_}
-use Rattle.log.specs.declared.columns.Checked.{Checked}
+use Rattle.log.specs.declared.admit.Checked.{Checked}
 use Rattle.log.specs.Columns.{Columns, history}
 use Rattle.events.specs.Said.{Said, done, eventRefused}
 use Rattle.log.specs.Answer.{columnsAnswer}

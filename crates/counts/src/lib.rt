@@ -9,8 +9,8 @@ pub mod tally;
 use crate::tally::Tally;
 use crate::tally::tally_of;
 use events::refusal::Refusal;
-use log::columns::Checked;
-use log::columns::check_columns;
+use log::admit::Checked;
+use log::admit::check_columns;
 
 // A count's answer: the number, or the question that says no with its event.
 pub enum Counting {

@@ -3,7 +3,7 @@ ghost use mathlib.Core.Path.{_≡_};
 ghost use Prim.Native.Nat.{_≤_};
 ghost use lib.ListN.{length};
 ghost use Rattle.log.specs.Columns.{columns, history};
-ghost use Rattle.log.specs.declared.columns.Checked.{Checked};
+ghost use Rattle.log.specs.declared.admit.Checked.{Checked};
 ghost use Rattle.log.specs.Starts.{startOf};
 ghost use Rattle.opacity.specs.Counts.{HoldsReadable};
 ghost use Rattle.tables.specs.Order.{Judged};
@@ -12,7 +12,7 @@ ghost use Rattle.finder.specs.Answer.{markingSize, lowestMarking, gives,
 pub mod writer;
 
 use events::refusal::Refusal;
-use log::columns::Checked;
+use log::admit::Checked;
 use records::record::Record;
 
 // Question 31: at most this many transactions are searched.
@@ -123,7 +123,7 @@ fn check_call(
             at: count,
         });
     }
-    log::columns::check_columns(kinds, transactions, registers, values, count)
+    log::admit::check_columns(kinds, transactions, registers, values, count)
 }
 
 // The lowest marking of the first `prefix` of the first `count` events, written from the output's first byte. The prefix keeps

@@ -15,7 +15,7 @@ use Rattle.lists.specs.Lists.{_and_, _or_, isNone, orElse, keep, latest, range}
 use Rattle.events.specs.declared.event.Event.{Event}
 use Rattle.events.specs.Events.{isBegin, isRead, isWrite, by, begins}
 use Rattle.log.specs.Columns.{Columns, entry, history}
-use Rattle.log.specs.declared.columns.Checked.the-variants.{Readable}
+use Rattle.log.specs.declared.admit.Checked.the-variants.{Readable}
 use Rattle.events.specs.Questions.{readable}
 use Rattle.log.specs.Answer.{columnsAnswer}
 use Rattle.log.proofs.AnswerLaws.{columns-readable}

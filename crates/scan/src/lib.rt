@@ -11,7 +11,7 @@ ghost use Rattle.opacity.specs.Counts.{ofKind, HoldsReadable};
 ghost use Rattle.tables.specs.Order.{Judged};
 ghost use Rattle.scan.specs.Answer.{sizeRefusal, decided, scanAnswer};
 use events::refusal::Refusal;
-use log::columns::Checked;
+use log::admit::Checked;
 use opacity::verdict::Scanned;
 use records::record::Record;
 
@@ -158,7 +158,7 @@ pub fn scan_history(
 ) -> Scanning
     ensures { λ r. ⌜ r ≡ scanAnswer edition (now (starts .entry)) (columns (now (kinds .entry)) (now (transactions .entry)) (now (registers .entry)) (now (values .entry))) count ⌝ }
 {
-    let checked = log::columns::check_history(
+    let checked = log::admit::check_history(
         edition,
         starts,
         kinds,

@@ -3,7 +3,7 @@
 use denote.Ref.{now}
 use borrow.Author.Needs.{needs}
 use mathlib.Core.Path.{_≡_, _∙_}
-use Rattle.log.specs.declared.columns.Checked.the-variants.{Readable}
+use Rattle.log.specs.declared.admit.Checked.the-variants.{Readable}
 use Rattle.log.specs.Columns.{Columns, columns}
 use Rattle.log.specs.Answer.{columnsAnswer}
 use Rattle.log.proofs.StartLaws.{fine}
