@@ -1,15 +1,14 @@
 -- Vocabulary between crates: it need not be believed, the public contracts end in the paper's definitions.
 -- Tables filled by going once through the events: by event or place, and one number for each transaction.
 -- Assumes nothing.
-use Prim.Native.Nat.{ℕ, zero, suc, _+_, _≤_, _<_, max}
+use Prim.Native.Nat.{ℕ, zero, suc, _+_, _<_, max}
 use mathlib.Core.Path.{_≡_}
 use mathlib.Core.Bool.{Bool, false, cond}
 use mathlib.Core.List.{List}
 use lib.Dec.{eqb, ltb}
 use lib.ListN.{length, getD}
 use Rattle.events.specs.declared.event.Event.{Event}
-use Rattle.events.specs.Events.{isBegin, isWrite, isEnd, isCommit, isAbort, asksCommit}
-use Rattle.opacity.specs.Counts.{ofKind}
+use Rattle.events.specs.Events.{eventAt, isBegin, isWrite, isEnd, isCommit, isAbort, asksCommit}
 use Rattle.links.specs.declared.tables.Fact.{Fact}
 use Rattle.links.specs.declared.tables.Fact.the-variants.{LastEvent, LastWrite, LastBegin, FirstBegin, FirstEnd, Standing}
 
@@ -37,23 +36,20 @@ slotAt FirstEnd e i x = firstOne (isEnd e) i x
 slotAt Standing e i x = max x (standing e)
 
 -- what stands at t after n events
-unfoldable pub slot : Fact → List ℕ → List ℕ → ℕ → ℕ → ℕ
-slot f kinds transactions t zero = 0
-slot f kinds transactions t (suc i) =
-    let x = slot f kinds transactions t i in
-    cond (eqb (getD transactions i 0) t) (slotAt f (ofKind (getD kinds i 0)) i x) x
+unfoldable pub slot : Fact → List Event → ℕ → ℕ → ℕ
+slot f h t zero = 0
+slot f h t (suc i) =
+    let x = slot f h t i in
+    cond (eqb (eventAt h i .transaction) t) (slotAt f (eventAt h i) i x) x
 
-pub record Slots (f : Fact) (kinds transactions : List ℕ) (n : ℕ) (table : List ℕ) : Type 0 where
+pub record Slots (f : Fact) (h : List Event) (n : ℕ) (table : List ℕ) : Type 0 where
   pub size : length table ≡ 64
-  pub holds : (t : ℕ) → t < 64 → getD table t 0 ≡ slot f kinds transactions t n
+  pub holds : (t : ℕ) → t < 64 → getD table t 0 ≡ slot f h t n
+
+-- the table of a whole history
+abbrev pub Tabled : Fact → List Event → List ℕ → Type 0
+Tabled f h table = Slots f h (length h) table
 
 -- an end comes before a begin, each as one past its event, with 0 for none
 unfoldable pub earlier : ℕ → ℕ → Bool
 earlier e b = cond (eqb e 0) false (ltb e b)
-
--- n events, not too many, of transactions that have a slot
-pub record Tabled (kinds transactions : List ℕ) (n : ℕ) : Type 0 where
-  pub kinds-long : n ≤ length kinds
-  pub transactions-long : n ≤ length transactions
-  pub few : n ≤ 2048
-  pub low : (i : ℕ) → i < n → getD transactions i 0 < 64

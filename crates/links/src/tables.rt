@@ -1,10 +1,19 @@
 // Tables of one number for each transaction. Each is filled by going once through the events.
 ghost use mathlib.Core.Path.{_≡_};
+ghost use mathlib.Core.Bool.{true};
 ghost use Prim.Native.Nat.{_<_, max};
-ghost use Rattle.events.specs.Events.{isEnd};
-ghost use Rattle.opacity.specs.Counts.{ofKind};
-ghost use Rattle.links.specs.Tables.{lastOne, firstOne, standing, slotAt, Slots, Tabled};
-use records::record::Record;
+ghost use Rattle.events.specs.Questions.{readable};
+ghost use Rattle.log.specs.Rows.{logged};
+ghost use Rattle.links.specs.Tables.{lastOne, firstOne, standing, slotAt, Tabled};
+use events::event::Event;
+use events::event::asks_commit;
+use events::event::is_abort;
+use events::event::is_begin;
+use events::event::is_commit;
+use events::event::is_end;
+use events::event::is_write;
+use log::rows::Row;
+use log::rows::event_at;
 
 // What a table tells of a transaction: one past an event, with 0 for none, or how far it has come.
 pub enum Fact {
@@ -45,25 +54,20 @@ fn first_one(passes: bool, i: usize, x: u16) -> u16
     0
 }
 
-fn is_end(kind: u16) -> bool
-    ensures { λ r. ⌜ r ≡ isEnd (ofKind kind) ⌝ }
+// How far an event brings its transaction: 3 committed, 2 aborted, 1 commit called.
+fn standing_of(e: Event) -> u16
+    ensures { λ r. ⌜ r ≡ standing e ⌝ }
 {
-    if kind == Record::COMMITTED {
-        return true;
+    if is_commit(e) {
+        return 3;
     }
-    kind == Record::ABORTED
-}
-
-// How far an event of this kind brings its transaction: 3 committed, 2 aborted, 1 commit called.
-fn standing_of(kind: u16) -> u16
-    ensures { λ r. ⌜ r ≡ standing (ofKind kind) ⌝ }
-{
-    match kind {
-        Record::COMMITTED => 3,
-        Record::ABORTED => 2,
-        Record::COMMIT => 1,
-        _ => 0,
+    if is_abort(e) {
+        return 2;
     }
+    if asks_commit(e) {
+        return 1;
+    }
+    0
 }
 
 fn most(a: u16, b: u16) -> u16
@@ -72,30 +76,32 @@ fn most(a: u16, b: u16) -> u16
     if a <= b { b } else { a }
 }
 
-// What event i, of this kind, makes of the x that stood at its transaction.
-pub fn slot_at(fact: Fact, kind: u16, i: usize, x: u16) -> u16
+// What event e, of number i, makes of the x that stood at its transaction.
+pub fn slot_at(fact: Fact, e: Event, i: usize, x: u16) -> u16
     requires { ⌜ i < 2048 ⌝ }
-    ensures { λ r. ⌜ r ≡ slotAt fact (ofKind kind) i x ⌝ }
+    ensures { λ r. ⌜ r ≡ slotAt fact e i x ⌝ }
 {
     match fact {
         Fact::LastEvent => last_one(true, i, x),
-        Fact::LastWrite => last_one(kind == Record::WRITE, i, x),
-        Fact::LastBegin => last_one(kind == Record::BEGIN, i, x),
-        Fact::FirstBegin => first_one(kind == Record::BEGIN, i, x),
-        Fact::FirstEnd => first_one(is_end(kind), i, x),
-        Fact::Standing => most(x, standing_of(kind)),
+        Fact::LastWrite => last_one(is_write(e), i, x),
+        Fact::LastBegin => last_one(is_begin(e), i, x),
+        Fact::FirstBegin => first_one(is_begin(e), i, x),
+        Fact::FirstEnd => first_one(is_end(e), i, x),
+        Fact::Standing => most(x, standing_of(e)),
     }
 }
 
-pub fn table(kinds: &[u16], transactions: &[u16], count: usize, fact: Fact) -> [u16; 64]
-    requires { ⌜ Tabled (now kinds) (now transactions) count ⌝ }
-    ensures { λ r. ⌜ Slots fact (now (kinds .entry)) (now (transactions .entry)) count r ⌝ }
+// The table of a fact, for the transactions of a log.
+pub fn table(log: &[Row], fact: Fact) -> [u16; 64]
+    requires { ⌜ readable (logged (now log)) ≡ true ⌝ }
+    ensures { λ r. ⌜ Tabled fact (logged (now (log .entry))) r ⌝ }
 {
     let mut slots = [0u16; 64];
     let mut i: usize = 0;
-    while i < count {
-        let t = wide(transactions[i]);
-        slots[t] = slot_at(fact, kinds[i], i, slots[t]);
+    while i < log.len() {
+        let e = event_at(log, i);
+        let t = wide(e.transaction);
+        slots[t] = slot_at(fact, e, i, slots[t]);
         i += 1;
     }
     slots

@@ -1,92 +1,34 @@
 // The verdict: the first rule that is broken, from A to E, with its event and transaction.
 ghost use mathlib.Core.Path.{_≡_};
-ghost use Prim.Native.Nat.{ℕ, _-_, _≤_, _<_};
-ghost use lib.ListN.{length, getD};
-ghost use Rattle.log.specs.Columns.{columns, history};
+ghost use mathlib.Core.Bool.{true};
+ghost use Prim.Native.Nat.{_-_, _<_};
+ghost use lib.ListN.{length};
+ghost use Rattle.events.specs.Events.{eventAt};
+ghost use Rattle.events.specs.Questions.{readable};
+ghost use Rattle.log.specs.Rows.{logged};
+ghost use Rattle.log.specs.Starts.{startOf};
 ghost use Rattle.opacity.specs.declared.verdict.Verdict.the-variants.{Broken};
 ghost use Rattle.opacity.specs.Marking.{verdict};
-ghost use Rattle.rules.specs.Walks.{Walkable};
-ghost use Rattle.log.specs.Starts.{startOf};
-ghost use Rattle.rules.specs.Judge.{content, Given, readRule, readsVerdict};
+ghost use Rattle.opacity.specs.Transactions.{ownRight};
+ghost use Rattle.reads.specs.Own.{OwnWrites};
+ghost use Rattle.links.specs.Tables.{slot};
+ghost use Rattle.rules.specs.Orders.{broken};
+ghost use Rattle.rules.specs.Walks.{Pointable};
+ghost use Rattle.rules.specs.Judge.{content, Given, readsVerdict};
 use crate::order::rule_a;
 use crate::order::rule_b;
 use crate::places::places_of;
 use crate::places::writers_of;
-use crate::reads::first_broken;
+use crate::points::first_broken;
 use links::tables::Fact;
 use links::tables::table;
 use links::tables::wide;
-use opacity::counts::transactions_begun;
+use log::rows::Row;
+use log::rows::event_at;
+use log::rows::transactions_begun;
 use opacity::verdict::Rule;
 use opacity::verdict::Verdict;
-
-// The verdict that an event breaks a rule.
-fn broken(rule: Rule, event: usize, transactions: &[u16]) -> Verdict
-    requires { ⌜ event < length (now transactions) ⌝ }
-    ensures { λ v. ⌜ v ≡ Broken rule event (getD (now (transactions .entry)) event 0) ⌝ }
-{
-    Verdict::Broken {
-        rule,
-        event,
-        transaction: wide(transactions[event]),
-    }
-}
-
-// The rules of reads, in the order in which they are tried.
-fn read_rule(k: usize) -> Rule
-    ensures { λ r. ⌜ r ≡ readRule k ⌝ }
-{
-    if k == 0 {
-        return Rule::C;
-    }
-    if k == 1 {
-        return Rule::D;
-    }
-    Rule::E
-}
-
-// Rules C to E.
-fn judge_reads(
-    starts: &[u32; 32],
-    kinds: &[u16],
-    transactions: &[u16],
-    registers: &[u16],
-    values: &[u32],
-    count: usize,
-    link: &[u16; 2048],
-    writers: &[u16; 64],
-    place: &[u16; 64],
-    reads: &[bool; 2048],
-    gaps: &[u16; 2048],
-) -> Verdict
-    requires { ⌜ Walkable (now transactions) (now registers) (now values) count (now link) (now writers) (now place) (now reads) (now gaps) ⌝ }
-    requires { ⌜ count ≤ length (now kinds) ⌝ }
-    ensures { λ v. ⌜ v ≡ readsVerdict (startOf (now (starts .entry))) (columns (now (kinds .entry)) (now (transactions .entry)) (now (registers .entry)) (now (values .entry))) count (now (link .entry)) (now (writers .entry)) (now (place .entry)) (now (reads .entry)) (now (gaps .entry)) ⌝ }
-{
-    let mut k: usize = 0;
-    while k < 3 {
-        let rule = read_rule(k);
-        let i = first_broken(
-            rule,
-            starts,
-            kinds,
-            transactions,
-            registers,
-            values,
-            count,
-            link,
-            writers,
-            place,
-            reads,
-            gaps,
-        );
-        if i < count {
-            return broken(rule, i, transactions);
-        }
-        k += 1;
-    }
-    Verdict::Accepted
-}
+use reads::own_right;
 
 // One less, or 0.
 fn less_one(x: u16) -> usize
@@ -98,60 +40,109 @@ fn less_one(x: u16) -> usize
     wide(x) - 1
 }
 
-// The verdict on a readable marking of a readable history, whose writes are linked and whose store
-// reads are tabled.
+// The verdict that a transaction breaks a rule, with the event that a fact tells of it.
+fn broken_by(rule: Rule, log: &[Row], fact: Fact, t: usize) -> Verdict
+    requires { ⌜ readable (logged (now log)) ≡ true ⌝ }
+    requires { ⌜ t < 64 ⌝ }
+    ensures { λ v. ⌜ v ≡ Broken rule (slot fact (logged (now (log .entry))) t (length (logged (now (log .entry)))) - 1) t ⌝ }
+{
+    let told = table(log, fact);
+    Verdict::Broken {
+        rule,
+        event: less_one(told[t]),
+        transaction: t,
+    }
+}
+
+// The verdict that an event breaks a rule.
+fn broken_at(rule: Rule, log: &[Row], event: usize) -> Verdict
+    requires { ⌜ event < length (now log) ⌝ }
+    ensures { λ v. ⌜ v ≡ Broken rule event (eventAt (logged (now (log .entry))) event .transaction) ⌝ }
+{
+    let e = event_at(log, event);
+    Verdict::Broken {
+        rule,
+        event,
+        transaction: wide(e.transaction),
+    }
+}
+
+// The first event that breaks rule C, or their number.
+fn first_not_own(log: &[Row], own: &[u16; 2048]) -> usize
+    requires { ⌜ readable (logged (now log)) ≡ true ⌝ }
+    requires { ⌜ OwnWrites (logged (now log)) (now own) ⌝ }
+    ensures { λ r. ⌜ r ≡ broken (ownRight (logged (now (log .entry)))) (length (logged (now (log .entry)))) ⌝ }
+{
+    let mut i: usize = 0;
+    while i < log.len() {
+        if !own_right(log, own, i) {
+            return i;
+        }
+        i += 1;
+    }
+    log.len()
+}
+
+// Rules C to E.
+fn judge_reads(
+    starts: &[u32; 32],
+    log: &[Row],
+    own: &[u16; 2048],
+    link: &[u16; 2048],
+    writers: &[u16; 64],
+    place: &[u16; 64],
+    gaps: &[u16; 2048],
+) -> Verdict
+    requires { ⌜ OwnWrites (logged (now log)) (now own) ⌝ }
+    requires { ⌜ Pointable (logged (now log)) (now link) (now writers) (now place) (now gaps) ⌝ }
+    ensures { λ v. ⌜ v ≡ readsVerdict (startOf (now (starts .entry))) (logged (now (log .entry)))
+        (now (link .entry)) (now (writers .entry)) (now (place .entry)) (now (gaps .entry)) ⌝ }
+{
+    let c = first_not_own(log, own);
+    if c < log.len() {
+        return broken_at(Rule::C, log, c);
+    }
+    let d = first_broken(Rule::D, starts, log, link, writers, place, gaps);
+    if d < log.len() {
+        return broken_at(Rule::D, log, d);
+    }
+    let e = first_broken(Rule::E, starts, log, link, writers, place, gaps);
+    if e < log.len() {
+        return broken_at(Rule::E, log, e);
+    }
+    Verdict::Accepted
+}
+
+// The verdict on a readable marking of a readable history, whose own writes are found and whose
+// writes are linked.
 pub fn judge(
     starts: &[u32; 32],
-    kinds: &[u16],
-    transactions: &[u16],
-    registers: &[u16],
-    values: &[u32],
-    count: usize,
+    log: &[Row],
+    own: &[u16; 2048],
     link: &[u16; 2048],
-    reads: &[bool; 2048],
     order: &[u16; 64],
     outcomes: &[u8; 64],
     gaps: &[u16; 2048],
 ) -> Verdict
-    requires { ⌜ Given (columns (now kinds) (now transactions) (now registers) (now values)) count (now link) (now reads) (now order) (now outcomes) (now gaps) ⌝ }
-    ensures { λ v. ⌜ v ≡ verdict (startOf (now (starts .entry))) (history (columns (now (kinds .entry)) (now (transactions .entry)) (now (registers .entry)) (now (values .entry))) count) (content (history (columns (now (kinds .entry)) (now (transactions .entry)) (now (registers .entry)) (now (values .entry))) count) (now (order .entry)) (now (outcomes .entry)) (now (gaps .entry))) ⌝ }
+    requires { ⌜ OwnWrites (logged (now log)) (now own) ⌝ }
+    requires { ⌜ Given (logged (now log)) (now link) (now order) (now outcomes) (now gaps) ⌝ }
+    ensures { λ v. ⌜ v ≡ verdict (startOf (now (starts .entry))) (logged (now (log .entry)))
+        (content (logged (now (log .entry))) (now (order .entry)) (now (outcomes .entry)) (now (gaps .entry))) ⌝ }
 {
-    let begun = transactions_begun(kinds, transactions, registers, values, count);
+    let begun = transactions_begun(log);
     let place = places_of(order, begun);
-    let standing = table(kinds, transactions, count, Fact::Standing);
+    let standing = table(log, Fact::Standing);
     let t = rule_a(&standing, &place, outcomes, begun);
     if t < begun {
-        let last = table(kinds, transactions, count, Fact::LastEvent);
-        return Verdict::Broken {
-            rule: Rule::A,
-            event: less_one(last[t]),
-            transaction: t,
-        };
+        return broken_by(Rule::A, log, Fact::LastEvent, t);
     }
-    let ended = table(kinds, transactions, count, Fact::FirstEnd);
-    let began = table(kinds, transactions, count, Fact::LastBegin);
+    let ended = table(log, Fact::FirstEnd);
+    let began = table(log, Fact::LastBegin);
     let u = rule_b(&ended, &began, &place, begun);
     if u < begun {
-        let first = table(kinds, transactions, count, Fact::FirstBegin);
-        return Verdict::Broken {
-            rule: Rule::B,
-            event: less_one(first[u]),
-            transaction: u,
-        };
+        return broken_by(Rule::B, log, Fact::FirstBegin, u);
     }
-    let written = table(kinds, transactions, count, Fact::LastWrite);
+    let written = table(log, Fact::LastWrite);
     let writers = writers_of(order, outcomes, &written, begun);
-    judge_reads(
-        starts,
-        kinds,
-        transactions,
-        registers,
-        values,
-        count,
-        link,
-        &writers,
-        &place,
-        reads,
-        gaps,
-    )
+    judge_reads(starts, log, own, link, &writers, &place, gaps)
 }

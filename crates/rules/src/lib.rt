@@ -1,4 +1,4 @@
-// The checker's rules A to E over columns, for a readable history and a readable marking.
+// The checker's rules A to E over a log, for a readable history and a readable marking.
 //
 // Cost: the tables take one pass over the events each. Rule A looks at each transaction once, rule B
 // at each pair. Rules D and E look, for each store read, at each place between two gaps once, and at
@@ -7,4 +7,5 @@
 pub mod judge;
 pub mod order;
 pub mod places;
-pub mod reads;
+pub mod points;
+mod walk;

@@ -1,26 +1,54 @@
--- `links::tables::standing_of` meets its contract.
+-- `standing_of` meets its contract: by the tests, in their order.
 -- Assumes nothing.
-use borrow.Author.Tests.{ne-eqb}
-use Rattle.events.specs.Events.{isCommit, isAbort, asksCommit}
+use mathlib.Core.Path.{sym, _∙_}
 use Rattle.links.specs.Tables.{rank, standing}
+use borrow.Author.Needs.{needs}
 use Rattle.links.proofs.tables.standing_of.Statement.{statement}
 use Rattle.links.proofs.tables.standing_of.Tie as tie
 
+is-commit-requires : tie.Need-is-commit-requires
+is-commit-requires c κs = search needs
+
 returns : tie.Need-returns
-unfolding standing rank isCommit isAbort asksCommit
-returns c = rw (c .match .keys1)
+unfolding standing rank
+returns c = rw (sym (c .before .is-commit .ensures) ∙ c .if1 .taken)
+
+is-abort-requires : tie.Need-is-abort-requires
+is-abort-requires c κs = search needs
 
 returns-2 : tie.Need-returns-2
-unfolding standing rank isCommit isAbort asksCommit
-returns-2 c = rw (c .match .keys2)
+unfolding standing rank
+returns-2 c = rw (sym (c .before .before .before .is-commit .ensures) ∙ c .before .before .if1 .left, sym (c .before .is-abort .ensures) ∙ c .if2 .taken)
+
+asks-commit-requires : tie.Need-asks-commit-requires
+asks-commit-requires c κs = search needs
 
 returns-3 : tie.Need-returns-3
-unfolding standing rank isCommit isAbort asksCommit
-returns-3 c = rw (c .match .keys3)
+unfolding standing rank
+returns-3 c =
+    rw (
+      sym (c .before .before .before .before .before .is-commit .ensures) ∙ c .before .before .before .before .if1 .left,
+      sym (c .before .before .before .is-abort .ensures) ∙ c .before .before .if2 .left,
+      sym (c .before .asks-commit .ensures) ∙ c .if3 .taken,
+    )
 
 returns-4 : tie.Need-returns-4
-unfolding standing rank isCommit isAbort asksCommit
-returns-4 c = simp (ne-eqb _ 22 (c .match .rest .0 .0 .1), ne-eqb _ 23 (c .match .rest .0 .1), ne-eqb _ 21 (c .match .rest .1))
+unfolding standing rank
+returns-4 c =
+    rw (
+      sym (c .before .before .before .before .before .is-commit .ensures) ∙ c .before .before .before .before .if1 .left,
+      sym (c .before .before .before .is-abort .ensures) ∙ c .before .before .if2 .left,
+      sym (c .before .asks-commit .ensures) ∙ c .if3 .left,
+    )
 
 pub standing-of-spec : {M : Type 1} → statement M
-standing-of-spec = tie.close (tie.spec returns returns-2 returns-3 returns-4)
+standing-of-spec =
+    tie.close
+    (tie.spec
+    is-commit-requires
+    returns
+    is-abort-requires
+    returns-2
+    asks-commit-requires
+    returns-3
+    returns-4)

@@ -1,8 +1,14 @@
--- `links::tables::table` meets its contract.
+-- `table` meets its contract: after i events the slots are those of the first i.
 -- Assumes nothing.
 use Prim.Native.Nat.{ℕ, _-_, _≤_, _<_}
-use mathlib.Core.Path.{_≡_, subst}
+use mathlib.Core.Path.{_≡_, refl, sym, ap, _∙_, subst}
 use native.Mathlib.Omega.{arith}
+use borrow.Author.Needs.{needs}
+use lib.ListN.{length, getD}
+use Rattle.events.specs.Events.{eventAt}
+use Rattle.log.specs.Rows.{logged}
+use Rattle.log.proofs.RowLaws.{logged-length}
+use Rattle.links.proofs.LogLaws.{log-most, transaction-below}
 use Rattle.links.specs.Tables.{Slots}
 use Rattle.links.proofs.TableLaws.{slots-start, slots-more}
 use borrow.Author.Needs.{needs}
@@ -10,43 +16,44 @@ use Rattle.links.proofs.tables.table.Statement.{statement}
 use Rattle.links.proofs.tables.table.Tie as tie
 
 abbrev Inv-loop : tie.InvT-loop
-Inv-loop kinds transactions count fact slots₀ i₀ slots i = (i ≤ count) × Slots fact kinds transactions i slots
+Inv-loop log fact slots₀ i₀ slots i = (i ≤ length log) × Slots fact (logged log) i slots
 
 abbrev μ-loop : tie.MeasureT-loop
-μ-loop kinds transactions count fact slots₀ i₀ slots i = count - i
+μ-loop log fact slots₀ i₀ slots i = length log - i
+
+-- the transaction that was read has a slot
+low : (c : tie.After-wide Inv-loop μ-loop) → c .wide .result < 64
+low c =
+    let t = c .before .before .before in
+    rw (c .wide .ensures) (transaction-below (t .before .args .log .now) (t .before .pre) (c .before .before .loop-test .taken) (c .before .event-at .ensures))
+
+-- and its event an entry
+few : (c : tie.In-loop Inv-loop μ-loop) → c .before .loop .i < 2048
+few c = omega (arith, log-most (c .before .before .args .log .now) (c .before .before .pre))
 
 loop-holds : tie.Need-loop-holds Inv-loop μ-loop
-loop-holds c = (omega arith, slots-start _ _ _)
+loop-holds c = (omega arith, slots-start _ _)
 
-mul-wide : tie.Need-mul-wide Inv-loop μ-loop
-mul-wide c = search needs
-
-shared-slice-read-wide : tie.Need-shared-slice-read-wide Inv-loop μ-loop
-shared-slice-read-wide c = omega (arith, c .before .before .before .before .before .pre .transactions-long)
+event-at-requires : tie.Need-event-at-requires Inv-loop μ-loop
+event-at-requires c κs = search needs
 
 wide-requires : tie.Need-wide-requires Inv-loop μ-loop
 wide-requires c κs = search needs
 
 mul-slot-at : tie.Need-mul-slot-at Inv-loop μ-loop
-mul-slot-at c = search needs
-
-shared-slice-read-slot-at : tie.Need-shared-slice-read-slot-at Inv-loop μ-loop
-shared-slice-read-slot-at c = omega (arith, c .before .before .before .before .before .before .before .pre .kinds-long)
-
-mul-slot-at-2 : tie.Need-mul-slot-at-2 Inv-loop μ-loop
-mul-slot-at-2 c = let l : c .before .wide .result < 64 = omega (arith, c .before .wide .ensures, c .before .before .before .before .before .before .before .pre .low (c .before .before .before .before .loop .i) (omega arith)) in search needs
+mul-slot-at c = let l = low c in search needs
 
 array-read-slot-at : tie.Need-array-read-slot-at Inv-loop μ-loop
-array-read-slot-at c = omega (arith, c .before .wide .ensures, c .before .before .before .before .before .before .before .pre .low (c .before .before .before .before .loop .i) (omega arith))
+array-read-slot-at c = let l = low c in search needs
 
 slot-at-requires : tie.Need-slot-at-requires Inv-loop μ-loop
-slot-at-requires c κs = omega (arith, c .before .before .before .before .before .before .before .pre .few)
+slot-at-requires c κs = few (c .before .before)
 
 mul-slots : tie.Need-mul-slots Inv-loop μ-loop
-mul-slots c = let l : c .before .before .wide .result < 64 = omega (arith, c .before .before .wide .ensures, c .before .before .before .before .before .before .before .before .pre .low (c .before .before .before .before .before .loop .i) (omega arith)) in search needs
+mul-slots c = let l = low (c .before) in search needs
 
 array-write-slots : tie.Need-array-write-slots Inv-loop μ-loop
-array-write-slots c = omega (arith, c .before .before .wide .ensures, c .before .before .before .before .before .before .before .before .pre .low (c .before .before .before .before .before .loop .i) (omega arith))
+array-write-slots c = let l = low (c .before) in search needs
 
 add-i : tie.Need-add-i Inv-loop μ-loop
 add-i c = search needs
@@ -56,13 +63,14 @@ loop-less c = search needs
 
 loop-again : tie.Need-loop-again Inv-loop μ-loop
 loop-again c =
-    let l : c .before .before .wide .result < 64 = omega (arith, c .before .before .wide .ensures, c .before .before .before .before .before .before .before .before .pre .low (c .before .before .before .before .before .loop .i) (omega arith)) in
-    (omega arith, slots-more (c .before .before .before .before .before .before .before .before .args .fact) _ _ (c .before .before .before .before .before .loop .i) _ _ (c .before .before .before .before .before .loop .slots) (c .before .before .wide .ensures) l (c .slot-at .ensures) (c .before .before .before .before .before .loop .inv .1))
+    let t = c .before .before .before .before in
+    (search needs, slots-more (t .before .args .fact) (logged (t .before .args .log .now)) (t .loop .i) _ _ (t .loop .slots) (c .before .before .event-at .ensures) (c .before .wide .ensures) (low (c .before)) (c .slot-at .ensures) (t .loop .inv .1))
 
 returns : tie.Need-returns Inv-loop μ-loop
 returns c =
-    let e : c .before .loop .i ≡ c .before .before .before .before .args .count = omega arith in
-    subst (λ (k : ℕ). Slots (c .before .before .before .before .args .fact) (c .before .before .before .before .args .kinds .now) (c .before .before .before .before .args .transactions .now) k (c .before .loop .slots)) e (c .before .loop .inv .1)
+    let s = c .before .before in
+    let e : c .before .loop .i ≡ length (logged (s .args .log .now)) = omega (arith, logged-length (s .args .log .now)) in
+    subst (λ (k : ℕ). Slots (s .args .fact) (logged (s .args .log .now)) k (c .before .loop .slots)) e (c .before .loop .inv .1)
 
 pub table-spec : {M : Type 1} → statement M
 table-spec =
@@ -71,12 +79,9 @@ table-spec =
     Inv-loop
     μ-loop
     loop-holds
-    mul-wide
-    shared-slice-read-wide
+    event-at-requires
     wide-requires
     mul-slot-at
-    shared-slice-read-slot-at
-    mul-slot-at-2
     array-read-slot-at
     slot-at-requires
     mul-slots

@@ -1,68 +1,75 @@
--- `links::writes::links` meets its contract.
+-- `links` meets its contract: after i events their links are written, and the slots hold the last write of each transaction.
 -- Assumes nothing.
 use Prim.Native.Nat.{ℕ, _-_, _≤_, _<_}
-use mathlib.Core.Path.{_≡_, ap, _∙_, subst}
+use mathlib.Core.Path.{_≡_, refl, sym, ap, _∙_, subst}
 use native.Mathlib.Omega.{arith}
-use lib.ListN.{getD}
+use borrow.Author.Needs.{needs}
+use lib.ListN.{length, getD}
+use Rattle.events.specs.declared.event.Event.{Event}
+use Rattle.events.specs.Events.{eventAt}
+use Rattle.log.specs.Rows.{logged}
+use Rattle.log.proofs.RowLaws.{logged-length}
+use Rattle.links.proofs.LogLaws.{log-most, transaction-below}
 use Rattle.links.specs.declared.tables.Fact.the-variants.{LastWrite}
 use Rattle.links.specs.Tables.{slot, Slots}
 use Rattle.links.specs.Writes.{Links}
-use Rattle.links.proofs.TableLaws.{slots-start, slots-more}
 use Rattle.lists.proofs.FilledLaws.{filled-none, filled-more}
+use Rattle.links.proofs.TableLaws.{slots-start, slots-more}
 use borrow.Author.Needs.{needs}
 use Rattle.links.proofs.writes.links.Statement.{statement}
 use Rattle.links.proofs.writes.links.Tie as tie
 
 abbrev Inv-loop : tie.InvT-loop
-Inv-loop kinds transactions count last₀ link₀ i₀ last link i = (i ≤ count) × Slots LastWrite kinds transactions i last × Links kinds transactions i link
+Inv-loop log last₀ link₀ i₀ last link i = (i ≤ length log) × Slots LastWrite (logged log) i last × Links (logged log) i link
 
 abbrev μ-loop : tie.MeasureT-loop
-μ-loop kinds transactions count last₀ link₀ i₀ last link i = count - i
+μ-loop log last₀ link₀ i₀ last link i = length log - i
+
+-- the transaction that was read has a slot
+low : (c : tie.After-wide Inv-loop μ-loop) → c .wide .result < 64
+low c =
+    let t = c .before .before .before in
+    rw (c .wide .ensures) (transaction-below (t .before .args .log .now) (t .before .pre) (c .before .before .loop-test .taken) (c .before .event-at .ensures))
+
+-- and its event an entry
+few : (c : tie.In-loop Inv-loop μ-loop) → c .before .loop .i < 2048
+few c = omega (arith, log-most (c .before .before .args .log .now) (c .before .before .pre))
 
 loop-holds : tie.Need-loop-holds Inv-loop μ-loop
-loop-holds c = (omega arith, slots-start _ _ _, filled-none _ _ _)
+loop-holds c = (omega arith, slots-start _ _, filled-none _ _ _)
 
-mul-wide : tie.Need-mul-wide Inv-loop μ-loop
-mul-wide c = search needs
-
-shared-slice-read-wide : tie.Need-shared-slice-read-wide Inv-loop μ-loop
-shared-slice-read-wide c = omega (arith, c .before .before .before .before .before .pre .transactions-long)
+event-at-requires : tie.Need-event-at-requires Inv-loop μ-loop
+event-at-requires c κs = search needs
 
 wide-requires : tie.Need-wide-requires Inv-loop μ-loop
 wide-requires c κs = search needs
 
 mul-link : tie.Need-mul-link Inv-loop μ-loop
-mul-link c = let l : c .wide .result < 64 = omega (arith, c .wide .ensures, c .before .before .before .before .before .before .pre .low (c .before .before .before .loop .i) (omega arith)) in search needs
+mul-link c = let l = low c in search needs
 
 array-read-link : tie.Need-array-read-link Inv-loop μ-loop
-array-read-link c = omega (arith, c .wide .ensures, c .before .before .before .before .before .before .pre .low (c .before .before .before .loop .i) (omega arith))
+array-read-link c = let l = low c in search needs
 
 mul-link-2 : tie.Need-mul-link-2 Inv-loop μ-loop
 mul-link-2 c = search needs
 
 array-write-link : tie.Need-array-write-link Inv-loop μ-loop
-array-write-link c = omega (arith, c .before .before .before .before .before .before .pre .few, c .before .before .before .loop .inv .2 .size)
+array-write-link c = let l = few (c .before .before) in omega (arith, c .before .before .before .loop .inv .2 .size)
 
 mul-slot-at : tie.Need-mul-slot-at Inv-loop μ-loop
-mul-slot-at c = search needs
-
-shared-slice-read-slot-at : tie.Need-shared-slice-read-slot-at Inv-loop μ-loop
-shared-slice-read-slot-at c = omega (arith, c .before .before .before .before .before .before .before .pre .kinds-long)
-
-mul-slot-at-2 : tie.Need-mul-slot-at-2 Inv-loop μ-loop
-mul-slot-at-2 c = let l : c .before .wide .result < 64 = omega (arith, c .before .wide .ensures, c .before .before .before .before .before .before .before .pre .low (c .before .before .before .before .loop .i) (omega arith)) in search needs
+mul-slot-at c = let l = low c in search needs
 
 array-read-slot-at : tie.Need-array-read-slot-at Inv-loop μ-loop
-array-read-slot-at c = omega (arith, c .before .wide .ensures, c .before .before .before .before .before .before .before .pre .low (c .before .before .before .before .loop .i) (omega arith))
+array-read-slot-at c = let l = low c in search needs
 
 slot-at-requires : tie.Need-slot-at-requires Inv-loop μ-loop
-slot-at-requires c κs = omega (arith, c .before .before .before .before .before .before .before .pre .few)
+slot-at-requires c κs = few (c .before .before)
 
 mul-last : tie.Need-mul-last Inv-loop μ-loop
-mul-last c = let l : c .before .before .wide .result < 64 = omega (arith, c .before .before .wide .ensures, c .before .before .before .before .before .before .before .before .pre .low (c .before .before .before .before .before .loop .i) (omega arith)) in search needs
+mul-last c = let l = low (c .before) in search needs
 
 array-write-last : tie.Need-array-write-last Inv-loop μ-loop
-array-write-last c = omega (arith, c .before .before .wide .ensures, c .before .before .before .before .before .before .before .before .pre .low (c .before .before .before .before .before .loop .i) (omega arith))
+array-write-last c = let l = low (c .before) in search needs
 
 add-i : tie.Need-add-i Inv-loop μ-loop
 add-i c = search needs
@@ -72,15 +79,23 @@ loop-less c = search needs
 
 loop-again : tie.Need-loop-again Inv-loop μ-loop
 loop-again c =
-    let l : c .before .before .wide .result < 64 = omega (arith, c .before .before .wide .ensures, c .before .before .before .before .before .before .before .before .pre .low (c .before .before .before .before .before .loop .i) (omega arith)) in
-    let b : c .before .before .before .before .before .loop .i < 2048 = omega (arith, c .before .before .before .before .before .before .before .before .pre .few) in
-    let q = c .before .before .before .before .before .loop .inv .1 .holds _ l ∙ ap (λ (x : ℕ). slot LastWrite (c .before .before .before .before .before .before .before .before .args .kinds .now) (c .before .before .before .before .before .before .before .before .args .transactions .now) x (c .before .before .before .before .before .loop .i)) (c .before .before .wide .ensures) in
-    (omega arith, slots-more LastWrite _ _ (c .before .before .before .before .before .loop .i) _ _ (c .before .before .before .before .before .loop .last) (c .before .before .wide .ensures) l (c .slot-at .ensures) (c .before .before .before .before .before .loop .inv .1), filled-more _ _ (λ i. slot LastWrite (c .before .before .before .before .before .before .before .before .args .kinds .now) (c .before .before .before .before .before .before .before .before .args .transactions .now) (getD (c .before .before .before .before .before .before .before .before .args .transactions .now) i 0) i) (c .before .before .before .before .before .loop .i) _ (c .before .before .before .before .before .loop .link) b q (c .before .before .before .before .before .loop .inv .2))
+    let t = c .before .before .before .before in
+    let h = logged (t .before .args .log .now) in
+    let l = low (c .before) in
+    let q =
+    t .loop .inv .1 .holds _ l
+    ∙ ap (λ (x : ℕ). slot LastWrite h x (t .loop .i)) (c .before .wide .ensures)
+    ∙ ap (λ (x : Event). slot LastWrite h (x .transaction) (t .loop .i)) (c .before .before .event-at .ensures) in (
+      search needs,
+      slots-more LastWrite h (t .loop .i) _ _ (t .loop .last) (c .before .before .event-at .ensures) (c .before .wide .ensures) l (c .slot-at .ensures) (t .loop .inv .1),
+      filled-more _ _ (λ i. slot LastWrite h (eventAt h i .transaction) i) (t .loop .i) _ (t .loop .link) (few (c .before .before .before)) q (t .loop .inv .2),
+    )
 
 returns : tie.Need-returns Inv-loop μ-loop
 returns c =
-    let e : c .before .loop .i ≡ c .before .before .before .before .args .count = omega arith in
-    subst (λ (k : ℕ). Links (c .before .before .before .before .args .kinds .now) (c .before .before .before .before .args .transactions .now) k (c .before .loop .link)) e (c .before .loop .inv .2)
+    let s = c .before .before in
+    let e : c .before .loop .i ≡ length (logged (s .args .log .now)) = omega (arith, logged-length (s .args .log .now)) in
+    subst (λ (k : ℕ). Links (logged (s .args .log .now)) k (c .before .loop .link)) e (c .before .loop .inv .2)
 
 pub links-spec : {M : Type 1} → statement M
 links-spec =
@@ -89,16 +104,13 @@ links-spec =
     Inv-loop
     μ-loop
     loop-holds
-    mul-wide
-    shared-slice-read-wide
+    event-at-requires
     wide-requires
     mul-link
     array-read-link
     mul-link-2
     array-write-link
     mul-slot-at
-    shared-slice-read-slot-at
-    mul-slot-at-2
     array-read-slot-at
     slot-at-requires
     mul-last
