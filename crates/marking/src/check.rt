@@ -1,18 +1,24 @@
 // The checker: the questions of the history, those of the marking file, and the verdict.
 ghost use mathlib.Core.Path.{_≡_};
-ghost use Rattle.log.specs.Columns.{columns, history};
+ghost use mathlib.Core.Bool.{true};
+ghost use lib.ListN.{take};
+ghost use Rattle.events.specs.Questions.{readable};
+ghost use Rattle.log.specs.declared.admit.Checked.the-variants.{Readable};
+ghost use Rattle.log.specs.Columns.{columns};
+ghost use Rattle.log.specs.Rows.{logged, Admitted};
 ghost use Rattle.log.specs.Starts.{startOf};
-ghost use Rattle.rules.specs.Judge.{Ground};
 ghost use Rattle.marking.specs.File.{known, fileRead};
-ghost use Rattle.marking.specs.Answer.{ruled, verdictAnswer};
+ghost use Rattle.marking.specs.Answer.{ruled, afterColumns, verdictAnswer};
 use crate::read::read_marking;
 use events::refusal::Refusal;
 use links::writes::links;
-use links::writes::store_reads;
+use log::admit::admit;
 use log::admit::Checked;
-use log::admit::check_history;
-use opacity::counts::transactions_begun;
+use log::rows::Row;
+use log::rows::transactions_begun;
 use opacity::verdict::Verdict;
+use reads::own_writes;
+use reads::store_reads;
 use rules::judge::judge;
 
 // The checker's answer: the verdict of the rules; the question that refuses the history, with its
@@ -23,46 +29,45 @@ pub enum Checking {
     MarkingRefused(Refusal),
 }
 
-// The answer for a readable history.
-fn check_file(
-    starts: &[u32; 32],
-    kinds: &[u16],
-    transactions: &[u16],
-    registers: &[u16],
-    values: &[u32],
-    count: usize,
-    file: &[u8],
-) -> Checking
-    requires { ⌜ Ground (columns (now kinds) (now transactions) (now registers) (now values)) count ⌝ }
-    ensures { λ r. ⌜ r ≡ ruled (startOf (now (starts .entry))) (history (columns (now (kinds .entry)) (now (transactions .entry)) (now (registers .entry)) (now (values .entry))) count) (fileRead (known (history (columns (now (kinds .entry)) (now (transactions .entry)) (now (registers .entry)) (now (values .entry))) count)) (now (file .entry))) ⌝ }
+// Checks a marking file against the readable history in a log.
+pub fn check_log(starts: &[u32; 32], log: &[Row], file: &[u8]) -> Checking
+    requires { ⌜ readable (logged (now log)) ≡ true ⌝ }
+    ensures { λ r. ⌜ r ≡ ruled (startOf (now (starts .entry))) (logged (now (log .entry)))
+        (fileRead (known (logged (now (log .entry)))) (now (file .entry))) ⌝ }
 {
-    let begun = transactions_begun(kinds, transactions, registers, values, count);
-    let link = links(kinds, transactions, count);
-    let reads = store_reads(kinds, registers, values, &link, count);
-    let reading = read_marking(&reads, count, begun, file);
+    let begun = transactions_begun(log);
+    let own = own_writes(log);
+    let reads = store_reads(log, &own);
+    let reading = read_marking(&reads, log.len(), begun, file);
     if reading.question != 0 {
         return Checking::MarkingRefused(Refusal {
             question: reading.question,
             at: reading.byte,
         });
     }
+    let link = links(log);
     let order = reading.order;
     let outcomes = reading.outcomes;
     let gaps = reading.gaps;
-    let verdict = judge(
-        starts,
-        kinds,
-        transactions,
-        registers,
-        values,
-        count,
-        &link,
-        &reads,
-        &order,
-        &outcomes,
-        &gaps,
-    );
+    let verdict = judge(starts, log, &own, &link, &order, &outcomes, &gaps);
     Checking::Ruled(verdict)
+}
+
+// The answer for what was taken in: the question that refuses it, or the check of the first rows.
+fn check_admitted(
+    starts: &[u32; 32],
+    checked: Checked,
+    rows: &[Row],
+    count: usize,
+    file: &[u8],
+) -> Checking
+    requires { ⌜ (checked ≡ Readable → Admitted (logged (take count (now rows))) count (now rows)) ⌝ }
+    ensures { λ r. ⌜ r ≡ afterColumns (startOf (now (starts .entry))) (logged (take count (now (rows .entry)))) (now (file .entry)) checked ⌝ }
+{
+    match checked {
+        Checked::Refused(refusal) => Checking::HistoryRefused(refusal),
+        Checked::Readable => check_log(starts, &rows[..count], file),
+    }
 }
 
 // Checks a marking file against the history in the first `count` entries of the columns, of this
@@ -79,7 +84,22 @@ pub fn check_marking(
 ) -> Checking
     ensures { λ r. ⌜ r ≡ verdictAnswer edition (now (starts .entry)) (columns (now (kinds .entry)) (now (transactions .entry)) (now (registers .entry)) (now (values .entry))) count (now (file .entry)) ⌝ }
 {
-    let checked = check_history(
+    if count <= 64 {
+        let mut few = [[0u32; 4]; 64];
+        let checked = admit(
+            edition,
+            starts,
+            kinds,
+            transactions,
+            registers,
+            values,
+            count,
+            &mut few,
+        );
+        return check_admitted(starts, checked, &few, count, file);
+    }
+    let mut rows = [[0u32; 4]; 2048];
+    let checked = admit(
         edition,
         starts,
         kinds,
@@ -87,17 +107,7 @@ pub fn check_marking(
         registers,
         values,
         count,
+        &mut rows,
     );
-    match checked {
-        Checked::Refused(refusal) => Checking::HistoryRefused(refusal),
-        Checked::Readable => check_file(
-            starts,
-            kinds,
-            transactions,
-            registers,
-            values,
-            count,
-            file,
-        ),
-    }
+    check_admitted(starts, checked, &rows, count, file)
 }

@@ -18,7 +18,7 @@ use Rattle.opacity.specs.declared.verdict.Rule.{Rule}
 use Rattle.opacity.specs.declared.verdict.Rule.the-variants.{A, B, C, D, E}
 use Rattle.opacity.specs.Transactions.{Status, committed, aborted, pending, live, statusNumber, status, allows, precedes, isStoreRead, ownRight}
 use Rattle.opacity.specs.Justification.{Place, placed, before, written, outcomeKept, preceded, realTimeKept}
-use Rattle.opacity.specs.Marking.{gapOf, placeOf, others, between, noWriterBetween, valueAtGap, ruleHolds, broke, tries, verdict, lastEvent, beginOf}
+use Rattle.opacity.specs.Marking.{Marking, gapOf, placeOf, others, between, noWriterBetween, valueAtGap, ruleHolds, broke, tries, verdict, lastEvent, beginOf}
 use Rattle.opacity.proofs.Bounds.{at-most-64, transaction-known}
 use Rattle.opacity.proofs.Finder.{gap-marked, before-le}
 use Rattle.links.specs.declared.tables.Fact.the-variants.{LastEvent, LastWrite, LastBegin, FirstBegin, FirstEnd, Standing}
@@ -46,6 +46,10 @@ allows-standing live c = refl
 pub place-le : (t : ℕ) (order outcomes : List ℕ) (b : ℕ) → placeOf t (placesOf order outcomes b) ≤ b
 unfolding placeOf
 place-le t order outcomes b = let l = before-le t (placesOf order outcomes b) in let e = places-length order outcomes b in omega arith
+
+own-same : (start : ℕ → ℕ) (h : List Event) (m : Marking) → ruleHolds start h m C ≡ ownRight h
+unfolding ruleHolds
+own-same start h m = refl
 
 module _ {h : List Event} {link order outcomes gaps : List ℕ} (y : Given h link order outcomes gaps) where
   pub few-begun : begins h ≤ 64
@@ -169,11 +173,7 @@ module _ {h : List Event} {link order outcomes gaps : List ℕ} (y : Given h lin
         reads-same start =
             let free = first-ext (pointRule start h link writers place gaps D) (ruleHolds start h (content h order outcomes gaps) D) (length h) (λ i l. d-same start i l) in
             let right = first-ext (pointRule start h link writers place gaps E) (ruleHolds start h (content h order outcomes gaps) E) (length h) (λ i l. e-same start i l) in
-            rw (free, right, own)
-          where
-            own : ruleHolds start h (content h order outcomes gaps) C ≡ ownRight h
-            unfolding ruleHolds
-            own = refl
+            rw (free, right, own-same start h (content h order outcomes gaps))
 
       -- the verdict with what each rule said
       module _ (start : ℕ → ℕ) {standing : List ℕ} (s : Tabled Standing h standing) {t : ℕ} (et : t ≡ broken (outcomeBy standing place outcomes) k) where

@@ -8,6 +8,11 @@ use mathlib.Core.Path.{_≡_, refl, sym, ap, _∙_}
 use mathlib.Core.Logic.{⊎-elim}
 use mathlib.Core.Bool.{Bool, true, false, not, cond}
 use mathlib.Core.Option.{Option, none, some, Option·getD}
+use mathlib.Core.List.{List}
+use lib.ListN.{length}
+use Rattle.log.specs.Rows.{logged}
+use Rattle.log.proofs.RowLaws.{logged-length}
+use Rattle.links.proofs.LogLaws.{in-history}
 use Rattle.lists.specs.Lists.{_and_, orElse, first, lowest, every}
 use Rattle.lists.proofs.ListLaws.{clash, every-e, first-none, first-some, none-first, First, below-cases}
 use Rattle.rules.specs.Orders.{broken}
@@ -72,3 +77,16 @@ lowest-ext f g (suc n) e = ap (λ (o : Option ℕ). orElse o (f n)) (lowest-ext 
 pub first-ext : (p q : ℕ → Bool) (n : ℕ) → ((k : ℕ) → k < n → p k ≡ q k) → first (λ k. not (p k)) n ≡ first (λ k. not (q k)) n
 unfolding first
 first-ext p q n f = lowest-ext (λ k. cond (not (p k)) (some k) none) (λ k. cond (not (q k)) (some k) none) n (λ k l. ap (λ (b : Bool). cond (not b) (some k) none) (f k l))
+
+-- ---- the same over a log
+
+module _ (log : List (List ℕ)) (p : ℕ → Bool) where
+  -- the events before i pass, and i fails
+  pub first-in-log : (i : ℕ) → i < length log → ((k : ℕ) → k < i → p k ≡ true) → p i ≡ false → i ≡ broken p (length (logged log))
+  first-in-log i l f q = sym (broken-at p (length (logged log)) i (in-history log l) f q)
+
+  -- all of them pass
+  pub none-in-log : (i : ℕ) → length log ≤ i → ((k : ℕ) → k < i → p k ≡ true) → length log ≡ broken p (length (logged log))
+  none-in-log i l f =
+      let e = logged-length log in
+      sym e ∙ sym (broken-none p (length (logged log)) (λ k m. f k (omega arith)))

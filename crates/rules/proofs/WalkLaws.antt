@@ -11,11 +11,12 @@ use mathlib.Core.Option.{Option, none}
 use lib.Dec.{eqb}
 use lib.ListN.{length, take, drop, getD}
 use lib.Seq.{drop-append-le, drop-length}
-use borrow.Author.Tests.{le-leb, lt-leb}
+use borrow.Author.Tests.{eq-eqb, ne-eqb, le-leb, lt-leb}
 use Rattle.events.specs.declared.event.Event.{Event}
-use Rattle.lists.specs.Lists.{orElse, latest, keep, push}
+use Rattle.lists.specs.Lists.{_implies_, orElse, latest, keep, push}
 use Rattle.events.specs.Events.{eventAt}
 use Rattle.lists.proofs.ListLaws.{latest-snoc, orElse-none}
+use Rattle.opacity.specs.declared.verdict.Rule.{Rule}
 use Rattle.opacity.specs.Transactions.{lastWrite}
 use Rattle.opacity.specs.Justification.{Place, isOf, written, isOrder}
 use Rattle.opacity.specs.Marking.{others, between, placeOf}
@@ -25,7 +26,7 @@ use Rattle.lists.proofs.FilledLaws.{filled-at}
 use Rattle.links.specs.Writes.{writeFrom, plusOne, Linked}
 use Rattle.links.proofs.WriteLaws.{Followed, follow-start, follow-none, follow-found, follow-next, write-from, following-none}
 use Rattle.rules.specs.Orders.{placesOf, placeAt, Writers}
-use Rattle.rules.specs.Walks.{startAt, lastIn, Walkable}
+use Rattle.rules.specs.Walks.{startAt, lastIn, Walkable, pointHolds, pointRule}
 use Rattle.rules.proofs.OrderLaws.{places-length, places-take, own-place}
 
 module _ (h : List Event) (link writers : List ℕ) (own r lo : ℕ) where
@@ -73,11 +74,12 @@ module _ {h : List Event} {link writers : List ℕ} {own r lo hi k : ℕ} where
       let l = w .least in
       let m = w .most in
       let s : suc (k - 1) ≡ k = omega arith in
-      let start = follow-start (startAt writers own (k - 1)) (start-low writers own (k - 1) (length h) (y .low)) refl in
       record {
         least = omega arith;
         most = omega arith;
-        writes = subst (Followed h link r (writeFrom h link r (startAt writers own (k - 1)))) (sym e) start;
+        writes =
+            subst (Followed h link r (writeFrom h link r (startAt writers own (k - 1)))) (sym e)
+            (follow-start (startAt writers own (k - 1)) (start-low writers own (k - 1) (length h) (y .low)) refl);
         same = ap (lastIn h link writers own r lo) s ∙ w .same;
       }
 
@@ -176,3 +178,16 @@ module _ (h : List Event) (link last order outcomes writers : List ℕ) (b : ℕ
   found-before g l =
       found-in 0 g (omega arith) l
       ∙ sym (but-latest h r t _ ∙ ap (latest (writtenBut h r t)) (places-take order outcomes b g l))
+
+-- a rule of points at event i, as the code reads the event, its reader's place and its gap
+module _ (start : ℕ → ℕ) (h : List Event) (link writers place gaps : List ℕ) (i : ℕ) (rule : Rule) where
+  pub no-point : getD gaps i 0 ≡ 65535 → true ≡ pointRule start h link writers place gaps rule i
+  unfolding pointRule _implies_
+  no-point z = rw (eq-eqb _ _ z)
+
+  pub point-here : (getD gaps i 0 ≡ 65535 → ⊥) → {e : Event} → e ≡ eventAt h i → {own g : ℕ} → own ≡ getD place (e .transaction) 0 → g ≡ getD gaps i 0
+      → {b : Bool} → b ≡ pointHolds start h link writers own g e rule → b ≡ pointRule start h link writers place gaps rule i
+  unfolding pointRule _implies_
+  point-here n {e} d {own} {g} p q {b} t =
+      let o : own ≡ getD place (eventAt h i .transaction) 0 = p ∙ ap (λ (x : Event). getD place (x .transaction) 0) d in
+      rw (ne-eqb _ _ n) (t ∙ (λ k. pointHolds start h link writers (o k) (q k) (d k) rule))

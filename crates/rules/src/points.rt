@@ -105,9 +105,10 @@ pub fn holds_at(
     }
     let e = event_at(log, i);
     let own = wide(place_at(place, e));
+    let g = wide(gap);
     match rule {
-        Rule::D => no_writer_between(log, link, writers, own, wide(gap), e),
-        Rule::E => value_at_gap(starts, log, link, writers, own, wide(gap), e),
+        Rule::D => no_writer_between(log, link, writers, own, g, e),
+        Rule::E => value_at_gap(starts, log, link, writers, own, g, e),
         Rule::A => true,
         Rule::B => true,
         Rule::C => true,

@@ -1,0 +1,138 @@
+-- `holds_at` meets its contract: by the point, and then by the rule.
+-- Assumes nothing.
+use Prim.Native.Nat.{ℕ, _≤_, _<_}
+use mathlib.Core.Path.{_≡_, refl, sym, ap, _∙_}
+use mathlib.Core.Bool.{Bool, true, not}
+use native.Mathlib.Omega.{arith}
+use borrow.Author.Needs.{needs}
+use borrow.Author.Tests.{ne-eqb}
+use lib.ListN.{length, getD}
+use Rattle.opacity.specs.declared.verdict.Rule.{Rule}
+use Rattle.log.specs.Rows.{logged}
+use Rattle.log.specs.Starts.{startOf}
+use Rattle.links.proofs.LogLaws.{in-history, log-most, transaction-below, register-below}
+use Rattle.rules.specs.Walks.{hasPoint, pointHolds, pointRule}
+use Rattle.rules.proofs.WalkLaws.{no-point, point-here}
+use borrow.Author.Needs.{needs}
+use Rattle.rules.proofs.points.holds_at.Statement.{statement}
+use Rattle.rules.proofs.points.holds_at.Tie as tie
+
+-- where event, place and gap are known, and the function's entry
+abbrev entered : tie.After-wide2 → tie.Start
+entered p = p .before .before .before .before .before .before
+
+own-low : (p : tie.After-wide2) → p .before .wide .result < 64
+own-low p =
+    let e = p .before .before .place-at in
+    omega (arith, p .before .wide .ensures, e .ensures, entered p .pre .0 .places-low (p .before .before .before .event-at .result .transaction))
+
+gap-low : (p : tie.After-wide2) → p .wide2 .result ≤ 64
+gap-low p =
+    let s = entered p in
+    let n : hasPoint (s .args .gaps .now) (s .args .i) ≡ true = ap not (ne-eqb _ _ (p .before .before .before .before .if1 .left)) in
+    omega (arith, p .wide2 .ensures, s .pre .0 .gaps-low (s .args .i) (in-history (s .args .log .now) (s .pre .1)) n)
+
+-- the rule at the event, by what the rule says of the point
+abbrev here : (p : tie.After-wide2) → Rule → Bool
+here p rule =
+    pointHolds (startOf (entered p .args .starts .now)) (logged (entered p .args .log .now)) (entered p .args .link .now) (entered p .args .writers .now)
+    (p .before .wide .result) (p .wide2 .result) (p .before .before .before .event-at .result) rule
+
+abbrev whole : tie.Start → Bool
+whole s =
+    pointRule (startOf (s .args .starts .now)) (logged (s .args .log .now)) (s .args .link .now) (s .args .writers .now) (s .args .place .now) (s .args .gaps .now) (s .args .rule) (s .args .i)
+
+told : (p : tie.After-wide2) {rule : Rule} → entered p .args .rule ≡ rule → {b : Bool} → b ≡ here p rule → b ≡ whole (entered p)
+told p e t =
+    let s = entered p in
+    point-here (startOf (s .args .starts .now)) (logged (s .args .log .now)) (s .args .link .now) (s .args .writers .now) (s .args .place .now) (s .args .gaps .now) (s .args .i) (s .args .rule)
+    (p .before .before .before .before .if1 .left) (p .before .before .before .event-at .ensures) (p .before .wide .ensures ∙ p .before .before .place-at .ensures) (p .wide2 .ensures)
+    (t ∙ ap (here p) (sym e))
+
+mul-gap : tie.Need-mul-gap
+mul-gap c = search needs
+
+element-copy-out-gap : tie.Need-element-copy-out-gap
+element-copy-out-gap c = omega (arith, c .pre .1, log-most (c .args .log .now) (c .pre .0 .walk .readable))
+
+returns : tie.Need-returns
+returns c =
+    let s = c .before .before in
+    no-point (startOf (s .args .starts .now)) (logged (s .args .log .now)) (s .args .link .now) (s .args .writers .now) (s .args .place .now) (s .args .gaps .now) (s .args .i) (s .args .rule) (c .if1 .taken)
+
+event-at-requires : tie.Need-event-at-requires
+event-at-requires c κs = search needs
+
+place-at-requires : tie.Need-place-at-requires
+place-at-requires c κs =
+    let s = c .before .before .before in
+    transaction-below (s .args .log .now) (s .pre .0 .walk .readable) (s .pre .1) (c .event-at .ensures)
+
+wide-requires : tie.Need-wide-requires
+wide-requires c κs = search needs
+
+wide-requires-2 : tie.Need-wide-requires-2
+wide-requires-2 c κs = search needs
+
+enum-told : tie.Need-enum-told
+enum-told c = search needs
+
+no-writer-between-requires : tie.Need-no-writer-between-requires
+no-writer-between-requires c κs = let p = c .before .before in (entered p .pre .0 .walk, (own-low p, gap-low p))
+
+enum-told-2 : tie.Need-enum-told-2
+enum-told-2 c = search needs
+
+value-at-gap-requires : tie.Need-value-at-gap-requires
+value-at-gap-requires c κs =
+    let p = c .before .before in
+    let s = entered p in
+    (s .pre .0 .walk, (gap-low p, register-below (s .args .log .now) (s .pre .0 .walk .readable) (s .pre .1) (p .before .before .before .event-at .ensures)))
+
+enum-told-3 : tie.Need-enum-told-3
+enum-told-3 c = search needs
+
+enum-told-4 : tie.Need-enum-told-4
+enum-told-4 c = search needs
+
+enum-told-5 : tie.Need-enum-told-5
+enum-told-5 c = search needs
+
+returns-2 : tie.Need-returns-2
+returns-2 c = told (c .before .before .before) (c .before .enum-told .given .1) (c .no-writer-between .ensures)
+
+returns-3 : tie.Need-returns-3
+returns-3 c = told (c .before .before .before) (c .before .enum-told2 .given .1) (c .value-at-gap .ensures)
+
+returns-4 : tie.Need-returns-4
+returns-4 c = told (c .before .before) (c .enum-told3 .given .1) refl
+
+returns-5 : tie.Need-returns-5
+returns-5 c = told (c .before .before) (c .enum-told4 .given .1) refl
+
+returns-6 : tie.Need-returns-6
+returns-6 c = told (c .before .before) (c .enum-told5 .given .1) refl
+
+pub holds-at-spec : {M : Type 1} → statement M
+holds-at-spec =
+    tie.close
+    (tie.spec
+    mul-gap
+    element-copy-out-gap
+    returns
+    event-at-requires
+    place-at-requires
+    wide-requires
+    wide-requires-2
+    enum-told
+    no-writer-between-requires
+    enum-told-2
+    value-at-gap-requires
+    enum-told-3
+    enum-told-4
+    enum-told-5
+    returns-2
+    returns-3
+    returns-4
+    returns-5
+    returns-6)

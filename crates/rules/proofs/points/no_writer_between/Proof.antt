@@ -1,0 +1,36 @@
+-- `no_writer_between` meets its contract: nothing is found between the two places.
+-- Assumes nothing.
+use Prim.Native.Nat.{min, max}
+use mathlib.Core.Path.{_≡_, sym, _∙_}
+use native.Mathlib.Omega.{arith}
+use borrow.Author.Needs.{needs}
+use Rattle.log.specs.Rows.{logged}
+use Rattle.links.specs.Writes.{plusOne}
+use Rattle.links.proofs.WriteLaws.{none-zero}
+use Rattle.rules.specs.Walks.{lastIn, noWriter}
+use borrow.Author.Needs.{needs}
+use Rattle.rules.proofs.points.no_writer_between.Statement.{statement}
+use Rattle.rules.proofs.points.no_writer_between.Tie as tie
+
+least-requires : tie.Need-least-requires
+least-requires c κs = search needs
+
+most-requires : tie.Need-most-requires
+most-requires c κs = search needs
+
+last-writer-requires : tie.Need-last-writer-requires
+last-writer-requires c κs = search needs
+
+returns : tie.Need-returns
+unfolding noWriter
+returns c =
+    let s = c .before .before .before in
+    let own = s .args .own in
+    let g = s .args .g in
+    let o = lastIn (logged (s .args .log .now)) (s .args .link .now) (s .args .writers .now) own (s .args .e .register) (min g own) (max g own) in
+    let w : c .last-writer .result ≡ plusOne o = c .last-writer .ensures ∙ rw (c .before .before .least .ensures, c .before .most .ensures) in
+    rw w (sym (none-zero o))
+
+pub no-writer-between-spec : {M : Type 1} → statement M
+no-writer-between-spec =
+    tie.close (tie.spec least-requires most-requires last-writer-requires returns)
