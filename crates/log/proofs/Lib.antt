@@ -5,3 +5,4 @@ pub mod StartLaws
 pub mod SaidLaws
 pub mod RowLaws
 pub mod AdmitLaws
+pub mod SpillLaws
