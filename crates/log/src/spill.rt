@@ -16,7 +16,9 @@ pub fn spill(
     values: &mut [u32],
 )
     requires { ⌜ hold (columns (now kinds) (now transactions) (now registers) (now values)) (length (now log)) ≡ true ⌝ }
-    ensures { λ _. ⌜ columns (now (kinds .exit)) (now (transactions .exit)) (now (registers .exit)) (now (values .exit)) ≡ filledWith (logged (now (log .entry))) (columns (now (kinds .entry)) (now (transactions .entry)) (now (registers .entry)) (now (values .entry))) ⌝ }
+    ensures { λ _. ⌜ columns (now (kinds .exit)) (now (transactions .exit)) (now (registers .exit)) (now (values .exit))
+        ≡ filledWith (logged (now (log .entry)))
+        (columns (now (kinds .entry)) (now (transactions .entry)) (now (registers .entry)) (now (values .entry))) ⌝ }
 {
     let mut i: usize = 0;
     while i < log.len() {
