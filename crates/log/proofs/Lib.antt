@@ -6,3 +6,4 @@ pub mod SaidLaws
 pub mod RowLaws
 pub mod AdmitLaws
 pub mod DoorLaws
+pub mod SpillLaws
