@@ -206,8 +206,9 @@ pub fn complete(
 ) -> u64
     requires { ⌜ transactions ≤ 10 ⌝ }
     ensures { λ r. ⌜
-        Answers transactions r (cond (s .contradictory) none (firstCompletion (constraintsOf (now (starts .entry)) (tablesBy s
-        (now (predecessors .entry)) (now (allowed .entry)) (now (reads .entry)) (now (required .entry)) (now (written .entry)))) transactions)) ⌝ }
+        Answers transactions r (cond (s .contradictory) none (firstCompletion (constraintsOf (now (starts .entry))
+        (tablesBy s (now (predecessors .entry)) (now (allowed .entry)) (now (reads .entry)) (now (required .entry)) (now (written .entry))))
+        transactions)) ⌝ }
 {
     if s.contradictory {
         return 0;
