@@ -22,7 +22,7 @@ use Rattle.opacity.proofs.Prefixes.{own-write-at}
 use Rattle.links.specs.declared.tables.Fact.the-variants.{LastWrite}
 use Rattle.opacity.specs.Counts.{ofKind}
 use Rattle.links.specs.Tables.{lastOne, slot}
-use Rattle.links.proofs.FilledLaws.{filled-at}
+use Rattle.lists.proofs.FilledLaws.{filled-at}
 use Rattle.links.specs.Writes.{Links, following, writeFrom, Linked, plusOne, ownBy, storeReadBy, agrees, ownRightBy}
 
 -- ---- answers as numbers

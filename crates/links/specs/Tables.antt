@@ -13,11 +13,6 @@ use Rattle.opacity.specs.Counts.{ofKind}
 use Rattle.links.specs.declared.tables.Fact.{Fact}
 use Rattle.links.specs.declared.tables.Fact.the-variants.{LastEvent, LastWrite, LastBegin, FirstBegin, FirstEnd, Standing}
 
--- a table of so many entries, of which the first n are given by f, and all others are d
-pub record Filled {A : Type 0} (many : ℕ) (d : A) (f : ℕ → A) (n : ℕ) (table : List A) : Type 0 where
-  pub size : length table ≡ many
-  pub holds : (i : ℕ) → getD table i d ≡ cond (ltb i n) (f i) d
-
 -- what stands after event i, where x stood before: one past the last event that passes, one past the first one, 0 for none
 unfoldable pub lastOne : Bool → ℕ → ℕ → ℕ
 lastOne b i x = cond b (i + 1) x

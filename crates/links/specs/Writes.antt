@@ -11,7 +11,8 @@ use Rattle.lists.specs.Lists.{_and_, _implies_, isNone}
 use Rattle.events.specs.Events.{isRead}
 use Rattle.links.specs.declared.tables.Fact.the-variants.{LastWrite}
 use Rattle.opacity.specs.Counts.{ofKind}
-use Rattle.links.specs.Tables.{Filled, slot}
+use Rattle.lists.specs.Filled.{Filled}
+use Rattle.links.specs.Tables.{slot}
 
 -- each entry holds one past the last write of its event's transaction before that event, 0 for none
 abbrev pub Links : List ℕ → List ℕ → ℕ → List ℕ → Type 0

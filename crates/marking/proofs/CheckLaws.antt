@@ -23,7 +23,7 @@ use Rattle.opacity.proofs.Bounds.{at-most-64, register-low}
 use Rattle.opacity.specs.Transactions.{isStoreRead, storeReads}
 use Rattle.opacity.specs.Marking.{Point}
 use Rattle.links.specs.Writes.{Links, Reads}
-use Rattle.links.proofs.FilledLaws.{filled-at, filled-beyond}
+use Rattle.lists.proofs.FilledLaws.{filled-at, filled-beyond}
 use Rattle.links.proofs.WriteLaws.{store-read-table}
 use Rattle.rules.specs.Judge.{content as inArrays, Ground, Given}
 use Rattle.marking.specs.declared.read.Reading.{Reading}

@@ -26,7 +26,7 @@ use Rattle.opacity.proofs.Finder.{gap-marked, before-le}
 use Rattle.links.specs.declared.tables.Fact.the-variants.{LastEvent, LastWrite, LastBegin, FirstBegin, FirstEnd, Standing}
 use Rattle.links.specs.Tables.{Slots, Tabled, slot, earlier}
 use Rattle.links.specs.Writes.{Linked, ownRightBy}
-use Rattle.links.proofs.FilledLaws.{filled-at}
+use Rattle.lists.proofs.FilledLaws.{filled-at}
 use Rattle.links.proofs.TableLaws.{precedes-table, status-table, last-event, first-begin}
 use Rattle.links.proofs.WriteLaws.{links-back, head-le, store-read-table, own-right-table}
 use Rattle.rules.specs.Orders.{placesOf, Inverse, Apart, writerAt, Writers, broken, allowsBy, outcomeBy, pairBy, realTimeBy}

@@ -21,7 +21,7 @@ use Rattle.opacity.specs.Justification.{Place, isOf, written, isOrder}
 use Rattle.opacity.specs.Marking.{others, between, placeOf}
 use Rattle.links.specs.declared.tables.Fact.the-variants.{LastWrite}
 use Rattle.links.specs.Tables.{Slots}
-use Rattle.links.proofs.FilledLaws.{filled-at}
+use Rattle.lists.proofs.FilledLaws.{filled-at}
 use Rattle.links.specs.Writes.{writeFrom, plusOne, Links, Linked}
 use Rattle.links.proofs.WriteLaws.{Followed, follow-start, follow-none, follow-found, follow-next, write-from, following-none}
 use Rattle.rules.specs.Orders.{placesOf, placeAt, Writers}

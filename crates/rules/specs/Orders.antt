@@ -10,7 +10,8 @@ use lib.Dec.{eqb, ltb}
 use lib.ListN.{length, getD}
 use Rattle.lists.specs.Lists.{_implies_, first, every}
 use Rattle.opacity.specs.Justification.{Place}
-use Rattle.links.specs.Tables.{Filled, earlier}
+use Rattle.lists.specs.Filled.{Filled}
+use Rattle.links.specs.Tables.{earlier}
 
 abbrev pub placeAt : List ℕ → List ℕ → ℕ → Place
 placeAt order outcomes k = record { transaction = getD order k 0; committed = eqb (getD outcomes k 0) 1 }

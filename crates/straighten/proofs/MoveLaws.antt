@@ -19,8 +19,9 @@ use Rattle.log.proofs.ColumnLaws.{history-length}
 use Rattle.opacity.specs.Transactions.{isStoreRead, storeReads}
 use Rattle.opacity.specs.Marking.{Marking, ReadableFor, gapOf, placeOf}
 use Rattle.opacity.proofs.Finder.{events-of}
-use Rattle.links.specs.Tables.{Filled, Slots}
-use Rattle.links.proofs.FilledLaws.{filled-at}
+use Rattle.lists.specs.Filled.{Filled}
+use Rattle.links.specs.Tables.{Slots}
+use Rattle.lists.proofs.FilledLaws.{filled-at}
 use Rattle.links.specs.declared.tables.Fact.the-variants.{LastWrite}
 use Rattle.rules.specs.Orders.{Inverse, Writers}
 use Rattle.rules.specs.Judge.{content, Given, readRuleBy}

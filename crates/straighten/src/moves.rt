@@ -6,7 +6,7 @@ ghost use lib.ListN.{length, getD};
 ghost use Rattle.log.specs.Columns.{columns, history};
 ghost use Rattle.events.specs.Events.{begins};
 ghost use Rattle.log.specs.Starts.{startOf};
-ghost use Rattle.links.specs.Tables.{Filled};
+ghost use Rattle.lists.specs.Filled.{Filled};
 ghost use Rattle.rules.specs.Walks.{Walkable};
 ghost use Rattle.rules.specs.Judge.{Given, readRuleBy, content};
 ghost use Rattle.straighten.specs.Straight.{straightened, movedEvents};

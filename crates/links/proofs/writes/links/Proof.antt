@@ -8,7 +8,7 @@ use Rattle.links.specs.declared.tables.Fact.the-variants.{LastWrite}
 use Rattle.links.specs.Tables.{slot, Slots}
 use Rattle.links.specs.Writes.{Links}
 use Rattle.links.proofs.TableLaws.{slots-start, slots-more}
-use Rattle.links.proofs.FilledLaws.{filled-none, filled-more}
+use Rattle.lists.proofs.FilledLaws.{filled-none, filled-more}
 use borrow.Author.Needs.{needs}
 use Rattle.links.proofs.writes.links.Statement.{statement}
 use Rattle.links.proofs.writes.links.Tie as tie

@@ -4,7 +4,7 @@ use Prim.Native.Nat.{ℕ, _-_, _≤_}
 use mathlib.Core.Path.{_≡_, subst}
 use native.Mathlib.Omega.{arith}
 use Rattle.links.specs.Writes.{Reads}
-use Rattle.links.proofs.FilledLaws.{filled-none, filled-more}
+use Rattle.lists.proofs.FilledLaws.{filled-none, filled-more}
 use borrow.Author.Needs.{needs}
 use Rattle.links.proofs.writes.store_reads.Statement.{statement}
 use Rattle.links.proofs.writes.store_reads.Tie as tie

@@ -4,7 +4,7 @@ use Prim.Native.Nat.{ℕ, _-_, _≤_, _<_}
 use mathlib.Core.Path.{_≡_, subst}
 use native.Mathlib.Omega.{arith}
 use Rattle.rules.specs.Orders.{Writers}
-use Rattle.links.proofs.FilledLaws.{filled-none, filled-more}
+use Rattle.lists.proofs.FilledLaws.{filled-none, filled-more}
 use borrow.Author.Needs.{needs}
 use Rattle.rules.proofs.places.writers_of.Statement.{statement}
 use Rattle.rules.proofs.places.writers_of.Tie as tie

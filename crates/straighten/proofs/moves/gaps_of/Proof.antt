@@ -5,8 +5,8 @@ use mathlib.Core.Path.{_≡_, subst}
 use native.Mathlib.Omega.{arith}
 use denote.Ref.{now}
 use Rattle.straighten.specs.Tables.{gapBy}
-use Rattle.links.specs.Tables.{Filled}
-use Rattle.links.proofs.FilledLaws.{filled-none, filled-more}
+use Rattle.lists.specs.Filled.{Filled}
+use Rattle.lists.proofs.FilledLaws.{filled-none, filled-more}
 use borrow.Author.Needs.{needs}
 use Rattle.straighten.proofs.moves.gaps_of.Statement.{statement}
 use Rattle.straighten.proofs.moves.gaps_of.Tie as tie

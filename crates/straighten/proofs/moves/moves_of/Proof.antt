@@ -9,8 +9,8 @@ use Rattle.log.specs.Columns.{columns}
 use Rattle.log.specs.Starts.{startOf}
 use Rattle.rules.specs.Judge.{readRuleBy}
 use Rattle.straighten.specs.Tables.{breaksBy}
-use Rattle.links.specs.Tables.{Filled}
-use Rattle.links.proofs.FilledLaws.{filled-none, filled-more}
+use Rattle.lists.specs.Filled.{Filled}
+use Rattle.lists.proofs.FilledLaws.{filled-none, filled-more}
 use borrow.Author.Needs.{needs}
 use Rattle.straighten.proofs.moves.moves_of.Statement.{statement}
 use Rattle.straighten.proofs.moves.moves_of.Tie as tie

@@ -9,7 +9,7 @@ use lib.Dec.{eqb, ltb}
 use lib.ListN.{getD, set, replicate, length-set, length-replicate}
 use lib.Seq.{getD-set-same, getD-set-other}
 use borrow.Author.Tests.{eqb-true, eqb-false, lt-ltb, le-ltb, ltb-true, ltb-false}
-use Rattle.links.specs.Tables.{Filled}
+use Rattle.lists.specs.Filled.{Filled}
 
 module _ {A : Type 0} (many : ℕ) (d : A) (f : ℕ → A) where
   blank : (m i : ℕ) → getD (replicate m d) i d ≡ d

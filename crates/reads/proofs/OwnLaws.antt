@@ -1,0 +1,232 @@
+-- The last write of each transaction to each register, event by event, and what it says of a read.
+-- Assumes nothing.
+use Prim.Native.Nat.{ℕ, zero, suc, _+_, _*_, _≤_, _<_}
+use native.Mathlib.Nat.{not-suc-le-zero}
+use native.Mathlib.Numerals.{add-one}
+use native.Mathlib.Omega.{arith}
+use mathlib.Core.Path.{_≡_, refl, sym, ap, _∙_, subst}
+use mathlib.Core.Logic.{⊎-elim}
+use mathlib.Core.Bool.{Bool, true, false, not, cond}
+use mathlib.Core.List.{List, [], _∷_, _++_}
+use mathlib.Core.Option.{Option, none, some}
+use lib.Dec.{eqb}
+use lib.ListN.{length, take, getD, set, replicate, length-set, length-replicate, getD-replicate}
+use lib.Seq.{take-suc, getD-set-same, getD-set-other}
+use borrow.Author.Tests.{eqb-true, eqb-false}
+use Rattle.lists.specs.Lists.{_and_, _implies_, isNone, orElse, keep, latest, range}
+use Rattle.lists.proofs.ListLaws.{and-false-l, and-false-r, eqb-self, latest-snoc, below-cases}
+use Rattle.events.specs.declared.event.Event.{Event}
+use Rattle.events.specs.Events.{noEvent, eventAt, isRead, isWrite, by}
+use Rattle.events.specs.Questions.{readable}
+use Rattle.opacity.specs.Transactions.{lastWrite, ownWrite, isOwnRead, isStoreRead, storeReads, isValue, ownRight}
+use Rattle.opacity.specs.Counts.{one}
+use Rattle.opacity.proofs.Bounds.{transaction-low, register-low}
+use Rattle.opacity.proofs.HowMany.{how-many-more, how-many-low}
+use Rattle.reads.specs.Own.{Low, slotOf, notedAt, valueBefore, OwnWrites}
+
+pub low : (h : List Event) → readable h ≡ true → (i : ℕ) → i < length h → Low (eventAt h i)
+low h r i l = record { transaction = transaction-low h r i l; register = register-low h r i l }
+
+-- the last write with one event more
+write-more : (h : List Event) (i : ℕ) → i < length h → (t r : ℕ)
+    → lastWrite (take (i + 1) h) t r
+    ≡ orElse (cond (by isWrite t (eventAt h i) and eqb (eventAt h i .register) r) (some (eventAt h i .value)) none) (lastWrite (take i h) t r)
+unfolding lastWrite
+write-more h i l t r = rw (add-one i, take-suc h i noEvent l, latest-snoc)
+
+-- the value behind what the table has after the event
+value-noted : (h : List Event) (i x : ℕ) → valueBefore h (notedAt (eventAt h i) i x) ≡ cond (isWrite (eventAt h i)) (some (eventAt h i .value)) (valueBefore h x)
+value-noted h i x = go (isWrite (eventAt h i))
+  where
+    go : (b : Bool) → valueBefore h (cond b (i + 1) x) ≡ cond b (some (eventAt h i .value)) (valueBefore h x)
+    go true = rw (add-one i)
+    go false = refl
+
+noted-low : (e : Event) (i x : ℕ) → x ≤ i → notedAt e i x ≤ i + 1
+noted-low e i x l = go (isWrite e)
+  where
+    go : (b : Bool) → cond b (i + 1) x ≤ i + 1
+    go true = omega arith
+    go false = omega arith
+
+-- how far the pass has come, by the events before i
+pub record Noting (h : List Event) (last own : List ℕ) (i : ℕ) : Type 0 where
+  pub inside : i ≤ length h
+  pub size : length last ≡ 2048
+  pub long : length own ≡ 2048
+  pub early : (k : ℕ) → getD last k 0 ≤ i
+  pub slots : (t r : ℕ) → t < 64 → r < 32 → valueBefore h (getD last (t * 32 + r) 0) ≡ lastWrite (take i h) t r
+  pub earlier : (j : ℕ) → j < i → getD own j 0 ≤ j
+  pub holds : (j : ℕ) → j < i → valueBefore h (getD own j 0) ≡ ownWrite h j
+
+blank : (n k : ℕ) → _≡_ {A = ℕ} (getD (replicate n 0) k 0) 0
+blank zero k = refl
+blank (suc n) zero = refl
+blank (suc n) (suc k) = blank n k
+
+pub noting-first : (h : List Event) → Noting h (replicate 2048 0) (replicate 2048 0) 0
+unfolding lastWrite latest
+noting-first h =
+    record {
+      inside = omega arith;
+      size = length-replicate {A = ℕ} 2048 0;
+      long = length-replicate {A = ℕ} 2048 0;
+      early = λ k. omega (arith, blank 2048 k);
+      slots = λ t r lt lr. rw (blank 2048 (t * 32 + r));
+      earlier = λ j l. absurd (not-suc-le-zero l);
+      holds = λ j l. absurd (not-suc-le-zero l);
+    }
+
+module _ (h : List Event) (last own : List ℕ) (i : ℕ) (w : Noting h last own i) (l : i < length h) (few : i < 2048) (low : Low (eventAt h i)) where
+  abbrev T : ℕ
+  T = eventAt h i .transaction
+
+  abbrev R : ℕ
+  R = eventAt h i .register
+
+  abbrev after : List ℕ
+  after = set last (T * 32 + R) (notedAt (eventAt h i) i (getD last (T * 32 + R) 0))
+
+  abbrev seen : List ℕ
+  seen = set own i (getD last (T * 32 + R) 0)
+
+  early-more : (k : ℕ) → getD after k 0 ≤ i + 1
+  early-more k = go (eqb k (T * 32 + R)) refl
+    where
+      go : (b : Bool) → eqb k (T * 32 + R) ≡ b → getD after k 0 ≤ i + 1
+      go true e =
+          let q : k ≡ T * 32 + R = eqb-true k (T * 32 + R) e in
+          rw (q, getD-set-same last (T * 32 + R) (notedAt (eventAt h i) i (getD last (T * 32 + R) 0)) 0 (omega (arith, w .size, low .transaction, low .register)))
+          (noted-low (eventAt h i) i (getD last (T * 32 + R) 0) (w .early (T * 32 + R)))
+      go false e =
+          rw (getD-set-other last (T * 32 + R) k (notedAt (eventAt h i) i (getD last (T * 32 + R) 0)) 0 (eqb-false k (T * 32 + R) e))
+          (omega (arith, w .early k))
+
+  slots-more : (t r : ℕ) → t < 64 → r < 32 → valueBefore h (getD after (t * 32 + r) 0) ≡ lastWrite (take (i + 1) h) t r
+  unfolding by _and_
+  slots-more t r lt lr = go (eqb T t) refl (eqb R r) refl
+    where
+      other : (t * 32 + r ≡ T * 32 + R → ⊥) → (by isWrite t (eventAt h i) and eqb R r) ≡ false
+          → valueBefore h (getD after (t * 32 + r) 0) ≡ lastWrite (take (i + 1) h) t r
+      other n f =
+          ap (valueBefore h) (getD-set-other last (T * 32 + R) (t * 32 + r) _ 0 n)
+          ∙ (w .slots t r lt lr
+          ∙ sym (write-more h i l t r ∙ ap (λ (b : Bool). orElse (cond b (some (eventAt h i .value)) none) (lastWrite (take i h) t r)) f))
+
+      here : valueBefore h (getD after (T * 32 + R) 0) ≡ lastWrite (take (i + 1) h) T R
+      here =
+          ap (valueBefore h) (getD-set-same last (T * 32 + R) _ 0 (omega (arith, w .size, low .transaction, low .register)))
+          ∙ (value-noted h i (getD last (T * 32 + R) 0)
+          ∙ (ap (cond (isWrite (eventAt h i)) (some (eventAt h i .value))) (w .slots T R (low .transaction) (low .register))
+          ∙ (plain (isWrite (eventAt h i)) ∙ sym (write-more h i l T R))))
+        where
+          plain : (b : Bool) → cond b (some (eventAt h i .value)) (lastWrite (take i h) T R)
+              ≡ orElse (cond ((eqb T T and b) and eqb R R) (some (eventAt h i .value)) none) (lastWrite (take i h) T R)
+          plain true = rw (eqb-self T, eqb-self R)
+          plain false = rw (eqb-self T)
+
+      go : (a : Bool) → eqb T t ≡ a → (b : Bool) → eqb R r ≡ b → valueBefore h (getD after (t * 32 + r) 0) ≡ lastWrite (take (i + 1) h) t r
+      go false p b q =
+          let d : T ≡ t → ⊥ = eqb-false T t p in
+          other (λ z. omega (arith, low .transaction, low .register)) (and-false-l _ (eqb R r) (and-false-l (eqb T t) (isWrite (eventAt h i)) p))
+      go true p false q =
+          let d : R ≡ r → ⊥ = eqb-false R r q in
+          let e : T ≡ t = eqb-true T t p in
+          other (λ z. omega arith) (and-false-r (by isWrite t (eventAt h i)) (eqb R r) q)
+      go true p true q =
+          subst (λ (y : ℕ). valueBefore h (getD after (t * 32 + y) 0) ≡ lastWrite (take (i + 1) h) t y) (eqb-true R r q)
+          (subst (λ (v : ℕ). valueBefore h (getD after (v * 32 + R) 0) ≡ lastWrite (take (i + 1) h) v R) (eqb-true T t p) here)
+
+  -- of each event that is passed, and of this one
+  seen-old : (j : ℕ) → j < i → getD seen j 0 ≡ getD own j 0
+  seen-old j m = getD-set-other own i j (getD last (T * 32 + R) 0) 0 (λ z. omega arith)
+
+  seen-new : getD seen i 0 ≡ getD last (T * 32 + R) 0
+  seen-new = getD-set-same own i (getD last (T * 32 + R) 0) 0 (omega (arith, w .long))
+
+  earlier-more : (j : ℕ) → j < i + 1 → getD seen j 0 ≤ j
+  earlier-more j m =
+      ⊎-elim
+      (λ e. subst (λ (m : ℕ). getD seen m 0 ≤ m) (sym e) (subst (λ (x : ℕ). x ≤ i) (sym seen-new) (w .early (T * 32 + R))))
+      (λ n. rw (seen-old j n) (w .earlier j n))
+      (below-cases (rw add-one at m))
+
+  holds-more : (j : ℕ) → j < i + 1 → valueBefore h (getD seen j 0) ≡ ownWrite h j
+  unfolding ownWrite
+  holds-more j m =
+      ⊎-elim
+      (λ e.
+      subst (λ (m : ℕ). valueBefore h (getD seen m 0) ≡ ownWrite h m) (sym e)
+      (ap (valueBefore h) seen-new ∙ w .slots T R (low .transaction) (low .register)))
+      (λ n. rw (seen-old j n) (w .holds j n))
+      (below-cases (rw add-one at m))
+
+  pub noting-more : (e : Event) (k x : ℕ) → e ≡ eventAt h i → k ≡ slotOf e → x ≡ notedAt e i (getD last k 0)
+      → Noting h (set last k x) (set own i (getD last k 0)) (i + 1)
+  noting-more e k x same at noted =
+      let a : k ≡ T * 32 + R = at ∙ ap slotOf same in
+      let n : x ≡ notedAt (eventAt h i) i (getD last (T * 32 + R) 0) = noted ∙ (λ j. notedAt (same j) i (getD last (a j) 0)) in
+      rw (n, a)
+      (record {
+        inside = omega arith;
+        size = length-set last _ _ ∙ w .size;
+        long = length-set own _ _ ∙ w .long;
+        early = early-more;
+        slots = slots-more;
+        earlier = earlier-more;
+        holds = holds-more;
+      })
+
+pub noting-done : (h : List Event) (last own : List ℕ) (i : ℕ) → length h ≤ i → Noting h last own i → OwnWrites h own
+noting-done h last own i l w =
+    record { earlier = λ j m. w .earlier j (omega arith); holds = λ j m. w .holds j (omega arith) }
+
+-- ---- what it says of a read
+
+module _ (h : List Event) (own : List ℕ) (o : OwnWrites h own) (i : ℕ) (l : i < length h) where
+  none-before : (x : ℕ) → valueBefore h x ≡ ownWrite h i → x ≡ 0 → isNone (ownWrite h i) ≡ true
+  none-before x v z = ap isNone (sym v) ∙ ap (λ (y : ℕ). isNone (valueBefore h y)) z
+
+  some-before : (x : ℕ) → valueBefore h x ≡ ownWrite h i → (x ≡ 0 → ⊥) → isNone (ownWrite h i) ≡ false
+  some-before zero v n = absurd (n refl)
+  some-before (suc x) v n = ap isNone (sym v)
+
+  pub no-own : getD own i 0 ≡ 0 → isStoreRead h i ≡ isRead (eventAt h i)
+  unfolding isStoreRead _and_
+  no-own z = ap (λ (b : Bool). isRead (eventAt h i) and b) (none-before (getD own i 0) (o .holds i l) z) ∙ plain (isRead (eventAt h i))
+    where
+      plain : (b : Bool) → (b and true) ≡ b
+      plain true = refl
+      plain false = refl
+
+  pub some-own : (getD own i 0 ≡ 0 → ⊥) → isStoreRead h i ≡ false
+  unfolding isStoreRead
+  some-own n = and-false-r (isRead (eventAt h i)) _ (some-before (getD own i 0) (o .holds i l) n)
+
+  -- rule C: without an own write nothing is asked, nor of what is no read
+  pub right-none : getD own i 0 ≡ 0 → ownRight h i ≡ true
+  unfolding ownRight isOwnRead _implies_
+  right-none z =
+      let f : (isRead (eventAt h i) and not (isNone (ownWrite h i))) ≡ false =
+      and-false-r (isRead (eventAt h i)) _ (ap not (none-before (getD own i 0) (o .holds i l) z)) in
+      ap (λ (b : Bool). b implies isValue (eventAt h i .value) (ownWrite h i)) f
+
+  pub right-other : isRead (eventAt h i) ≡ false → ownRight h i ≡ true
+  unfolding ownRight isOwnRead _implies_
+  right-other r = ap (λ (b : Bool). b implies isValue (eventAt h i .value) (ownWrite h i)) (and-false-l _ (not (isNone (ownWrite h i))) r)
+
+  -- and an own read must return what was written
+  pub right-own : (j : ℕ) → getD own i 0 ≡ suc j → isRead (eventAt h i) ≡ true → ownRight h i ≡ eqb (eventAt h i .value) (eventAt h j .value)
+  unfolding ownRight isOwnRead _implies_ _and_
+  right-own j e r =
+      let v : ownWrite h i ≡ some (eventAt h j .value) = sym (o .holds i l) ∙ ap (valueBefore h) e in
+      rw (r, v)
+
+-- ---- how many there are
+
+pub reads-more : (h : List Event) (i : ℕ)
+    → length (keep (isStoreRead h) (range (i + 1))) ≡ length (keep (isStoreRead h) (range i)) + one (isStoreRead h i)
+reads-more h i = how-many-more (isStoreRead h) i
+
+pub reads-few : (h : List Event) (i : ℕ) → length (keep (isStoreRead h) (range i)) ≤ i
+reads-few h i = how-many-low (isStoreRead h) i

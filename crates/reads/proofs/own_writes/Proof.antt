@@ -1,0 +1,110 @@
+-- `own_writes` meets its contract: one pass, which keeps the last write of each transaction to each register. Assumes nothing.
+use borrow.Author.Needs.{needs}
+use Prim.Native.Nat.{_-_, _<_}
+use mathlib.Core.Path.{_≡_, sym, ap, _∙_, subst}
+use native.Mathlib.Omega.{arith}
+use lib.ListN.{length}
+use Rattle.events.specs.Events.{eventAt}
+use Rattle.events.proofs.ReadableLaws.{readable-most}
+use Rattle.log.specs.Rows.{logged}
+use Rattle.log.proofs.RowLaws.{logged-length}
+use Rattle.reads.specs.Own.{Low}
+use Rattle.reads.proofs.OwnLaws.{low, Noting, noting-first, noting-more, noting-done}
+use Rattle.reads.proofs.own_writes.Statement.{statement}
+use Rattle.reads.proofs.own_writes.Tie as tie
+
+abbrev Inv-loop : tie.InvT-loop
+Inv-loop log last₀ own₀ i₀ last own i = Noting (logged log) last own i
+
+abbrev μ-loop : tie.MeasureT-loop
+μ-loop log last₀ own₀ i₀ last own i = length log - i
+
+-- an event that a turn takes is one of the history's, of which there are at most 2,048
+inside : (c : tie.In-loop Inv-loop μ-loop) → c .before .loop .i < length (logged (c .before .before .args .log .now))
+inside c = omega (arith, logged-length (c .before .before .args .log .now), c .loop-test .taken)
+
+few : (c : tie.In-loop Inv-loop μ-loop) → c .before .loop .i < 2048
+few c = omega (arith, inside c, readable-most _ (c .before .before .pre))
+
+its-low : (c : tie.After-event-at Inv-loop μ-loop) → Low (c .event-at .result)
+its-low c = subst Low (sym (c .event-at .ensures)) (low _ (c .before .before .before .pre) (c .before .before .loop .i) (inside (c .before)))
+
+loop-holds : tie.Need-loop-holds Inv-loop μ-loop
+loop-holds c = noting-first (logged (c .args .log .now))
+
+event-at-requires : tie.Need-event-at-requires Inv-loop μ-loop
+event-at-requires c κs = search needs
+
+slot-of-requires : tie.Need-slot-of-requires Inv-loop μ-loop
+slot-of-requires c κs = its-low c
+
+mul-own : tie.Need-mul-own Inv-loop μ-loop
+mul-own c = search needs
+
+array-read-own : tie.Need-array-read-own Inv-loop μ-loop
+array-read-own c = omega (arith, c .slot-of .ensures .1, c .before .before .before .loop .inv .size)
+
+mul-own-2 : tie.Need-mul-own-2 Inv-loop μ-loop
+mul-own-2 c = search needs
+
+array-write-own : tie.Need-array-write-own Inv-loop μ-loop
+array-write-own c = few (c .before .before)
+
+mul-noted-at : tie.Need-mul-noted-at Inv-loop μ-loop
+mul-noted-at c = search needs
+
+array-read-noted-at : tie.Need-array-read-noted-at Inv-loop μ-loop
+array-read-noted-at c = omega (arith, c .slot-of .ensures .1, c .before .before .before .loop .inv .size)
+
+noted-at-requires : tie.Need-noted-at-requires Inv-loop μ-loop
+noted-at-requires c κs = few (c .before .before)
+
+mul-last : tie.Need-mul-last Inv-loop μ-loop
+mul-last c = search needs
+
+array-write-last : tie.Need-array-write-last Inv-loop μ-loop
+array-write-last c = omega (arith, c .before .slot-of .ensures .1, c .before .before .before .before .loop .inv .size)
+
+add-i : tie.Need-add-i Inv-loop μ-loop
+add-i c = search needs
+
+loop-less : tie.Need-loop-less Inv-loop μ-loop
+loop-less c = search needs
+
+loop-again : tie.Need-loop-again Inv-loop μ-loop
+loop-again c =
+    let l = c .before .before .before .before in
+    let s = l .before in
+    let n = c .before .before .before .loop-test .taken in
+    noting-more (logged (s .args .log .now)) (l .loop .last) (l .loop .own) (l .loop .i) (l .loop .inv) (inside (c .before .before .before))
+    (few (c .before .before .before)) (low _ (s .pre) (l .loop .i) (inside (c .before .before .before)))
+    (c .before .before .event-at .result) _ _ (c .before .before .event-at .ensures) (c .before .slot-of .ensures .0) (c .noted-at .ensures)
+
+returns : tie.Need-returns Inv-loop μ-loop
+returns c =
+    let l = c .before in
+    noting-done (logged (l .before .args .log .now)) (l .loop .last) (l .loop .own) (l .loop .i)
+    (omega (arith, logged-length (l .before .args .log .now), c .loop-test .left)) (l .loop .inv)
+
+pub own-writes-spec : {M : Type 1} → statement M
+own-writes-spec =
+    tie.close
+    (tie.spec
+    Inv-loop
+    μ-loop
+    loop-holds
+    event-at-requires
+    slot-of-requires
+    mul-own
+    array-read-own
+    mul-own-2
+    array-write-own
+    mul-noted-at
+    array-read-noted-at
+    noted-at-requires
+    mul-last
+    array-write-last
+    add-i
+    loop-less
+    loop-again
+    returns)

@@ -1,0 +1,34 @@
+-- Vocabulary between crates: it need not be believed, the public contracts end in the paper's definitions.
+-- The last write of each transaction to each register, as one past its event.
+-- Assumes nothing.
+use Prim.Native.Nat.{ℕ, zero, suc, _+_, _*_, _≤_, _<_}
+use mathlib.Core.Path.{_≡_}
+use mathlib.Core.Bool.{Bool, cond}
+use mathlib.Core.List.{List}
+use mathlib.Core.Option.{Option, none, some}
+use lib.ListN.{length, getD}
+use Rattle.events.specs.declared.event.Event.{Event}
+use Rattle.events.specs.Events.{isWrite, eventAt}
+use Rattle.opacity.specs.Transactions.{ownWrite}
+
+-- an event of a transaction and a register for which there is a slot
+pub record Low (e : Event) : Type 0 where
+  pub transaction : e .transaction < 64
+  pub register : e .register < 32
+
+abbrev pub slotOf : Event → ℕ
+slotOf e = e .transaction * 32 + e .register
+
+-- one past event i, if it writes
+abbrev pub notedAt : Event → ℕ → ℕ → ℕ
+notedAt e i before = cond (isWrite e) (i + 1) before
+
+-- the value that is written by the event before a number, none before 0
+abbrev pub valueBefore : List Event → ℕ → Option ℕ
+valueBefore h zero = none
+valueBefore h (suc j) = some (eventAt h j .value)
+
+-- for each event, one past an earlier one, which wrote its register last in its transaction; 0 for none
+pub record OwnWrites (h : List Event) (own : List ℕ) : Type 0 where
+  pub earlier : (i : ℕ) → i < length h → getD own i 0 ≤ i
+  pub holds : (i : ℕ) → i < length h → valueBefore h (getD own i 0) ≡ ownWrite h i
