@@ -20,7 +20,10 @@ unfolding tablesOf
 tables-snoc h e = through-snoc empty h e
 
 -- one event more, as the code counts
+pub take-more : (h : List Event) (i : ℕ) → i < length h → take (i + 1) h ≡ take i h ++ (eventAt h i ∷ [])
+take-more h i l = rw (add-one i) (take-suc h i noEvent l)
+
 pub tables-more : (h : List Event) (i : ℕ) → i < length h → (s r : Tables) (e : Event) → s ≡ tablesOf (take i h) → e ≡ eventAt h i → r ≡ next s e
     → r ≡ tablesOf (take (i + 1) h)
 tables-more h i l s r e p q f =
-    f ∙ ap₂ next p q ∙ sym (tables-snoc (take i h) (eventAt h i)) ∙ ap tablesOf (sym (rw (add-one i) (take-suc h i noEvent l)))
+    f ∙ ap₂ next p q ∙ sym (tables-snoc (take i h) (eventAt h i)) ∙ ap tablesOf (sym (take-more h i l))
