@@ -5,6 +5,7 @@ use Prim.Native.Nat.{ℕ, _≤_, _<_}
 use native.Mathlib.Omega.{arith}
 use mathlib.Core.Bool.{true}
 use mathlib.Core.List.{List}
+use lib.ListN.{length}
 use borrow.Author.Tests.{le-leb, lt-leb, leb-true}
 use Rattle.events.specs.declared.event.Event.{Event}
 use Rattle.log.specs.declared.admit.Checked.{Checked}
@@ -20,9 +21,10 @@ use Rattle.log.proofs.StartLaws.{fine, fine-answer}
 use Rattle.log.proofs.AnswerLaws.{columns-readable, readable-columns}
 use Rattle.opacity.specs.declared.verdict.Scanned.{Scanned}
 use Rattle.opacity.specs.Scan.{scan}
+use Rattle.tables.specs.Calls.{thenChecked}
 use Rattle.tables.proofs.CallLaws.{asked-none, asked-yes, asked-no, asked-e, then-readable, then-refused, then-e}
 use Rattle.scan.specs.declared.Scanning.{Scanning}
-use Rattle.scan.specs.Answer.{Passed, scannedSaid, said, sizeRefusal, scanRefusal, decided, scanAnswer}
+use Rattle.scan.specs.Answer.{Passed, scannedSaid, said, sizeRefusal, scanRefusal, decided, scanOf, scanAfter, scanAnswer}
 
 -- ---- what is decided
 
@@ -96,11 +98,21 @@ module _ (edition : ℕ) (starts : List ℕ) (c : Columns) (count : ℕ) where
 
   -- ---- the questions one after the other, as `scan_history` puts them
 
-  pub history-refused : {r : Refusal} → historyAnswer edition starts c count ≡ Checked.Refused r → Scanning.Refused r ≡ scanAnswer edition starts c count
-  unfolding scanAnswer scanRefusal
-  history-refused x = decided-refused _ (then-refused _ x)
+  pub scan-after : (x : Checked) (h : List Event) → x ≡ historyAnswer edition starts c count → (x ≡ Checked.Readable → h ≡ history c count)
+      → scanAfter x starts h count ≡ scanAnswer edition starts c count
+  unfolding scanAfter scanAnswer scanRefusal
+  scan-after x h e f = rw (← e) (go x f)
+    where
+      go : (y : Checked) → (y ≡ Checked.Readable → h ≡ history c count)
+          → decided (thenChecked y (sizeRefusal h count)) (scan (startOf starts) h) ≡ decided (thenChecked y (sizeRefusal (history c count) count)) (scan (startOf starts) (history c count))
+      go Checked.Readable g = rw (g refl)
+      go (Checked.Refused r) g = rw (then-refused {a = Checked.Refused r} (sizeRefusal h count) refl, then-refused {a = Checked.Refused r} (sizeRefusal (history c count) count) refl) (sym (decided-refused {x = Checked.Refused r} (scan (startOf starts) h) refl) ∙ decided-refused {x = Checked.Refused r} (scan (startOf starts) (history c count)) refl)
 
-  pub events-decide : historyAnswer edition starts c count ≡ Checked.Readable
-      → decided (sizeRefusal (history c count) count) (scan (startOf starts) (history c count)) ≡ scanAnswer edition starts c count
-  unfolding scanAnswer scanRefusal
-  events-decide x = ap (λ (y : Checked). decided y (scan (startOf starts) (history c count))) (sym (then-readable _ x))
+-- a refusal is the answer, whatever the scan would say
+pub after-refused : {x : Checked} {r : Refusal} (starts : List ℕ) (h : List Event) (count : ℕ) → x ≡ Checked.Refused r → Scanning.Refused r ≡ scanAfter x starts h count
+unfolding scanAfter
+after-refused starts h count e = decided-refused _ (then-refused _ e)
+
+pub after-readable : {x : Checked} (starts : List ℕ) (h : List Event) (count : ℕ) → length h ≡ count → x ≡ Checked.Readable → scanOf starts h ≡ scanAfter x starts h count
+unfolding scanAfter scanOf
+after-readable starts h count l e = rw l (ap (λ (y : Checked). decided y (scan (startOf starts) h)) (sym (then-readable _ e)))

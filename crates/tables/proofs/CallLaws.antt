@@ -12,7 +12,9 @@ use Rattle.events.specs.Said.{refuse}
 use Rattle.events.specs.Questions.{Question, ask, refusal}
 use Rattle.log.specs.Answer.{refusedWith}
 use Rattle.events.proofs.QuestionLaws.{ask-yes, ask-no}
-use Rattle.tables.specs.Calls.{askedOf, thenChecked}
+use Rattle.events.specs.declared.event.Event.{Event}
+use Rattle.log.specs.Rows.{Admitted}
+use Rattle.tables.specs.Calls.{askedOf, thenChecked, Taken}
 
 -- a refusal is not an answer that lets pass
 pub refused-readable : (r : Refusal) → Checked.Refused r ≡ Checked.Readable → ⊥
@@ -59,3 +61,9 @@ pub then-then : (a b c : Checked) → thenChecked (thenChecked a b) c ≡ thenCh
 unfolding thenChecked
 then-then Checked.Readable b c = refl
 then-then (Checked.Refused r) b c = refl
+
+-- ---- the rows that were taken in
+
+-- they hold what is logged in them
+pub taken-in : (x : Checked) (h : List Event) (n : ℕ) (rows : List (List ℕ)) → (x ≡ Checked.Readable → Admitted h n rows) → Taken x n rows
+taken-in x h n rows f e = let a = f e in record { room = a .room; same = refl; readable = rw (a .same) (a .readable) }
