@@ -3,7 +3,7 @@
 ghost use mathlib.Core.Path.{_≡_};
 ghost use lib.ListN.{take};
 ghost use Rattle.log.specs.Columns.{columns};
-ghost use Rattle.log.specs.Rows.{logged, Passed};
+ghost use Rattle.log.specs.Rows.{logged, Entered};
 ghost use Rattle.counts.specs.Answer.{transactionsOf, storeReadsOf, tallyOf, transactionsAnswer, storeReadsAnswer, tallyAnswer};
 
 pub mod tally;
@@ -31,7 +31,7 @@ pub enum Tallying {
 
 // Counts the transactions of rows taken in.
 fn count_begun(checked: Checked, rows: &[Row], count: usize) -> Counting
-    requires { ⌜ Passed checked count (now rows) ⌝ }
+    requires { ⌜ Entered checked count (now rows) ⌝ }
     ensures { λ r. ⌜ r ≡ transactionsOf checked (logged (take count (now (rows .entry)))) ⌝ }
 {
     if let Checked::Refused(refusal) = checked {
@@ -43,7 +43,7 @@ fn count_begun(checked: Checked, rows: &[Row], count: usize) -> Counting
 
 // Counts the store reads of rows taken in.
 fn count_reads(checked: Checked, rows: &[Row], count: usize) -> Counting
-    requires { ⌜ Passed checked count (now rows) ⌝ }
+    requires { ⌜ Entered checked count (now rows) ⌝ }
     ensures { λ r. ⌜ r ≡ storeReadsOf checked (logged (take count (now (rows .entry)))) ⌝ }
 {
     if let Checked::Refused(refusal) = checked {
@@ -55,7 +55,7 @@ fn count_reads(checked: Checked, rows: &[Row], count: usize) -> Counting
 
 // Tallies the transactions of rows taken in.
 fn tally_rows(checked: Checked, rows: &[Row], count: usize) -> Tallying
-    requires { ⌜ Passed checked count (now rows) ⌝ }
+    requires { ⌜ Entered checked count (now rows) ⌝ }
     ensures { λ r. ⌜ r ≡ tallyOf checked (logged (take count (now (rows .entry)))) ⌝ }
 {
     if let Checked::Refused(refusal) = checked {

@@ -8,10 +8,9 @@ use Rattle.log.specs.Rows.{logged}
 use Rattle.log.specs.Starts.{startOf}
 use Rattle.opacity.proofs.Bounds.{at-most-64}
 use Rattle.links.proofs.LogLaws.{log-most}
-use Rattle.marking.specs.declared.check.Checking.the-variants.{Ruled}
-use Rattle.marking.specs.Answer.{ruled}
+use Rattle.marking.specs.declared.check.Ruling.{Ruling}
+use Rattle.marking.specs.Answer.{ruling}
 use Rattle.marking.proofs.CheckLaws.{none-beyond, given, reading-refused, reading-content}
-use borrow.Author.Needs.{needs}
 use Rattle.marking.proofs.check.check_log.Statement.{statement}
 use Rattle.marking.proofs.check.check_log.Tie as tie
 
@@ -43,15 +42,16 @@ read-marking-requires c κs =
     let r = c .before in
     let b = r .before .before .before in
     let s = b .before .before in
-    let f = at-most-64 (logged (s .args .log .now)) (s .pre) in
-    ((log-most (s .args .log .now) (s .pre), omega (arith, b .transactions-begun .ensures)),
-    none-beyond (s .args .log .now) (b .transactions-begun .result) (r .store-reads .result) (b .transactions-begun .ensures) (r .store-reads .ensures))
+    let f = at-most-64 (logged (s .args .log .now)) (s .pre) in (
+      (log-most (s .args .log .now) (s .pre), omega (arith, b .transactions-begun .ensures)),
+      none-beyond (s .args .log .now) (b .transactions-begun .result) (r .store-reads .result) (b .transactions-begun .ensures) (r .store-reads .ensures),
+    )
 
 returns : tie.Need-returns
 returns c =
     let m = c .before .before in
     let s = entered m in
-    sym (ap (ruled (startOf (s .args .starts .now)) (logged (s .args .log .now)))
+    sym (ap (ruling (startOf (s .args .starts .now)) (logged (s .args .log .now)))
     (reading-refused (s .args .log .now) (counted m .transactions-begun .result) (tabled m .store-reads .result) (counted m .transactions-begun .ensures) (tabled m .store-reads .ensures)
     (m .read-marking .result) (s .args .file .now) (m .read-marking .ensures .0) (c .if1 .taken)))
 
@@ -62,10 +62,11 @@ judge-requires : tie.Need-judge-requires
 judge-requires c κs =
     let l = linked c in
     let m = l .before .before .before in
-    let s = entered m in
-    (tabled m .before .before .own-writes .ensures,
-    given (s .args .log .now) (counted m .transactions-begun .result) (tabled m .store-reads .result) (counted m .transactions-begun .ensures) (tabled m .store-reads .ensures)
-    (m .read-marking .result) (m .read-marking .ensures .1 (l .before .if1 .left)) (s .pre) (l .links .ensures))
+    let s = entered m in (
+      tabled m .before .before .own-writes .ensures,
+      given (s .args .log .now) (counted m .transactions-begun .result) (tabled m .store-reads .result) (counted m .transactions-begun .ensures) (tabled m .store-reads .ensures)
+          (m .read-marking .result) (m .read-marking .ensures .1 (l .before .if1 .left)) (s .pre) (l .links .ensures),
+    )
 
 returns-2 : tie.Need-returns-2
 returns-2 c =
@@ -73,8 +74,8 @@ returns-2 c =
     let m = l .before .before .before in
     let s = entered m in
     let whole = l .before .if1 .left in
-    ap Ruled (c .judge .ensures)
-    ∙ sym (ap (ruled (startOf (s .args .starts .now)) (logged (s .args .log .now)))
+    ap Ruling.Ruled (c .judge .ensures)
+    ∙ sym (ap (ruling (startOf (s .args .starts .now)) (logged (s .args .log .now)))
     (reading-content (s .args .log .now) (counted m .transactions-begun .result) (tabled m .store-reads .result) (counted m .transactions-begun .ensures) (tabled m .store-reads .ensures)
     (m .read-marking .result) (m .read-marking .ensures .1 whole) (s .args .file .now) (m .read-marking .ensures .0) whole))
 
