@@ -6,13 +6,13 @@ ghost use lib.ListN.{length, getD};
 ghost use Rattle.events.specs.Questions.{refusal, numbered};
 ghost use Rattle.marking.specs.File.{headQuestions, opening, fileRead};
 ghost use Rattle.marking.specs.State.{knownBy, readAs, Kept};
-use crate::step::NO_POINT;
 use crate::step::Step;
 use crate::step::step_at;
 use records::fields::u16_at;
 use records::record::Found;
 use records::record::Record;
 use records::record::record_at;
+use rules::points::NO_POINT;
 
 // What was read: the question that says no, with its byte, or 0 and the places in order, with the
 // gap of each store read by event.

@@ -14,6 +14,7 @@ use records::fields::u32_at;
 use records::record::Found;
 use records::record::Record;
 use records::record::record_at;
+use rules::points::NO_POINT;
 
 // A place or a point with the byte where its record ends; the question that says no, at a record or
 // at the end of the file; or the end, where none says no.
@@ -24,9 +25,6 @@ pub enum Step {
     Unfinished(u8),
     Finished,
 }
-
-// In a table of gaps: no point.
-pub const NO_POINT: u16 = 65535;
 
 // The first of 24 and 25 that says no to a place, or 0.
 fn place_asked(begun: usize, used: &[bool; 64], next: usize, t: u16, o: u16) -> u8

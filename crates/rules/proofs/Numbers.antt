@@ -1,24 +1,19 @@
 -- The first number that fails a test, as a program finds it by going upwards; tests that agree.
 -- Assumes nothing.
 use Prim.Native.Nat.{ℕ, zero, suc, _+_, _≤_, _<_}
-use native.Mathlib.Nat.{le-step, lt-suc-self}
+use native.Mathlib.Nat.{not-suc-le-zero, le-step, lt-suc-self}
 use native.Mathlib.Numerals.{add-one}
 use native.Mathlib.Omega.{arith}
 use mathlib.Core.Path.{_≡_, refl, sym, ap, _∙_}
 use mathlib.Core.Logic.{⊎-elim}
 use mathlib.Core.Bool.{Bool, true, false, not, cond}
 use mathlib.Core.Option.{Option, none, some, Option·getD}
-use mathlib.Core.List.{List}
-use lib.ListN.{length}
-use Rattle.log.specs.Rows.{logged}
-use Rattle.log.proofs.RowLaws.{logged-length}
-use Rattle.links.proofs.LogLaws.{in-history}
 use Rattle.lists.specs.Lists.{_and_, orElse, first, lowest, every}
-use Rattle.lists.proofs.ListLaws.{clash, every-e, first-none, first-some, none-first, First, below-cases}
+use Rattle.lists.proofs.ListLaws.{clash, every-e, every-i, first-none, first-some, none-first, First, below-cases}
 use Rattle.rules.specs.Orders.{broken}
 
 module _ (p : ℕ → Bool) (n : ℕ) where
-  pub broken-at : (i : ℕ) → i < n → ((k : ℕ) → k < i → p k ≡ true) → p i ≡ false → broken p n ≡ i
+  broken-at : (i : ℕ) → i < n → ((k : ℕ) → k < i → p k ≡ true) → p i ≡ false → broken p n ≡ i
   unfolding broken
   broken-at i l f q = go (first (λ k. not (p k)) n) refl
     where
@@ -30,12 +25,9 @@ module _ (p : ℕ → Bool) (n : ℕ) where
           let b : i < k → ⊥ = λ m. clash {b = not (p i)} (ap not q) (r .least i m) in
           omega arith
 
-  pub broken-none : ((k : ℕ) → k < n → p k ≡ true) → broken p n ≡ n
+  broken-none : ((k : ℕ) → k < n → p k ≡ true) → broken p n ≡ n
   unfolding broken
   broken-none f = let e : first (λ k. not (p k)) n ≡ none = none-first (λ k. not (p k)) n (λ k l. ap not (f k l)) in rw e
-
-  pub so-far : (i : ℕ) → ((k : ℕ) → k < i → p k ≡ true) → p i ≡ true → (k : ℕ) → k < i + 1 → p k ≡ true
-  so-far i f q k l = ⊎-elim (λ e. rw e q) (λ m. f k m) (below-cases (rw (add-one i) at l))
 
 -- what a number that a rule gave says of the first that fails
 module _ (p : ℕ → Bool) (n c : ℕ) (e : c ≡ broken p n) where
@@ -55,12 +47,45 @@ module _ (p : ℕ → Bool) (n c : ℕ) (e : c ≡ broken p n) where
       go none d = absurd (omega arith)
       go (some k) d = ap some (sym d)
 
-pub every-fails : (p : ℕ → Bool) (n k : ℕ) → k < n → p k ≡ false → every p n ≡ false
+every-fails : (p : ℕ → Bool) (n k : ℕ) → k < n → p k ≡ false → every p n ≡ false
 every-fails p n k l f = go (every p n) refl
   where
     go : (b : Bool) → every p n ≡ b → b ≡ false
     go true e = absurd (clash (every-e p n e k l) f)
     go false e = refl
+
+-- ---- going upwards
+
+-- the numbers below i pass the test, of those below n
+pub record Passing (p : ℕ → Bool) (n i : ℕ) : Type 0 where
+  pub within : i ≤ n
+  pub before : (k : ℕ) → k < i → p k ≡ true
+
+pub passing-first : (p : ℕ → Bool) (n : ℕ) → Passing p n 0
+passing-first p n = record { within = omega arith; before = λ k l. absurd (not-suc-le-zero l) }
+
+module _ (p : ℕ → Bool) {n i : ℕ} (w : Passing p n i) where
+  -- one more, with what the test said of i
+  module _ (l : i < n) {b : Bool} (e : b ≡ p i) where
+    pub passing-more : b ≡ true → Passing p n (i + 1)
+    passing-more q = record { within = omega arith; before = λ k m. ⊎-elim (λ z. rw z (sym e ∙ q)) (w .before k) (below-cases (rw (add-one i) at m)) }
+
+    pub fails-here : b ≡ false → i ≡ broken p n
+    fails-here q = sym (broken-at p n i l (w .before) (sym e ∙ q))
+
+    pub not-every : b ≡ false → false ≡ every p n
+    not-every q = sym (every-fails p n i l (sym e ∙ q))
+
+  -- all of them
+  module _ (l : n ≤ i) where
+    all-pass : (k : ℕ) → k < n → p k ≡ true
+    all-pass k m = w .before k (omega arith)
+
+    pub none-fails : n ≡ broken p n
+    none-fails = sym (broken-none p n all-pass)
+
+    pub every-one : true ≡ every p n
+    every-one = sym (every-i p n all-pass)
 
 -- ---- tests that agree
 
@@ -77,16 +102,3 @@ lowest-ext f g (suc n) e = ap (λ (o : Option ℕ). orElse o (f n)) (lowest-ext 
 pub first-ext : (p q : ℕ → Bool) (n : ℕ) → ((k : ℕ) → k < n → p k ≡ q k) → first (λ k. not (p k)) n ≡ first (λ k. not (q k)) n
 unfolding first
 first-ext p q n f = lowest-ext (λ k. cond (not (p k)) (some k) none) (λ k. cond (not (q k)) (some k) none) n (λ k l. ap (λ (b : Bool). cond (not b) (some k) none) (f k l))
-
--- ---- the same over a log
-
-module _ (log : List (List ℕ)) (p : ℕ → Bool) where
-  -- the events before i pass, and i fails
-  pub first-in-log : (i : ℕ) → i < length log → ((k : ℕ) → k < i → p k ≡ true) → p i ≡ false → i ≡ broken p (length (logged log))
-  first-in-log i l f q = sym (broken-at p (length (logged log)) i (in-history log l) f q)
-
-  -- all of them pass
-  pub none-in-log : (i : ℕ) → length log ≤ i → ((k : ℕ) → k < i → p k ≡ true) → length log ≡ broken p (length (logged log))
-  none-in-log i l f =
-      let e = logged-length log in
-      sym e ∙ sym (broken-none p (length (logged log)) (λ k m. f k (omega arith)))

@@ -3,55 +3,66 @@
 -- Assumes nothing.
 use Prim.Native.Nat.{ℕ, _≤_}
 use native.Mathlib.Omega.{arith}
-use mathlib.Core.Path.{_≡_, sym, ap, _∙_, fun-ext}
+use mathlib.Core.Path.{_≡_, refl, sym, ap, _∙_, fun-ext}
 use mathlib.Core.Bool.{Bool, true, false}
 use mathlib.Core.List.{List}
 use lib.Dec.{leb}
-use lib.ListN.{length, getD}
+use lib.ListN.{length, getD, take}
 use borrow.Author.Tests.{leb-true}
 use Rattle.events.specs.declared.event.Event.{Event}
 use Rattle.lists.specs.Lists.{_and_}
 use Rattle.records.specs.Bytes.{Bytes}
+use Rattle.lists.specs.Filled.{Filled}
 use Rattle.log.specs.Columns.{Columns, history}
+use Rattle.log.specs.Rows.{logged, Admitted}
+use Rattle.log.specs.Starts.{startOf}
+use Rattle.log.proofs.RowLaws.{logged-length}
+use Rattle.log.specs.Answer.{historyAnswer}
+use Rattle.log.specs.declared.admit.Checked.{Checked}
+use Rattle.log.specs.declared.admit.Checked.the-variants.{Readable, Refused as Refuses}
 use Rattle.events.specs.Events.{begins}
 use Rattle.lists.proofs.ListLaws.{and-l, and-r}
-use Rattle.log.proofs.ColumnLaws.{history-length}
 use Rattle.opacity.specs.declared.verdict.Verdict.{Verdict}
-use Rattle.opacity.specs.Counts.{HoldsReadable}
 use Rattle.opacity.specs.Transactions.{isStoreRead, storeReads}
 use Rattle.opacity.specs.Marking.{Marking, ReadableFor, markingBytes, verdict}
 use Rattle.opacity.proofs.MarkingBytes.{readable-length}
-use Rattle.rules.specs.Judge.{content as inArrays, Ground, Given}
+use Rattle.rules.specs.Judge.{content as inArrays, Given}
 use Rattle.marking.specs.File.{known, content, fileRead}
-use Rattle.marking.proofs.CheckLaws.{ground, reads-same}
+use Rattle.marking.proofs.CheckLaws.{reads-same}
 use Rattle.marking.proofs.WriteBack.{content-bytes}
 use Rattle.marking_writer.specs.Points.{pointsTo}
 use Rattle.marking_writer.proofs.PointLaws.{points-are}
 use Rattle.events.specs.Said.{refuse}
 use Rattle.straighten.specs.declared.Straightening.the-variants.{Refused}
 use Rattle.straighten.specs.Straight.{straightened, movedEvents}
-use Rattle.straighten.specs.Answer.{gives, settled, judged, roomy, afterFile}
-use Rattle.straighten.specs.Tables.{Room, pointsIn, bytesIn}
+use Rattle.straighten.specs.Answer.{gives, settled, judged, roomy, afterFile, afterColumns, straightenedAnswer}
+use Rattle.straighten.specs.Tables.{Room, listed, pointsIn, bytesIn, bytesOf}
 use Rattle.straighten.proofs.MoveLaws.{arrays-readable}
-
-pub grounded : {c : Columns} {n : ℕ} → HoldsReadable c n → Ground c n
-grounded {c} {n} p = ground c n (p .readable) record { kinds = p .kinds-long; transactions = p .transactions-long; registers = p .registers-long; values = p .values-long }
 
 -- ---- bytes and room
 
-module _ {c : Columns} {n : ℕ} {link : List ℕ} {reads : List Bool} {order outcomes gaps : List ℕ} (y : Given c n link reads order outcomes gaps) {k : ℕ} (ek : k ≡ begins (history c n)) where
+-- what is written, as the code counts events and transactions
+pub bytes-counted : (log : List (List ℕ)) (order outcomes : List ℕ) (reads : List Bool) (gaps : List ℕ) {b : ℕ} → b ≡ begins (logged log)
+    → bytesIn order outcomes b reads gaps (length log) ≡ bytesOf (logged log) order outcomes reads gaps
+bytes-counted log order outcomes reads gaps e i = bytesIn order outcomes (e i) reads gaps (sym (logged-length log) i)
+
+pub listed-counted : (log : List (List ℕ)) (moves : List Bool) → listed moves (length log) ≡ listed moves (length (logged log))
+listed-counted log moves i = listed moves (sym (logged-length log) i)
+
+module _ (log : List (List ℕ)) {reads : List Bool} (tabled : Filled 2048 false (isStoreRead (logged log)) (length log) reads)
+    {link order outcomes gaps : List ℕ} (y : Given (logged log) link order outcomes gaps) where
   -- what is written is the marking in the arrays,
-  pub bytes-same : bytesIn order outcomes k reads gaps n ≡ markingBytes (inArrays (history c n) order outcomes gaps)
+  pub bytes-same : bytesOf (logged log) order outcomes reads gaps ≡ markingBytes (inArrays (logged log) order outcomes gaps)
   unfolding markingBytes inArrays storeReads
   bytes-same =
-      let store : (λ (i : ℕ). getD reads i false) ≡ isStoreRead (history c n) = fun-ext (reads-same c n k link reads ek (y .links) (y .tabled)) in
-      let e : pointsIn reads gaps n ≡ pointsTo (isStoreRead (history c n)) (λ i. getD gaps i 0) (length (history c n)) =
-      (λ j. pointsTo (store j) (λ i. getD gaps i 0) (sym (history-length c n) j)) in
-      rw (ek, e, points-are (isStoreRead (history c n)) (λ i. getD gaps i 0) (length (history c n)))
+      let store : (λ (i : ℕ). getD reads i false) ≡ isStoreRead (logged log) = fun-ext (reads-same log (begins (logged log)) reads refl tabled) in
+      let e : pointsIn reads gaps (length (logged log)) ≡ pointsTo (isStoreRead (logged log)) (λ i. getD gaps i 0) (length (logged log)) =
+      (λ j. pointsTo (store j) (λ i. getD gaps i 0) (length (logged log))) in
+      rw (e, points-are (isStoreRead (logged log)) (λ i. getD gaps i 0) (length (logged log)))
 
   -- for which there is room
-  pub bytes-fit : {output list : ℕ} → Room (history c n) output list → length (bytesIn order outcomes k reads gaps n) ≤ output
-  bytes-fit room = omega (arith, room .bytes, ap length bytes-same, readable-length (history c n) (inArrays (history c n) order outcomes gaps) (arrays-readable y))
+  pub bytes-fit : {output list : ℕ} → Room (logged log) output list → length (bytesOf (logged log) order outcomes reads gaps) ≤ output
+  bytes-fit room = omega (arith, room .bytes, ap length bytes-same, readable-length (logged log) (inArrays (logged log) order outcomes gaps) (arrays-readable y))
 
 -- ---- the answer
 
@@ -80,3 +91,16 @@ module _ (start : ℕ → ℕ) (h : List Event) (n : ℕ) (file output list : Li
         let s = ap length (content-bytes (known h) file by m holds) in
         let k = readable-length h m f in
         record { bytes = omega arith; entries = leb-true _ _ (and-r _ _ e) }
+
+-- ---- the door: what was admitted is what the columns hold
+
+pub door : (edition : ℕ) (starts : List ℕ) (c : Columns) (n : ℕ) (file output list : List ℕ) (rows : List (List ℕ)) {x : Checked}
+    → x ≡ historyAnswer edition starts c n → (x ≡ Readable → Admitted (history c n) n rows)
+    → afterColumns (startOf starts) (logged (take n rows)) n file output list x ≡ straightenedAnswer edition starts c n file output list
+unfolding straightenedAnswer
+door edition starts c n file output list rows {x} e a = go x refl ∙ ap (afterColumns (startOf starts) (history c n) n file output list) e
+  where
+    go : (k : Checked) → x ≡ k
+        → afterColumns (startOf starts) (logged (take n rows)) n file output list k ≡ afterColumns (startOf starts) (history c n) n file output list k
+    go Readable q = ap (λ (h : List Event). afterColumns (startOf starts) h n file output list Readable) (a q .same)
+    go (Refuses r) q = refl

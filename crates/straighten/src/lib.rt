@@ -4,34 +4,42 @@
 // succeeds exactly if outcomes and order justify the history, and that the checker accepts what it
 // writes (proofs/Theorems). A point that stays is judged twice, by itself and with all the others.
 ghost use mathlib.Core.Path.{_≡_};
+ghost use mathlib.Core.Bool.{true};
 ghost use Prim.Native.Nat.{_≤_};
 ghost use lib.Dec.{leb};
-ghost use lib.ListN.{length};
+ghost use lib.ListN.{length, take};
 ghost use Rattle.lists.specs.Lists.{_and_};
-ghost use Rattle.log.specs.Columns.{columns, history};
 ghost use Rattle.events.specs.Events.{begins};
+ghost use Rattle.events.specs.Questions.{readable};
+ghost use Rattle.log.specs.declared.admit.Checked.the-variants.{Readable};
+ghost use Rattle.log.specs.Columns.{columns};
+ghost use Rattle.log.specs.Rows.{logged, Admitted};
 ghost use Rattle.log.specs.Starts.{startOf};
-ghost use Rattle.opacity.specs.Counts.{HoldsReadable};
-ghost use Rattle.rules.specs.Judge.{Given as Judgeable, content};
+ghost use Rattle.rules.specs.Judge.{content};
 ghost use Rattle.marking.specs.File.{known, fileRead};
-ghost use Rattle.straighten.specs.Answer.{gives, settled, judged, afterFile, straightenedAnswer};
-ghost use Rattle.straighten.specs.Tables.{Room, listed, bytesIn};
+ghost use Rattle.straighten.specs.Answer.{gives, settled, judged, afterFile, afterColumns, straightenedAnswer};
+ghost use Rattle.straighten.specs.Tables.{Room, Read, listed, bytesOf};
 
 mod moves;
 mod write;
 
+use crate::moves::Straight;
 use crate::moves::straight_of;
 use crate::write::list_moved;
 use crate::write::write_marking;
 use events::refusal::Refusal;
 use links::writes::links;
-use links::writes::store_reads;
+use log::admit::admit;
 use log::admit::Checked;
-use log::admit::check_history;
+use log::rows::Row;
+use log::rows::transactions_begun;
+use marking::read::Reading;
 use marking::read::read_marking;
-use opacity::counts;
 use opacity::verdict::Rule;
 use opacity::verdict::Verdict;
+use reads::count_store_reads;
+use reads::own_writes;
+use reads::store_reads;
 use rules::judge::judge;
 
 // The answer: the length of the marking written and the number of events moved; the rule that is
@@ -55,20 +63,20 @@ pub enum Straightening {
 // moved events. There is room for both.
 fn settle(
     verdict: Verdict,
+    log: &[Row],
     order: &[u16; 64],
     outcomes: &[u8; 64],
-    begun: usize,
     reads: &[bool; 2048],
-    gaps: &[u16; 2048],
-    moves: &[bool; 2048],
-    count: usize,
+    straight: Straight,
     output: &mut [u8],
     moved: &mut [u32],
 ) -> Straightening
-    requires { ⌜ (begun ≤ 64) × (count ≤ 2048) ⌝ }
-    requires { ⌜ length (bytesIn (now order) (now outcomes) begun (now reads) (now gaps) count) ≤ length (now output) ⌝ }
-    requires { ⌜ length (listed (now moves) count) ≤ length (now moved) ⌝ }
-    ensures { λ r. ⌜ gives r (now (output .exit)) (now (moved .exit)) ≡ settled (bytesIn (now (order .entry)) (now (outcomes .entry)) begun (now (reads .entry)) (now (gaps .entry)) count) (listed (now (moves .entry)) count) (now (output .entry)) (now (moved .entry)) verdict ⌝ }
+    requires { ⌜ readable (logged (now log)) ≡ true ⌝ }
+    requires { ⌜ length (bytesOf (logged (now log)) (now order) (now outcomes) (now reads) (straight .gaps)) ≤ length (now output) ⌝ }
+    requires { ⌜ length (listed (straight .moves) (length (logged (now log)))) ≤ length (now moved) ⌝ }
+    ensures { λ r. ⌜ gives r (now (output .exit)) (now (moved .exit))
+        ≡ settled (bytesOf (logged (now (log .entry))) (now (order .entry)) (now (outcomes .entry)) (now (reads .entry)) (straight .gaps))
+        (listed (straight .moves) (length (logged (now (log .entry))))) (now (output .entry)) (now (moved .entry)) verdict ⌝ }
 {
     if let Verdict::Broken {
         rule,
@@ -81,74 +89,49 @@ fn settle(
             transaction,
         };
     }
-    let length = write_marking(order, outcomes, begun, reads, gaps, count, output);
-    let number = list_moved(moves, count, moved);
+    let begun = transactions_begun(log);
+    let points = straight.gaps;
+    let moves = straight.moves;
+    let length = write_marking(order, outcomes, begun, reads, &points, log.len(), output);
+    let number = list_moved(&moves, log.len(), moved);
     Straightening::Straightened {
         length,
         moved: number,
     }
 }
 
-// Moves the points of a readable marking, judges what comes out, and settles.
+// Moves the points of a marking that was read, judges what comes out, and settles.
 fn straighten_points(
     starts: &[u32; 32],
-    kinds: &[u16],
-    transactions: &[u16],
-    registers: &[u16],
-    values: &[u32],
-    count: usize,
-    begun: usize,
-    link: &[u16; 2048],
+    log: &[Row],
+    own: &[u16; 2048],
     reads: &[bool; 2048],
-    order: &[u16; 64],
-    outcomes: &[u8; 64],
-    gaps: &[u16; 2048],
+    reading: Reading,
     output: &mut [u8],
     moved: &mut [u32],
 ) -> Straightening
-    requires { ⌜ Judgeable (columns (now kinds) (now transactions) (now registers) (now values)) count (now link) (now reads) (now order) (now outcomes) (now gaps) ⌝ }
-    requires { ⌜ begun ≡ begins (history (columns (now kinds) (now transactions) (now registers) (now values)) count) ⌝ }
-    requires { ⌜ Room (history (columns (now kinds) (now transactions) (now registers) (now values)) count) (length (now output)) (length (now moved)) ⌝ }
-    ensures { λ r. ⌜ gives r (now (output .exit)) (now (moved .exit)) ≡ judged (startOf (now (starts .entry))) (history (columns (now (kinds .entry)) (now (transactions .entry)) (now (registers .entry)) (now (values .entry))) count) (content (history (columns (now (kinds .entry)) (now (transactions .entry)) (now (registers .entry)) (now (values .entry))) count) (now (order .entry)) (now (outcomes .entry)) (now (gaps .entry))) (now (output .entry)) (now (moved .entry)) ⌝ }
+    requires { ⌜ Read (now log) (now own) (now reads) reading ⌝ }
+    requires { ⌜ Room (logged (now log)) (length (now output)) (length (now moved)) ⌝ }
+    ensures { λ r. ⌜ gives r (now (output .exit)) (now (moved .exit))
+        ≡ judged (startOf (now (starts .entry))) (logged (now (log .entry)))
+        (content (logged (now (log .entry))) (reading .order) (reading .outcomes) (reading .gaps))
+        (now (output .entry)) (now (moved .entry)) ⌝ }
 {
-    let straight = straight_of(
-        starts,
-        kinds,
-        transactions,
-        registers,
-        values,
-        count,
-        begun,
-        link,
-        reads,
-        order,
-        outcomes,
-        gaps,
-    );
-    let moves = straight.moves;
+    let begun = transactions_begun(log);
+    let link = links(log);
+    let order = reading.order;
+    let outcomes = reading.outcomes;
+    let gaps = reading.gaps;
+    let straight = straight_of(starts, log, begun, &link, &order, &outcomes, &gaps);
     let points = straight.gaps;
-    let verdict = judge(
-        starts,
-        kinds,
-        transactions,
-        registers,
-        values,
-        count,
-        link,
-        reads,
-        order,
-        outcomes,
-        &points,
-    );
+    let verdict = judge(starts, log, own, &link, &order, &outcomes, &points);
     settle(
         verdict,
-        order,
-        outcomes,
-        begun,
+        log,
+        &order,
+        &outcomes,
         reads,
-        &points,
-        &moves,
-        count,
+        straight,
         output,
         moved,
     )
@@ -164,57 +147,61 @@ fn has_room(marking: usize, output: usize, points: usize, entries: usize) -> boo
     points <= entries
 }
 
-// The answer for a readable history: the marking's questions, 15, and then the rules.
-fn straighten_file(
+// Straightens the read points of a marking file for the readable history in a log: the marking's
+// questions, 15, and then the rules.
+pub fn straighten_log(
     starts: &[u32; 32],
-    kinds: &[u16],
-    transactions: &[u16],
-    registers: &[u16],
-    values: &[u32],
-    count: usize,
+    log: &[Row],
     file: &[u8],
     output: &mut [u8],
     moved: &mut [u32],
 ) -> Straightening
-    requires { ⌜ HoldsReadable (columns (now kinds) (now transactions) (now registers) (now values)) count ⌝ }
-    ensures { λ r. ⌜ gives r (now (output .exit)) (now (moved .exit)) ≡ afterFile (startOf (now (starts .entry))) (history (columns (now (kinds .entry)) (now (transactions .entry)) (now (registers .entry)) (now (values .entry))) count) count (now (file .entry)) (now (output .entry)) (now (moved .entry)) (fileRead (known (history (columns (now (kinds .entry)) (now (transactions .entry)) (now (registers .entry)) (now (values .entry))) count)) (now (file .entry))) ⌝ }
+    requires { ⌜ readable (logged (now log)) ≡ true ⌝ }
+    ensures { λ r. ⌜ gives r (now (output .exit)) (now (moved .exit))
+        ≡ afterFile (startOf (now (starts .entry))) (logged (now (log .entry))) (length (now (log .entry)))
+        (now (file .entry)) (now (output .entry)) (now (moved .entry))
+        (fileRead (known (logged (now (log .entry)))) (now (file .entry))) ⌝ }
 {
-    let begun = counts::transactions_begun(kinds, transactions, registers, values, count);
-    let link = links(kinds, transactions, count);
-    let reads = store_reads(kinds, registers, values, &link, count);
-    let reading = read_marking(&reads, count, begun, file);
+    let begun = transactions_begun(log);
+    let own = own_writes(log);
+    let reads = store_reads(log, &own);
+    let reading = read_marking(&reads, log.len(), begun, file);
     if reading.question != 0 {
         return Straightening::MarkingRefused(Refusal {
             question: reading.question,
             at: reading.byte,
         });
     }
-    let points = counts::store_reads(kinds, transactions, registers, values, count);
+    let points = count_store_reads(log);
     if !has_room(file.len(), output.len(), points, moved.len()) {
         return Straightening::Refused(Refusal {
             question: 15,
-            at: count,
+            at: log.len(),
         });
     }
-    let order = reading.order;
-    let outcomes = reading.outcomes;
-    let gaps = reading.gaps;
-    straighten_points(
-        starts,
-        kinds,
-        transactions,
-        registers,
-        values,
-        count,
-        begun,
-        &link,
-        &reads,
-        &order,
-        &outcomes,
-        &gaps,
-        output,
-        moved,
-    )
+    straighten_points(starts, log, &own, &reads, reading, output, moved)
+}
+
+// The answer for what was taken in: the question that refuses it, or the straightening for the first
+// rows.
+fn straighten_admitted(
+    starts: &[u32; 32],
+    checked: Checked,
+    rows: &[Row],
+    count: usize,
+    file: &[u8],
+    output: &mut [u8],
+    moved: &mut [u32],
+) -> Straightening
+    requires { ⌜ (checked ≡ Readable → Admitted (logged (take count (now rows))) count (now rows)) ⌝ }
+    ensures { λ r. ⌜ gives r (now (output .exit)) (now (moved .exit))
+        ≡ afterColumns (startOf (now (starts .entry))) (logged (take count (now (rows .entry)))) count
+        (now (file .entry)) (now (output .entry)) (now (moved .entry)) checked ⌝ }
+{
+    match checked {
+        Checked::Refused(refusal) => Straightening::Refused(refusal),
+        Checked::Readable => straighten_log(starts, &rows[..count], file, output, moved),
+    }
 }
 
 // Straightens the read points of a marking file for the history in the first `count` entries of the
@@ -234,7 +221,22 @@ pub fn straighten(
 ) -> Straightening
     ensures { λ r. ⌜ gives r (now (output .exit)) (now (moved .exit)) ≡ straightenedAnswer edition (now (starts .entry)) (columns (now (kinds .entry)) (now (transactions .entry)) (now (registers .entry)) (now (values .entry))) count (now (file .entry)) (now (output .entry)) (now (moved .entry)) ⌝ }
 {
-    let checked = check_history(
+    if count <= 64 {
+        let mut few = [[0u32; 4]; 64];
+        let checked = admit(
+            edition,
+            starts,
+            kinds,
+            transactions,
+            registers,
+            values,
+            count,
+            &mut few,
+        );
+        return straighten_admitted(starts, checked, &few, count, file, output, moved);
+    }
+    let mut rows = [[0u32; 4]; 2048];
+    let checked = admit(
         edition,
         starts,
         kinds,
@@ -242,19 +244,7 @@ pub fn straighten(
         registers,
         values,
         count,
+        &mut rows,
     );
-    match checked {
-        Checked::Refused(refusal) => Straightening::Refused(refusal),
-        Checked::Readable => straighten_file(
-            starts,
-            kinds,
-            transactions,
-            registers,
-            values,
-            count,
-            file,
-            output,
-            moved,
-        ),
-    }
+    straighten_admitted(starts, checked, &rows, count, file, output, moved)
 }

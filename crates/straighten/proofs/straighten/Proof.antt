@@ -1,32 +1,35 @@
--- `straighten::straighten` meets its contract.
+-- `straighten` meets its contract: what is taken in is what the columns hold.
 -- Assumes nothing.
-use mathlib.Core.Path.{sym, _∙_}
-use Rattle.log.specs.Columns.{columns}
-use Rattle.log.proofs.StartLaws.{fine}
-use Rattle.opacity.proofs.CountLaws.{checked-readable}
-use Rattle.straighten.specs.Answer.{straightenedAnswer}
+use mathlib.Core.Path.{_∙_}
+use denote.Ref.{now}
+use Rattle.log.specs.Columns.{Columns, columns}
+use Rattle.marking.proofs.CheckLaws.{admitted-log}
+use Rattle.straighten.proofs.SettleLaws.{door}
 use borrow.Author.Needs.{needs}
 use Rattle.straighten.proofs.straighten.Statement.{statement}
 use Rattle.straighten.proofs.straighten.Tie as tie
 
-check-history-requires : tie.Need-check-history-requires
-check-history-requires c κs = search needs
+abbrev given : tie.Start → Columns
+given s = columns (s .args .kinds .now) (s .args .transactions .now) (s .args .registers .now) (s .args .values .now)
 
-enum-known-checked : tie.Need-enum-known-checked
-enum-known-checked c = search needs
+-- where the columns were taken in, into 64 rows or into 2,048: the function's entry
+abbrev entered : tie.After-admit → tie.Start
+entered a = a .before .before .before .before .before .before .before .before .before .before
 
-enum-told : tie.Need-enum-told
-enum-told c = search needs
+abbrev entered-2 : tie.After-admit2 → tie.Start
+entered-2 a = a .before .before .before .before .before .before .before .before .before .before
 
-straighten-file-requires : tie.Need-straighten-file-requires
-straighten-file-requires c κs =
-    let start = c .before .before .before .before .before .before .before .before .before .before .before .before in
-    let cs = columns (start .args .kinds .now) (start .args .transactions .now) (start .args .registers .now) (start .args .values .now) in
-    checked-readable cs (start .args .count) (fine (start .args .edition) (start .args .starts .now) cs (start .args .count) (sym (c .before .before .before .before .check-history .ensures) ∙ c .before .before .enum-told .given .1) .columns)
+slice-aggregate-admit : tie.Need-slice-aggregate-admit
+slice-aggregate-admit c = search needs
 
-returns : tie.Need-returns
-unfolding straightenedAnswer
-returns c = rw (sym (c .before .before .before .check-history .ensures) ∙ c .before .checked .given .1)
+admit-requires : tie.Need-admit-requires
+admit-requires c κs = search needs
+
+slice-aggregate-straighten-admitted : tie.Need-slice-aggregate-straighten-admitted
+slice-aggregate-straighten-admitted c = search needs
+
+straighten-admitted-requires : tie.Need-straighten-admitted-requires
+straighten-admitted-requires c κs = λ e. admitted-log (c .before .before .before .before .admit .ensures .1 e)
 
 same-length : tie.Need-same-length
 same-length c = search needs
@@ -34,19 +37,55 @@ same-length c = search needs
 same-length-2 : tie.Need-same-length-2
 same-length-2 c = search needs
 
+returns : tie.Need-returns
+returns c =
+    let q = c .before .before .before .before in
+    let a = q .before .before .before .before .before in
+    let s = entered a in
+    q .straighten-admitted .ensures
+    ∙ door (s .args .edition) (s .args .starts .now) (given s) (s .args .count) (s .args .file .now) (now (s .args .output)) (now (s .args .moved)) _ (a .admit .ensures .0) (a .admit .ensures .1)
+
+slice-aggregate-admit-2 : tie.Need-slice-aggregate-admit-2
+slice-aggregate-admit-2 c = search needs
+
+admit-requires-2 : tie.Need-admit-requires-2
+admit-requires-2 c κs = search needs
+
+slice-aggregate-straighten-admitted-2 : tie.Need-slice-aggregate-straighten-admitted-2
+slice-aggregate-straighten-admitted-2 c = search needs
+
+straighten-admitted-requires-2 : tie.Need-straighten-admitted-requires-2
+straighten-admitted-requires-2 c κs = λ e. admitted-log (c .before .before .before .before .admit2 .ensures .1 e)
+
+same-length-3 : tie.Need-same-length-3
+same-length-3 c = search needs
+
+same-length-4 : tie.Need-same-length-4
+same-length-4 c = search needs
+
 returns-2 : tie.Need-returns-2
-unfolding straightenedAnswer
-returns-2 c = rw (sym (c .before .before .before .before .before .before .before .before .before .check-history .ensures) ∙ c .before .before .before .before .before .before .before .enum-told .given .1) (c .before .before .before .before .straighten-file .ensures)
+returns-2 c =
+    let q = c .before .before .before .before in
+    let a = q .before .before .before .before .before in
+    let s = entered-2 a in
+    q .straighten-admitted2 .ensures
+    ∙ door (s .args .edition) (s .args .starts .now) (given s) (s .args .count) (s .args .file .now) (now (s .args .output)) (now (s .args .moved)) _ (a .admit2 .ensures .0) (a .admit2 .ensures .1)
 
 pub straighten-spec : {M : Type 1} → statement M
 straighten-spec =
     tie.close
     (tie.spec
-    check-history-requires
-    enum-known-checked
-    enum-told
-    straighten-file-requires
-    returns
+    slice-aggregate-admit
+    admit-requires
+    slice-aggregate-straighten-admitted
+    straighten-admitted-requires
     same-length
     same-length-2
+    returns
+    slice-aggregate-admit-2
+    admit-requires-2
+    slice-aggregate-straighten-admitted-2
+    straighten-admitted-requires-2
+    same-length-3
+    same-length-4
     returns-2)

@@ -1,12 +1,16 @@
--- `straighten::straighten_points` meets its contract.
+-- `straighten_points` meets its contract: what is settled is what is judged.
 -- Assumes nothing.
-use mathlib.Core.Path.{ap, _∙_}
+use mathlib.Core.Path.{refl, ap, _∙_}
 use native.Mathlib.Omega.{arith}
-use lib.ListN.{length}
+use borrow.Author.Needs.{needs}
 use denote.Ref.{now}
-use Rattle.log.specs.Columns.{columns, history}
+use lib.ListN.{length}
+use Rattle.events.specs.Events.{begins}
+use Rattle.log.specs.Rows.{logged}
 use Rattle.log.specs.Starts.{startOf}
-use Rattle.rules.specs.Judge.{content as inArrays}
+use Rattle.opacity.specs.Marking.{Marking}
+use Rattle.rules.specs.Judge.{content, Given}
+use Rattle.marking.proofs.CheckLaws.{given}
 use Rattle.straighten.proofs.MoveLaws.{arrays-readable}
 use Rattle.straighten.proofs.StraightLaws.{moved-few}
 use Rattle.straighten.proofs.SettleLaws.{bytes-same, bytes-fit, settled-judged}
@@ -14,20 +18,50 @@ use borrow.Author.Needs.{needs}
 use Rattle.straighten.proofs.straighten_points.Statement.{statement}
 use Rattle.straighten.proofs.straighten_points.Tie as tie
 
+-- when the points are to be moved: where the writes are linked, and the function's entry
+abbrev linked : tie.After-gaps2 → tie.After-links
+linked c = c .before .before .before .before .before .before .before
+
+abbrev entered : tie.After-links → tie.Start
+entered l = l .before .before .before .before
+
+-- when the moved points are judged: where they were moved
+abbrev moved-at : tie.After-judge → tie.After-straight-of
+moved-at j = j .before .before .before .before .before .before
+
+-- the marking that was read, and that it is readable
+abbrev read : tie.Start → Marking
+read s = content (logged (s .args .log .now)) (s .args .reading .order) (s .args .reading .outcomes) (s .args .reading .gaps)
+
+readable : (l : tie.After-links)
+    → Given (logged (entered l .args .log .now)) (l .links .result) (entered l .args .reading .order) (entered l .args .reading .outcomes) (entered l .args .reading .gaps)
+readable l =
+    let s = entered l in
+    let y = s .pre .0 in
+    given (s .args .log .now) (begins (logged (s .args .log .now))) (s .args .reads .now) refl (y .tabled) (s .args .reading) (y .kept) (y .readable) (l .links .ensures)
+
+transactions-begun-requires : tie.Need-transactions-begun-requires
+transactions-begun-requires c κs = search needs
+
+links-requires : tie.Need-links-requires
+links-requires c κs = search needs
+
 straight-of-requires : tie.Need-straight-of-requires
-straight-of-requires c κs = (c .before .before .before .before .before .before .pre .0, c .before .before .before .before .before .before .pre .1 .0)
+straight-of-requires c κs = let l = linked c in (readable l, l .before .transactions-begun .ensures)
 
 judge-requires : tie.Need-judge-requires
-judge-requires c κs = c .before .before .before .straight-of .ensures .1 .1
+judge-requires c κs = search needs
 
 settle-requires : tie.Need-settle-requires
 settle-requires c κs =
-    let start = c .before .before .before .before .before .before .before .before .before .before .before .before .before .before .before in
-    let cs = columns (start .args .kinds .now) (start .args .transactions .now) (start .args .registers .now) (start .args .values .now) in
-    let ground = start .pre .0 .ground in
-    let straight = c .before .before .before .before .before .before .before .before .straight-of .ensures in
-    let few = moved-few (startOf (start .args .starts .now)) (history cs (start .args .count)) (inArrays (history cs (start .args .count)) (start .args .order .now) (start .args .outcomes .now) (start .args .gaps .now)) (arrays-readable (start .pre .0)) in
-    ((omega (arith, start .pre .1 .0, ground .few-begun), ground .few), (bytes-fit (straight .1 .1) (start .pre .1 .0) (start .pre .1 .1), omega (arith, ap length (straight .1 .0), few, start .pre .1 .1 .entries)))
+    let m = moved-at (c .before .before .before .before) in
+    let l = linked (m .before) in
+    let s = entered l in
+    let straight = m .straight-of .ensures in
+    let few = moved-few (startOf (s .args .starts .now)) (logged (s .args .log .now)) (read s) (arrays-readable (readable l)) in (
+      s .pre .0 .readable,
+      (bytes-fit (s .args .log .now) (s .pre .0 .tabled) (straight .1 .1) (s .pre .1), omega (arith, ap length (straight .1 .0), few, s .pre .1 .entries)),
+    )
 
 same-length : tie.Need-same-length
 same-length c = search needs
@@ -37,16 +71,21 @@ same-length-2 c = search needs
 
 returns : tie.Need-returns
 returns c =
-    let start = c .before .before .before .before .before .before .before .before .before .before .before .before .before .before .before .before .before .before .before .before in
-    let cs = columns (start .args .kinds .now) (start .args .transactions .now) (start .args .registers .now) (start .args .values .now) in
-    let straight = c .before .before .before .before .before .before .before .before .before .before .before .before .before .straight-of .ensures in
-    c .before .before .before .before .settle .ensures
-    ∙ settled-judged (startOf (start .args .starts .now)) (history cs (start .args .count)) (inArrays (history cs (start .args .count)) (start .args .order .now) (start .args .outcomes .now) (start .args .gaps .now)) _ (now (start .args .output)) (now (start .args .moved)) _ _ _ (straight .0) (c .before .before .before .before .before .before .before .before .before .judge .ensures) (bytes-same (straight .1 .1) (start .pre .1 .0)) (straight .1 .0)
+    let t = c .before .before .before .before in
+    let j = t .before .before .before .before .before in
+    let m = moved-at j in
+    let s = entered (linked (m .before)) in
+    let straight = m .straight-of .ensures in
+    t .settle .ensures
+    ∙ settled-judged (startOf (s .args .starts .now)) (logged (s .args .log .now)) (read s) _ (now (s .args .output)) (now (s .args .moved)) _ _ _
+    (straight .0) (j .judge .ensures) (bytes-same (s .args .log .now) (s .pre .0 .tabled) (straight .1 .1)) (straight .1 .0)
 
 pub straighten-points-spec : {M : Type 1} → statement M
 straighten-points-spec =
     tie.close
     (tie.spec
+    transactions-begun-requires
+    links-requires
     straight-of-requires
     judge-requires
     settle-requires

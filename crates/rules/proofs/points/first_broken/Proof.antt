@@ -2,40 +2,44 @@
 -- Assumes nothing.
 use Prim.Native.Nat.{ℕ, _-_, _≤_, _<_}
 use mathlib.Core.Path.{_≡_, sym, _∙_}
-use mathlib.Core.Bool.{Bool, true}
+use mathlib.Core.Bool.{Bool}
 use native.Mathlib.Omega.{arith}
-use native.Mathlib.Nat.{not-suc-le-zero}
+use borrow.Author.Needs.{needs}
 use borrow.Author.Tests.{not-true, not-false}
 use lib.ListN.{length}
 use Rattle.log.specs.Rows.{logged}
+use Rattle.log.proofs.RowLaws.{logged-length}
 use Rattle.log.specs.Starts.{startOf}
+use Rattle.links.proofs.LogLaws.{in-history}
 use Rattle.rules.specs.Walks.{pointRule}
-use Rattle.rules.proofs.Numbers.{so-far, first-in-log, none-in-log}
-use borrow.Author.Needs.{needs}
+use Rattle.rules.proofs.Numbers.{Passing, passing-first, passing-more, fails-here, none-fails}
 use Rattle.rules.proofs.points.first_broken.Statement.{statement}
 use Rattle.rules.proofs.points.first_broken.Tie as tie
 
 abbrev Inv-loop : tie.InvT-loop
-Inv-loop rule starts log link writers place gaps i₀ i = (i ≤ length log) × ((k : ℕ) → k < i → pointRule (startOf starts) (logged log) link writers place gaps rule k ≡ true)
+Inv-loop rule starts log link writers place gaps i₀ i = Passing (pointRule (startOf starts) (logged log) link writers place gaps rule) (length (logged log)) i
 
 abbrev μ-loop : tie.MeasureT-loop
 μ-loop rule starts log link writers place gaps i₀ i = length log - i
 
 -- the rule, by what the function is given
 abbrev holds : tie.Start Inv-loop μ-loop → ℕ → Bool
-holds s =
+holds s = 
     pointRule (startOf (s .args .starts .now)) (logged (s .args .log .now)) (s .args .link .now) (s .args .writers .now) (s .args .place .now) (s .args .gaps .now) (s .args .rule)
 
+inside : (t : tie.In-loop Inv-loop μ-loop) → t .before .loop .i < length (logged (t .before .before .args .log .now))
+inside t = in-history (t .before .before .args .log .now) (t .loop-test .taken)
+
 loop-holds : tie.Need-loop-holds Inv-loop μ-loop
-loop-holds c = (omega arith, λ k l. absurd (not-suc-le-zero l))
+loop-holds c = passing-first (holds c) (length (logged (c .args .log .now)))
 
 holds-at-requires : tie.Need-holds-at-requires Inv-loop μ-loop
 holds-at-requires c κs = (c .before .before .pre, c .loop-test .taken)
 
 returns : tie.Need-returns Inv-loop μ-loop
 returns c =
-    let t = c .before .before .before in
-    first-in-log (t .before .args .log .now) (holds (t .before)) (t .loop .i) (c .before .before .loop-test .taken) (t .loop .inv .1) (sym (c .before .holds-at .ensures) ∙ not-true _ (c .if1 .taken))
+    let t = c .before .before in
+    fails-here (holds (t .before .before)) (t .before .loop .inv) (inside t) (c .before .holds-at .ensures) (not-true _ (c .if1 .taken))
 
 add-i : tie.Need-add-i Inv-loop μ-loop
 add-i c = search needs
@@ -45,11 +49,14 @@ loop-less c = search needs
 
 loop-again : tie.Need-loop-again Inv-loop μ-loop
 loop-again c =
-    let t = c .before .before .before in
-    (search needs, so-far (holds (t .before)) (length (t .before .args .log .now)) (t .loop .i) (t .loop .inv .1) (sym (c .before .holds-at .ensures) ∙ not-false _ (c .if1 .left)))
+    let t = c .before .before in
+    passing-more (holds (t .before .before)) (t .before .loop .inv) (inside t) (c .before .holds-at .ensures) (not-false _ (c .if1 .left))
 
 returns-2 : tie.Need-returns-2 Inv-loop μ-loop
-returns-2 c = let t = c .before in none-in-log (t .before .args .log .now) (holds (t .before)) (t .loop .i) (c .loop-test .left) (t .loop .inv .1)
+returns-2 c =
+    let s = c .before .before in
+    let e = logged-length (s .args .log .now) in
+    sym e ∙ none-fails (holds s) (c .before .loop .inv) (omega (arith, c .loop-test .left))
 
 pub first-broken-spec : {M : Type 1} → statement M
 first-broken-spec =

@@ -1,35 +1,34 @@
--- `straighten::moves::gap_at` meets its contract.
+-- `gap_at` meets its contract: by whether the point is moved.
 -- Assumes nothing.
+use mathlib.Core.Path.{_≡_, ap, _∙_}
+use native.Mathlib.Omega.{arith}
+use borrow.Author.Needs.{needs}
+use lib.ListN.{getD}
+use Rattle.events.specs.declared.event.Event.{Event}
+use Rattle.links.proofs.LogLaws.{log-most, transaction-below}
 use borrow.Author.Needs.{needs}
 use Rattle.straighten.proofs.moves.gap_at.Statement.{statement}
 use Rattle.straighten.proofs.moves.gap_at.Tie as tie
 
-mul-wide : tie.Need-mul-wide
-mul-wide c = search needs
+event-at-requires : tie.Need-event-at-requires
+event-at-requires c κs = search needs
 
-shared-slice-read-wide : tie.Need-shared-slice-read-wide
-shared-slice-read-wide c = search needs
-
-wide-requires : tie.Need-wide-requires
-wide-requires c κs = search needs
-
-mul-reader : tie.Need-mul-reader
-mul-reader c = search needs
-
-element-copy-out-reader : tie.Need-element-copy-out-reader
-element-copy-out-reader c = search needs
+place-at-requires : tie.Need-place-at-requires
+place-at-requires c κs = let s = c .before in transaction-below (s .args .log .now) (s .pre .0) (s .pre .1) (c .event-at .ensures)
 
 element-copy-out-if1 : tie.Need-element-copy-out-if1
-element-copy-out-if1 c = search needs
+element-copy-out-if1 c = let s = c .before .before in omega (arith, s .pre .1, log-most (s .args .log .now) (s .pre .0))
 
 returns : tie.Need-returns
-returns c = rw (c .if1 .taken, c .before .before .before .wide .ensures)
+returns c =
+    let p = c .before .before in
+    rw (c .if1 .taken) (p .place-at .ensures ∙ ap (λ (e : Event). getD (p .before .before .args .place .now) (e .transaction) 0) (p .before .event-at .ensures))
 
 mul-result : tie.Need-mul-result
 mul-result c = search needs
 
 element-copy-out-result : tie.Need-element-copy-out-result
-element-copy-out-result c = search needs
+element-copy-out-result c = let s = c .before .before .before .before in omega (arith, s .pre .1, log-most (s .args .log .now) (s .pre .0))
 
 returns-2 : tie.Need-returns-2
 returns-2 c = rw (c .before .if1 .left)
@@ -38,11 +37,8 @@ pub gap-at-spec : {M : Type 1} → statement M
 gap-at-spec =
     tie.close
     (tie.spec
-    mul-wide
-    shared-slice-read-wide
-    wide-requires
-    mul-reader
-    element-copy-out-reader
+    event-at-requires
+    place-at-requires
     element-copy-out-if1
     returns
     mul-result

@@ -1,36 +1,45 @@
--- `straighten::moves::straight_of` meets its contract.
+-- `straight_of` meets its contract: by the tables, each filled as the law of the straightened marking asks.
 -- Assumes nothing.
-use native.Mathlib.Omega.{arith}
 use Rattle.log.specs.Starts.{startOf}
-use Rattle.rules.proofs.JudgeLaws.{ground-tabled, all-apart, all-walkable}
+use Rattle.rules.proofs.JudgeLaws.{all-apart, all-pointable}
 use Rattle.straighten.proofs.MoveLaws.{content-same, listed-same, given-straight}
+use borrow.Author.Needs.{needs}
 use Rattle.straighten.proofs.moves.straight_of.Statement.{statement}
 use Rattle.straighten.proofs.moves.straight_of.Tie as tie
 
 places-of-requires : tie.Need-places-of-requires
-places-of-requires c κs = all-apart (c .before .before .before .before .pre .0) (c .before .before .before .before .pre .1)
+places-of-requires c κs = all-apart (c .pre .0) (c .pre .1)
 
 table-requires : tie.Need-table-requires
-table-requires c κs = ground-tabled (c .before .before .before .before .before .pre .0 .ground)
+table-requires c κs = search needs
 
 writers-of-requires : tie.Need-writers-of-requires
-writers-of-requires c κs = all-apart (c .before .before .before .before .before .before .before .pre .0) (c .before .before .before .before .before .before .before .pre .1)
+writers-of-requires c κs = let s = c .before .before .before in all-apart (s .pre .0) (s .pre .1)
 
 moves-of-requires : tie.Need-moves-of-requires
 moves-of-requires c κs =
-    let start = c .before .before .before .before .before .before .before .before .before .before in
-    (all-walkable (start .pre .0) (start .pre .1) (c .before .before .before .before .before .places-of .ensures) (c .before .before .before .before .table .ensures) (c .before .before .writers-of .ensures), start .pre .0 .ground .kinds-long)
+    let w = c .before .before in
+    let t = w .before .before in
+    let s = t .before .before in
+    all-pointable (s .pre .0) (s .pre .1) (t .before .places-of .ensures) (t .table .ensures) (w .writers-of .ensures)
 
 gaps-of-requires : tie.Need-gaps-of-requires
-gaps-of-requires c κs =
-    let ground = c .before .before .before .before .before .before .before .before .before .before .before .before .before .pre .0 .ground in
-    ((ground .few, ground .transactions-long), λ i l. omega (arith, ground .begun i l, ground .few-begun))
+gaps-of-requires c κs = search needs
 
 returns : tie.Need-returns
-returns c = (
-  content-same (c .before .before .before .before .before .before .before .before .before .before .before .before .before .before .pre .0) (c .before .before .before .before .before .before .before .before .before .before .before .before .before .before .pre .1) (c .before .before .before .before .before .before .before .before .before .places-of .ensures) (c .before .before .before .before .before .before .before .before .table .ensures) (c .before .before .before .before .before .before .writers-of .ensures) (startOf (c .before .before .before .before .before .before .before .before .before .before .before .before .before .before .args .starts .now)) (c .before .before .before .moves-of .ensures) (c .gaps-of .ensures),
-  (listed-same (c .before .before .before .before .before .before .before .before .before .before .before .before .before .before .pre .0) (c .before .before .before .before .before .before .before .before .before .before .before .before .before .before .pre .1) (c .before .before .before .before .before .before .before .before .before .places-of .ensures) (c .before .before .before .before .before .before .before .before .table .ensures) (c .before .before .before .before .before .before .writers-of .ensures) (startOf (c .before .before .before .before .before .before .before .before .before .before .before .before .before .before .args .starts .now)) (c .before .before .before .moves-of .ensures) (c .gaps-of .ensures), given-straight (c .before .before .before .before .before .before .before .before .before .before .before .before .before .before .pre .0) (c .before .before .before .before .before .before .before .before .before .before .before .before .before .before .pre .1) (c .before .before .before .before .before .before .before .before .before .places-of .ensures) (c .before .before .before .before .before .before .before .before .table .ensures) (c .before .before .before .before .before .before .writers-of .ensures) (startOf (c .before .before .before .before .before .before .before .before .before .before .before .before .before .before .args .starts .now)) (c .before .before .before .moves-of .ensures) (c .gaps-of .ensures)),
-)
+returns c =
+    let m = c .before .before .before in
+    let w = m .before .before .before in
+    let t = w .before .before in
+    let p = t .before in
+    let s = p .before in
+    let start = startOf (s .args .starts .now) in (
+      content-same (s .pre .0) (s .pre .1) (p .places-of .ensures) (t .table .ensures) (w .writers-of .ensures) start (m .moves-of .ensures) (c .gaps-of .ensures),
+      (
+        listed-same (s .pre .0) (s .pre .1) (p .places-of .ensures) (t .table .ensures) (w .writers-of .ensures) start (m .moves-of .ensures) (c .gaps-of .ensures),
+        given-straight (s .pre .0) (s .pre .1) (p .places-of .ensures) (t .table .ensures) (w .writers-of .ensures) start (m .moves-of .ensures) (c .gaps-of .ensures),
+      ),
+    )
 
 pub straight-of-spec : {M : Type 1} → statement M
 straight-of-spec =

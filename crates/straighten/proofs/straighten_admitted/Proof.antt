@@ -1,0 +1,67 @@
+-- `straighten_admitted` meets its contract: by what was taken in.
+-- Assumes nothing.
+use Prim.Native.Nat.{ℕ, _≤_}
+use mathlib.Core.Path.{_≡_, sym, ap, _∙_}
+use denote.Ref.{now}
+use lib.ListN.{length, take}
+use lib.Seq.{length-take-le}
+use Rattle.log.specs.Rows.{logged, Admitted}
+use Rattle.log.specs.Starts.{startOf}
+use Rattle.marking.specs.File.{known, fileRead}
+use Rattle.straighten.specs.Answer.{afterFile}
+use borrow.Author.Needs.{needs}
+use Rattle.straighten.proofs.straighten_admitted.Statement.{statement}
+use Rattle.straighten.proofs.straighten_admitted.Tie as tie
+
+-- where no question refused, and the function's entry
+abbrev entered : tie.After-enum-told → tie.Start
+entered t = t .before .before .before .before .before
+
+-- the first rows hold a readable history
+admitted : (t : tie.After-enum-told) → Admitted (logged (take (entered t .args .count) (entered t .args .rows .now))) (entered t .args .count) (entered t .args .rows .now)
+admitted t = entered t .pre (t .enum-told .given .1)
+
+enum-known-checked : tie.Need-enum-known-checked
+enum-known-checked c = search needs
+
+enum-told : tie.Need-enum-told
+enum-told c = search needs
+
+slice-aggregate-straighten-log : tie.Need-slice-aggregate-straighten-log
+slice-aggregate-straighten-log c = sym (length-take-le _ _ (admitted (c .before) .room))
+
+straighten-log-requires : tie.Need-straighten-log-requires
+straighten-log-requires c κs = admitted (c .before .before .before) .readable
+
+returns : tie.Need-returns
+returns c = rw (c .before .checked .given .1)
+
+same-length : tie.Need-same-length
+same-length c = search needs
+
+same-length-2 : tie.Need-same-length-2
+same-length-2 c = search needs
+
+returns-2 : tie.Need-returns-2
+returns-2 c =
+    let l = c .before .before .before .before in
+    let t = l .before .before .before .before in
+    let s = entered t in
+    let h = logged (take (s .args .count) (s .args .rows .now)) in
+    rw (t .enum-told .given .1)
+    (l .straighten-log .ensures
+    ∙ ap (λ (n : ℕ). afterFile (startOf (s .args .starts .now)) h n (s .args .file .now) (now (s .args .output)) (now (s .args .moved)) (fileRead (known h) (s .args .file .now)))
+    (length-take-le _ _ (admitted t .room)))
+
+pub straighten-admitted-spec : {M : Type 1} → statement M
+straighten-admitted-spec =
+    tie.close
+    (tie.spec
+    enum-known-checked
+    enum-told
+    slice-aggregate-straighten-log
+    straighten-log-requires
+    returns
+    same-length
+    same-length-2
+    returns-2)
