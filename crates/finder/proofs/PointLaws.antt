@@ -1,80 +1,52 @@
--- The points of a marking, one event more at a time.
+-- The marking of the order found, from the arrays that its writer takes.
 -- Assumes nothing.
-use mathlib.Core.Path.{_≡_, ap, ap₂, _∙_}
-use Prim.Native.Nat.{ℕ, _+_, _*_, _≤_, _<_}
+use mathlib.Core.Path.{_≡_, refl, sym, ap, ap₂, _∙_}
+use Prim.Native.Nat.{ℕ, zero, suc, _/_, _%_, _≤_, _<_}
+use native.Mathlib.Nat.{le-of-lt, le-refl}
 use native.Mathlib.Omega.{arith}
-use mathlib.Core.Bool.{Bool}
-use mathlib.Core.List.{List, _++_}
-use lib.ListN.{length, take, length-append}
-use Rattle.records.specs.Bytes as bytes
-use Rattle.records.specs.Bytes.{over}
+use mathlib.Core.Bool.{Bool, false}
+use mathlib.Core.List.{List, [], _∷_, _++_}
+use lib.ListN.{length, take, getD}
+use lib.Seq.{take-suc}
+use lib.Dec.{eqb}
+use Rattle.lists.specs.Filled.{Filled}
+use Rattle.lists.proofs.FilledLaws.{filled-at}
 use Rattle.events.specs.declared.event.Event.{Event}
-use Rattle.events.specs.Events.{eventAt}
 use Rattle.opacity.specs.Transactions.{isStoreRead, storeReads}
 use Rattle.opacity.specs.Justification.{Place}
-use Rattle.opacity.specs.Marking.{placeOf, marked, markingHead, placeBytes, flat, markingBytes}
+use Rattle.opacity.specs.Lowest.{place}
+use Rattle.opacity.specs.Marking.{marked, markingHead, placeBytes, flat, markingBytes}
 use Rattle.places.specs.Places.{decode}
-use Rattle.marking_writer.specs.Points.{readBytes}
-use Rattle.marking_writer.proofs.RunLaws.{Put, put-none, put-room, put-more}
-use Rattle.marking_writer.proofs.PointLaws.{points-are, points-none, points-more, marking-put}
-use Rattle.finder.specs.Points.{pointsOf, allPoints}
-use Rattle.finder.proofs.MarkLaws.{places-length}
+use Rattle.places.proofs.LookupLaws.{decode-snoc}
+use Rattle.marking_writer.specs.Points.{pointsTo}
+use Rattle.marking_writer.specs.Whole.{placesIn, pointsIn, bytesIn}
+use Rattle.marking_writer.proofs.PointLaws.{points-are, points-same}
+use Rattle.finder.specs.Arrays.{Arrayed, gapAt}
 
--- ---- the points of the definition
+-- the places in the arrays are those of the codes
+pub places-are : (codes order outcomes : List ℕ) (count : ℕ) → count ≤ length codes → Arrayed codes count order outcomes
+    → (k : ℕ) → k ≤ count → placesIn order outcomes k ≡ decode (take k codes)
+unfolding placesIn decode
+places-are codes order outcomes count room a zero l = refl
+places-are codes order outcomes count room a (suc k) l =
+    ap₂ (λ (P : List Place) (p : Place). P ++ (p ∷ []))
+    (places-are codes order outcomes count room a k (le-of-lt l))
+    (ap₂ (λ (t o : ℕ). place t (eqb o 1)) (filled-at (a .transactions) k l) (filled-at (a .ends) k l))
+    ∙ sym (decode-snoc (take k codes) (getD codes k 0))
+    ∙ ap decode (sym (take-suc codes k 0 (omega arith)))
 
-pub marking-is : (h : List Event) (J : List Place) → markingBytes (marked h J) ≡ markingHead ++ (flat placeBytes J ++ pointsOf h J (length h))
+-- the bytes of a marking: head, places, and the points of the store reads, each at its reader's place
+marking-is : (h : List Event) (J : List Place) → markingBytes (marked h J) ≡ markingHead ++ (flat placeBytes J ++ pointsTo (isStoreRead h) (gapAt h J) (length h))
 unfolding markingBytes marked storeReads
-marking-is h J = ap (λ (l : List ℕ). markingHead ++ (flat placeBytes J ++ l)) (points-are (isStoreRead h) (λ i. placeOf (eventAt h i .transaction) J) (length h))
+marking-is h J = ap (λ (l : List ℕ). markingHead ++ (flat placeBytes J ++ l)) (points-are (isStoreRead h) (gapAt h J) (length h))
 
--- ---- the points as they are written
-
--- the events below i have their points in the buffer
-pub record Pointing (h : List Event) (J : List Place) (d : List ℕ) (from i : ℕ) (out : List ℕ) (to : ℕ) : Type 0 where
-  pub passed : i ≤ length h
-  pub put : Put (pointsOf h J) d from i out to
-
-module _ (h : List Event) (J : List Place) (d : List ℕ) (from : ℕ) where
-  abbrev gap : ℕ → ℕ
-  gap i = placeOf (eventAt h i .transaction) J
-
-  abbrev point : ℕ → List ℕ
-  point i = readBytes (isStoreRead h i) i (gap i)
-
-  pub pointing-none : Pointing h J d from 0 d from
-  pointing-none = record { passed = omega arith; put = put-none (pointsOf h J) point (points-none (isStoreRead h) gap) (points-more (isStoreRead h) gap) d from }
-
-  module _ (room : from + length (allPoints h J) ≤ length d) (i : ℕ) (l : i < length h) (out : List ℕ) (to : ℕ)
-      (p : Pointing h J d from i out to) (reads : Bool) (at : ℕ) (e : Event) (reads-are : reads ≡ isStoreRead h i) (same : e ≡ eventAt h i)
-      (place : at ≡ placeOf (e .transaction) J) where
-    point-is : readBytes reads i at ≡ point i
-    point-is = ap₂ (λ (b : Bool) (g : ℕ). readBytes b i g) reads-are (place ∙ ap (λ (x : Event). placeOf (x .transaction) J) same)
-
-    pub pointing-room : to + length (readBytes reads i at) ≤ length out
-    pointing-room = rw point-is (put-room (pointsOf h J) point (points-none (isStoreRead h) gap) (points-more (isStoreRead h) gap) d from (length h) room i l out to (p .put))
-
-    pub pointing-more : (out′ : List ℕ) (to′ : ℕ) → length out′ ≡ length out → out′ ≡ bytes.placed out to (readBytes reads i at)
-        → to′ ≡ to + length (readBytes reads i at) → Pointing h J d from (i + 1) out′ to′
-    pointing-more out′ to′ k e f =
-        record {
-          passed = omega arith;
-          put = put-more (pointsOf h J) point (points-none (isStoreRead h) gap) (points-more (isStoreRead h) gap) d from (length h) room i l out to (p .put) out′ to′ k (rw point-is at e) (rw point-is at f);
-        }
-
--- ---- the marking
-
-module _ (h : List Event) (places : List ℕ) (size : length places ≡ 10) (count : ℕ) (few : count ≤ 10) where
-  pub marking-length : length (markingBytes (marked h (decode (take count places)))) ≡ 6 + 8 * count + length (allPoints h (decode (take count places)))
-  marking-length =
-      let a = ap length (marking-is h (decode (take count places))) in
-      let b = length-append (flat placeBytes (decode (take count places))) (allPoints h (decode (take count places))) in
-      let d = places-length places size count few in
-      omega arith
-
-  pub marking-written : (d o₁ o₂ o₃ : List ℕ) → length (markingBytes (marked h (decode (take count places)))) ≤ length d
-      → o₁ ≡ bytes.placed d 0 markingHead → o₂ ≡ bytes.placed o₁ 6 (flat placeBytes (decode (take count places)))
-      → o₃ ≡ bytes.placed o₂ (6 + 8 * count) (allPoints h (decode (take count places)))
-      → o₃ ≡ over (markingBytes (marked h (decode (take count places)))) d
-  marking-written d o₁ o₂ o₃ room e₁ e₂ e₃ =
-      let m = places-length places size count few in
-      let is = marking-is h (decode (take count places)) in
-      rw is (marking-put (flat placeBytes (decode (take count places))) (allPoints h (decode (take count places))) d o₁ o₂ o₃ (6 + 8 * count) (omega arith) (rw is at room) e₁ e₂ e₃)
+-- what the writer writes of the arrays is the marking
+pub arrays-mark : (h : List Event) (n : ℕ) → length h ≡ n → (codes order outcomes : List ℕ) (count : ℕ) → count ≤ length codes → Arrayed codes count order outcomes
+    → (store : List Bool) → Filled 2048 false (isStoreRead h) n store → (gaps : List ℕ) → Filled 2048 0 (gapAt h (decode (take count codes))) n gaps
+    → bytesIn order outcomes count store gaps n ≡ markingBytes (marked h (decode (take count codes)))
+arrays-mark h n long codes order outcomes count room a store s gaps g =
+    let J = decode (take count codes) in
+    let points : pointsIn store gaps n ≡ pointsTo (isStoreRead h) (gapAt h J) (length h) =
+    points-same (λ i. getD store i false) (isStoreRead h) (λ i. getD gaps i 0) (gapAt h J) n (filled-at s) (filled-at g) ∙ ap (pointsTo (isStoreRead h) (gapAt h J)) (sym long) in
+    ap₂ (λ (P : List Place) (l : List ℕ). markingHead ++ (flat placeBytes P ++ l)) (places-are codes order outcomes count room a count (le-refl count)) points
+    ∙ sym (marking-is h J)

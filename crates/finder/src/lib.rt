@@ -13,7 +13,7 @@ ghost use Rattle.tables.specs.Calls.{Taken};
 ghost use Rattle.tables.specs.Order.{Judged};
 ghost use Rattle.finder.specs.Answer.{markingSize, lowestMarking, gives, decided, findOf, findAfter, foundAnswer};
 
-pub mod writer;
+mod arrays;
 
 use events::refusal::Refusal;
 use log::admit::admit;
@@ -22,6 +22,7 @@ use log::columns::columns_hold;
 use log::rows::Row;
 use log::rows::transactions_begun;
 use log::starts::is_admitted;
+use marking_writer::write_marking;
 use records::record::Record;
 
 // Question 31: at most this many transactions are searched.
@@ -42,16 +43,20 @@ fn find_lowest(starts: &[u32; 32], log: &[Row], output: &mut [u8]) -> Finding
         gives r (now (output .exit))
         ≡ decided Readable (lowestMarking (startOf (now (starts .entry))) (logged (now (log .entry)))) (now (output .entry)) ⌝ }
 {
-    let order = tables::find_order(starts, log);
-    if order == 0 {
+    let found = tables::find_order(starts, log);
+    if found == 0 {
         return Finding::None;
     }
-    let count = transactions_begun(log);
-    let places = places::state::codes_of(order, count);
+    let begun = transactions_begun(log);
+    let codes = places::state::codes_of(found, begun);
+    let placed = arrays::placed_by(codes, begun);
+    let order = placed.order;
+    let outcomes = placed.outcomes;
     let own = reads::own_writes(log);
     let store = reads::store_reads(log, &own);
-    let length = writer::write_marking(log, &store, places, count, output);
-    Finding::Marking(length)
+    let gaps = arrays::gaps_of(log, codes, begun);
+    let count = log.len();
+    Finding::Marking(write_marking(&order, &outcomes, begun, &store, &gaps, count, output))
 }
 
 // Questions 31 and 32, with the count as their event, and then the lowest marking, of a log.
