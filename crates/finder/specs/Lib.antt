@@ -1,3 +1,3 @@
-pub mod Points
+pub mod Arrays
 pub mod Answer
 pub mod Words

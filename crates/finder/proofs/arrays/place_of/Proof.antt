@@ -1,4 +1,4 @@
--- `finder::writer::place_of` meets its contract.
+-- `finder::arrays::place_of` meets its contract.
 -- Assumes nothing.
 use borrow.Author.Needs.{needs}
 use mathlib.Core.Path.{_≡_, refl, _∙_}
@@ -10,8 +10,8 @@ use mathlib.Core.Bool.{false}
 use Rattle.lists.specs.Lists.{any}
 use Rattle.opacity.specs.Justification.{placed}
 use Rattle.finder.proofs.MarkLaws.{place-none, place-here, not-yet}
-use Rattle.finder.proofs.writer.place_of.Statement.{statement}
-use Rattle.finder.proofs.writer.place_of.Tie as tie
+use Rattle.finder.proofs.arrays.place_of.Statement.{statement}
+use Rattle.finder.proofs.arrays.place_of.Tie as tie
 
 abbrev Inv-loop : tie.InvT-loop
 Inv-loop count t places i₀ i = (i ≤ count) × (placed t (decode (take i places)) ≡ false)
