@@ -7,13 +7,15 @@ ghost use Rattle.log.specs.Starts.{startOf};
 ghost use Rattle.opacity.specs.Justification.{contents};
 ghost use Rattle.places.specs.Bits.{members};
 ghost use Rattle.places.specs.Places.{codesOf, decode, writesIn, writeOf};
-ghost use Rattle.places.specs.State.{Coded};
-ghost use Rattle.places.specs.Tree.{legalAt};
+ghost use Rattle.places.specs.State.{placedOf, Coded};
+ghost use Rattle.places.specs.Tree.{asking, legalAt, legalReads};
 use crate::facts::Facts;
 use crate::facts::REQUIRED;
 use crate::facts::WRITTEN;
+use crate::facts::reads_asked;
 use crate::facts::wide;
 use crate::sets;
+use crate::state::Search;
 use crate::state::code_at;
 
 // What register holds before any writer.
@@ -83,7 +85,7 @@ pub fn legal_at(
 }
 
 // Is each store read of t from these registers that of the register's content? They are visited by their bits.
-pub fn legal(
+fn legal(
     starts: &[u32; 32],
     facts: &[Facts; 11],
     placed: u64,
@@ -104,4 +106,20 @@ pub fn legal(
         left = sets::without(left, r);
     }
     true
+}
+
+// Is each store read of t from the registers asked about legal after the places of s?
+pub fn legal_reads(starts: &[u32; 32], facts: &[Facts; 11], asked: u32, s: Search, t: usize) -> bool
+    requires { ⌜ Coded (s .filled) (s .placed) ⌝ }
+    requires { ⌜ t < 11 ⌝ }
+    ensures { λ r. ⌜ r ≡ legalReads (asking (now (starts .entry)) (now (facts .entry)) asked) (placedOf s) t ⌝ }
+{
+    legal(
+        starts,
+        facts,
+        s.placed,
+        s.filled,
+        t,
+        reads_asked(facts, t, asked),
+    )
 }
