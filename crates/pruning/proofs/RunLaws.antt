@@ -8,10 +8,10 @@ use mathlib.Core.Bool.{Bool, true, false, cond}
 use mathlib.Core.Option.{none, some, Option·some-ne-none}
 use lib.Count.{ones}
 use borrow.Author.Tests.{eqb-true, eq-eqb}
-use Rattle.lists.specs.Lists.{isNone, all}
+use Rattle.lists.specs.Lists.{orElse, isNone, all}
 use Rattle.lists.proofs.ListLaws.{and-l, and-r, and-i, isNone-none, none-isNone}
 use Rattle.places.specs.Bits.{bitAt, members}
-use Rattle.places.specs.Tree.{Constraints, Completion, orElse, fitsAt, firstOf, tryOne, tryBoth, fromCandidates}
+use Rattle.places.specs.Tree.{Constraints, Completion, fitsAt, firstOf, tryOne, tryBoth, fromCandidates}
 use Rattle.pruning.specs.Runs.{runs}
 use Rattle.places.proofs.BitLaws.{member-lt, ones-off, none-counted}
 use Rattle.places.proofs.SetLaws.{members-remove, member-passes, members-pass}

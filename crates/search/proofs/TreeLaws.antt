@@ -9,12 +9,13 @@ use Prim.Native.Nat.{ℕ, zero, suc, _+_, _-_, _*_, _^_, _≤_, _<_}
 use native.Mathlib.Nat.{zero-add}
 use native.Mathlib.Omega.{arith}
 use lib.Dec.{eqb}
+use Rattle.lists.specs.Lists.{orElse}
 use lib.Pow.{pow-mono, pow-pos}
 use lib.Count.{ones, ones-ones, trailingZeros}
 use Rattle.places.specs.declared.state.Search.{Search}
 use Rattle.places.specs.Bits.{bitAt, membersIn, members}
 use Rattle.places.specs.State.{placedOf, whole, Sound, Placeable, Within, Extends}
-use Rattle.places.specs.Tree.{Constraints, Completion, orElse, ruleNext, allowsOutcome, fitsAt, firstOf, tryOne, tryBoth, fromCandidates, atTransaction, firstCompletion, readAnswer, Answers}
+use Rattle.places.specs.Tree.{Constraints, Completion, ruleNext, allowsOutcome, fitsAt, firstOf, tryOne, tryBoth, fromCandidates, atTransaction, firstCompletion, readAnswer, Answers}
 use Rattle.places.specs.Choice.{among, withNext, from}
 use Rattle.places.proofs.BitLaws.{ones-off, members-all}
 use Rattle.places.proofs.StateLaws.{fewer}

@@ -7,7 +7,7 @@ use mathlib.Core.Path.{_≡_, sym, _∙_, subst}
 use mathlib.Core.Logic.{⊎-elim}
 use mathlib.Core.Option.{none}
 use Rattle.places.specs.State.{whole}
-use Rattle.places.specs.Tree.{constraints}
+use Rattle.places.specs.Tree.{asking}
 use Rattle.places.proofs.StateLaws.{room-lt}
 use Rattle.search.proofs.TreeLaws.{attempt, attempt-none, fits-by, attempt-next, answer-none, answers-next, answers-none, answers-as, outcome-first, outcome-second, outcome-neither, all-placed, none-among, next-candidate, size, falls-to-rest, falls-to-next}
 use Rattle.places.proofs.SetLaws.{lowest-member, within-self, within-rest}
@@ -32,42 +32,42 @@ use Rattle.search.proofs.+choose_outcome+choose_transaction.Lts-choose_
 use Rattle.search.proofs.+choose_outcome+choose_transaction.{statement}
 use Rattle.search.proofs.+choose_outcome+choose_transaction.Tie.{close}
 
-abbrev μ-choose-outcome : Measures 7 choose-outcome-kinds.ps ℕ
-μ-choose-outcome κs a = size (a .1 .1 .1 .1 .1 .1 .1 .0) (a .1 .1 .1 .1 .1 .1 .1 .1 .0)
+abbrev μ-choose-outcome : Measures 3 choose-outcome-kinds.ps ℕ
+μ-choose-outcome κs a = size (a .1 .1 .1 .1 .0) (a .1 .1 .1 .1 .1 .0)
 
-abbrev μ-choose-transaction : Measures 7 choose-transaction-kinds.ps ℕ
-μ-choose-transaction κs a = size (a .1 .1 .1 .1 .1 .1 .1 .0) (a .1 .1 .1 .1 .1 .1 .1 .1 .0) + 1
+abbrev μ-choose-transaction : Measures 3 choose-transaction-kinds.ps ℕ
+μ-choose-transaction κs a = size (a .1 .1 .1 .1 .0) (a .1 .1 .1 .1 .1 .0) + 1
 
-abbrev choose-outcome-at : ℕ → In 7 choose-outcome-kinds.ps
+abbrev choose-outcome-at : ℕ → In 3 choose-outcome-kinds.ps
 choose-outcome-at t =
     and
-    7
+    3
     choose-outcome-kinds.ps
-    (is 7 choose-outcome-kinds.ps μ-choose-outcome t)
+    (is 3 choose-outcome-kinds.ps μ-choose-outcome t)
     choose-outcome.Pre
 
-abbrev choose-outcome-below : ℕ → In 7 choose-outcome-kinds.ps
+abbrev choose-outcome-below : ℕ → In 3 choose-outcome-kinds.ps
 choose-outcome-below t =
     and
-    7
+    3
     choose-outcome-kinds.ps
-    (falls 7 choose-outcome-kinds.ps _<_ μ-choose-outcome t)
+    (falls 3 choose-outcome-kinds.ps _<_ μ-choose-outcome t)
     choose-outcome.Pre
 
-abbrev choose-transaction-at : ℕ → In 7 choose-transaction-kinds.ps
+abbrev choose-transaction-at : ℕ → In 3 choose-transaction-kinds.ps
 choose-transaction-at t =
     and
-    7
+    3
     choose-transaction-kinds.ps
-    (is 7 choose-transaction-kinds.ps μ-choose-transaction t)
+    (is 3 choose-transaction-kinds.ps μ-choose-transaction t)
     choose-transaction.Pre
 
-abbrev choose-transaction-below : ℕ → In 7 choose-transaction-kinds.ps
+abbrev choose-transaction-below : ℕ → In 3 choose-transaction-kinds.ps
 choose-transaction-below t =
     and
-    7
+    3
     choose-transaction-kinds.ps
-    (falls 7 choose-transaction-kinds.ps _<_ μ-choose-transaction t)
+    (falls 3 choose-transaction-kinds.ps _<_ μ-choose-transaction t)
     choose-transaction.Pre
 
 -- what each is handed of the functions that it calls
@@ -112,7 +112,7 @@ choose-outcome-choose-transaction-requires t c κs =
 choose-outcome-returns : (t : ℕ) → choose-outcome-lts.Need-returns (outcome-claims t) (choose-outcome-at t) choose-outcome.Post
 choose-outcome-returns t c =
     let start = c .before .before .before .before .before .before in
-    let D = constraints (start .args .starts .now) (start .args .predecessors .now) (start .args .allowed .now) (start .args .reads .now) (start .args .required .now) (start .args .written .now) in
+    let D = asking (start .args .starts .now) (start .args .facts .now) (start .args .asked) in
     let asked = c .before .before .before .before in
     let next = c .before .before .place in
     let answer = c .before .choose-transaction in
@@ -140,10 +140,10 @@ choose-outcome-choose-transaction-requires-2 t c κs =
 
 -- where the second outcome is asked for, the first led to nothing
 missed : (t : ℕ) (c : choose-outcome-lts.Joined1 (outcome-claims t) (choose-outcome-at t) choose-outcome.Post)
-    → let start = c .before .before .before in attempt (constraints (start .args .starts .now) (start .args .predecessors .now) (start .args .allowed .now) (start .args .reads .now) (start .args .required .now) (start .args .written .now)) (start .args .s) (start .args .t) 0 ≡ none
+    → let start = c .before .before .before in attempt (asking (start .args .starts .now) (start .args .facts .now) (start .args .asked)) (start .args .s) (start .args .t) 0 ≡ none
 missed t c =
     let start = c .before .before .before in
-    let D = constraints (start .args .starts .now) (start .args .predecessors .now) (start .args .allowed .now) (start .args .reads .now) (start .args .required .now) (start .args .written .now) in
+    let D = asking (start .args .starts .now) (start .args .facts .now) (start .args .asked) in
     let fit = fits-by D (start .args .s) (start .args .t) 0 _ (c .before .before .rule-next .ensures) (c .before .allows .ensures) in
     ⊎-elim
     (λ w. sym (attempt-next D (start .args .s) (w .1 .result) (start .args .t) 0 (w .2 .result) (start .pre .1 .0) (w .1 .ensures) fit (w .0 .taken) (w .2 .ensures .completion))
@@ -153,10 +153,10 @@ missed t c =
 
 -- and where the other candidates are, the second
 missed-too : (t : ℕ) (c : choose-outcome-lts.Joined3 (outcome-claims t) (choose-outcome-at t) choose-outcome.Post)
-    → let start = c .before .before .before .before .before in attempt (constraints (start .args .starts .now) (start .args .predecessors .now) (start .args .allowed .now) (start .args .reads .now) (start .args .required .now) (start .args .written .now)) (start .args .s) (start .args .t) 1 ≡ none
+    → let start = c .before .before .before .before .before in attempt (asking (start .args .starts .now) (start .args .facts .now) (start .args .asked)) (start .args .s) (start .args .t) 1 ≡ none
 missed-too t c =
     let start = c .before .before .before .before .before in
-    let D = constraints (start .args .starts .now) (start .args .predecessors .now) (start .args .allowed .now) (start .args .reads .now) (start .args .required .now) (start .args .written .now) in
+    let D = asking (start .args .starts .now) (start .args .facts .now) (start .args .asked) in
     let fit = fits-by D (start .args .s) (start .args .t) 1 _ (c .before .before .before .before .rule-next .ensures) (c .before .allows2 .ensures) in
     ⊎-elim
     (λ w. sym (attempt-next D (start .args .s) (w .1 .result) (start .args .t) 1 (w .2 .result) (start .pre .1 .0) (w .1 .ensures) fit (w .0 .taken) (w .2 .ensures .completion))
@@ -167,7 +167,7 @@ missed-too t c =
 choose-outcome-returns-2 : (t : ℕ) → choose-outcome-lts.Need-returns-2 (outcome-claims t) (choose-outcome-at t) choose-outcome.Post
 choose-outcome-returns-2 t c =
     let start = c .before .before .before .before .before .before .before .before in
-    let D = constraints (start .args .starts .now) (start .args .predecessors .now) (start .args .allowed .now) (start .args .reads .now) (start .args .required .now) (start .args .written .now) in
+    let D = asking (start .args .starts .now) (start .args .facts .now) (start .args .asked) in
     let asked = c .before .before .before .before in
     let next = c .before .before .place2 in
     let answer = c .before .choose-transaction2 in
@@ -184,7 +184,7 @@ choose-outcome-returns-3 : (t : ℕ) → choose-outcome-lts.Need-returns-3 (outc
 choose-outcome-returns-3 t c =
     let start = c .before .before .before .before .before .before .before in
     let a = start .args in
-    let D = constraints (a .starts .now) (a .predecessors .now) (a .allowed .now) (a .reads .now) (a .required .now) (a .written .now) in
+    let D = asking (a .starts .now) (a .facts .now) (a .asked) in
     let rest = none-among D (a .s) (c .before .without .result) (λ e. omega (arith, ones-off (a .t) (a .s .unplaced) (start .pre .1 .0 .isIn))) (c .if5 .taken) in
     answers-none (whole (a .s)) ((rw (c .before .without .ensures) at rest) ∙ outcome-neither D (a .s) (a .t) (missed t (c .before .before .before .before)) (missed-too t (c .before .before)))
 
@@ -201,7 +201,7 @@ choose-outcome-choose-transaction-requires-3 t c κs =
 choose-outcome-returns-4 : (t : ℕ) → choose-outcome-lts.Need-returns-4 (outcome-claims t) (choose-outcome-at t) choose-outcome.Post
 choose-outcome-returns-4 t c =
     let a = c .before .before .before .before .before .before .before .before .args in
-    let D = constraints (a .starts .now) (a .predecessors .now) (a .allowed .now) (a .reads .now) (a .required .now) (a .written .now) in
+    let D = asking (a .starts .now) (a .facts .now) (a .asked) in
     answers-as (whole (a .s)) (c .choose-transaction3 .result) (rw (c .before .before .without .ensures) at (c .choose-transaction3 .ensures))
     (outcome-neither D (a .s) (a .t) (missed t (c .before .before .before .before .before)) (missed-too t (c .before .before .before)))
 
@@ -212,12 +212,12 @@ choose-transaction-count-requires t c κs =
 choose-transaction-returns : (t : ℕ) → choose-transaction-lts.Need-returns (transaction-claims t) (choose-transaction-at t) choose-transaction.Post
 choose-transaction-returns t c =
     let start = c .before .before in
-    all-placed (constraints (start .args .starts .now) (start .args .predecessors .now) (start .args .allowed .now) (start .args .reads .now) (start .args .required .now) (start .args .written .now)) (start .args .s) (start .args .candidates) (start .pre .1 .0) (sym (c .before .count .ensures) ∙ c .if1 .taken)
+    all-placed (asking (start .args .starts .now) (start .args .facts .now) (start .args .asked)) (start .args .s) (start .args .candidates) (start .pre .1 .0) (sym (c .before .count .ensures) ∙ c .if1 .taken)
 
 choose-transaction-returns-2 : (t : ℕ) → choose-transaction-lts.Need-returns-2 (transaction-claims t) (choose-transaction-at t) choose-transaction.Post
 choose-transaction-returns-2 t c =
     let start = c .before .before .before in
-    answers-none (whole (start .args .s)) (none-among (constraints (start .args .starts .now) (start .args .predecessors .now) (start .args .allowed .now) (start .args .reads .now) (start .args .required .now) (start .args .written .now)) (start .args .s) (start .args .candidates) (λ e. c .before .if1 .left (c .before .before .count .ensures ∙ e)) (c .if2 .taken))
+    answers-none (whole (start .args .s)) (none-among (asking (start .args .starts .now) (start .args .facts .now) (start .args .asked)) (start .args .s) (start .args .candidates) (λ e. c .before .if1 .left (c .before .before .count .ensures ∙ e)) (c .if2 .taken))
 
 choose-transaction-hopeful-requires : (t : ℕ) → choose-transaction-lts.Need-hopeful-requires (transaction-claims t) (choose-transaction-at t) choose-transaction.Post
 choose-transaction-hopeful-requires t c κs =
@@ -243,7 +243,7 @@ choose-transaction-choose-outcome-requires t c κs =
 choose-transaction-returns-4 : (t : ℕ) → choose-transaction-lts.Need-returns-4 (transaction-claims t) (choose-transaction-at t) choose-transaction.Post
 choose-transaction-returns-4 t c =
     let start = c .before .before .before .before .before .before .before in
-    let D = constraints (start .args .starts .now) (start .args .predecessors .now) (start .args .allowed .now) (start .args .reads .now) (start .args .required .now) (start .args .written .now) in
+    let D = asking (start .args .starts .now) (start .args .facts .now) (start .args .asked) in
     answers-as (whole (start .args .s)) (c .choose-outcome .result) (c .choose-outcome .ensures)
     (sym (next-candidate D (start .args .s) (start .args .candidates) (c .before .lowest .result) (start .pre .1 .1 .0) (start .fits .candidates .fits) (c .before .before .before .before .if2 .left) (c .before .lowest .ensures)))
 
