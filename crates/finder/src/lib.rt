@@ -6,18 +6,17 @@ ghost use lib.ListN.{length, take};
 ghost use Rattle.events.specs.Questions.{readable};
 ghost use Rattle.events.specs.Said.{refuse};
 ghost use Rattle.log.specs.Columns.{columns};
-ghost use Rattle.log.specs.Rows.{logged};
+ghost use Rattle.log.specs.Rows.{logged, Entered};
 ghost use Rattle.log.specs.Starts.{startOf};
 ghost use Rattle.log.specs.declared.admit.Checked.the-variants.{Readable};
-ghost use Rattle.tables.specs.Calls.{Taken};
 ghost use Rattle.tables.specs.Order.{Judged};
 ghost use Rattle.finder.specs.Answer.{markingSize, lowestMarking, gives, decided, findOf, findAfter, foundAnswer};
 
 mod arrays;
 
 use events::refusal::Refusal;
-use log::admit::admit;
 use log::admit::Checked;
+use log::admit::admit;
 use log::columns::columns_hold;
 use log::rows::Row;
 use log::rows::transactions_begun;
@@ -94,7 +93,7 @@ fn find_admitted(
     prefix: usize,
     output: &mut [u8],
 ) -> Finding
-    requires { ⌜ Taken checked count (now rows) ⌝ }
+    requires { ⌜ Entered checked count (now rows) ⌝ }
     requires { ⌜ prefix ≤ count ⌝ }
     ensures { λ r. ⌜
         gives r (now (output .exit))

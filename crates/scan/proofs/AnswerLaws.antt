@@ -95,18 +95,7 @@ module _ (edition : ℕ) (starts : List ℕ) (c : Columns) (count : ℕ) where
   passes p =
       then-readable _ (fine-answer edition starts c count (p .admitted) (readable-columns c count (hold-e c count (p .held)) (p .readable)))
       ∙ passes-31 (history c count) count (p .few)
-
   -- ---- the questions one after the other, as `scan_history` puts them
-
-  pub scan-after : (x : Checked) (h : List Event) → x ≡ historyAnswer edition starts c count → (x ≡ Checked.Readable → h ≡ history c count)
-      → scanAfter x starts h count ≡ scanAnswer edition starts c count
-  unfolding scanAfter scanAnswer scanRefusal
-  scan-after x h e f = rw (← e) (go x f)
-    where
-      go : (y : Checked) → (y ≡ Checked.Readable → h ≡ history c count)
-          → decided (thenChecked y (sizeRefusal h count)) (scan (startOf starts) h) ≡ decided (thenChecked y (sizeRefusal (history c count) count)) (scan (startOf starts) (history c count))
-      go Checked.Readable g = rw (g refl)
-      go (Checked.Refused r) g = rw (then-refused {a = Checked.Refused r} (sizeRefusal h count) refl, then-refused {a = Checked.Refused r} (sizeRefusal (history c count) count) refl) (sym (decided-refused {x = Checked.Refused r} (scan (startOf starts) h) refl) ∙ decided-refused {x = Checked.Refused r} (scan (startOf starts) (history c count)) refl)
 
 -- a refusal is the answer, whatever the scan would say
 pub after-refused : {x : Checked} {r : Refusal} (starts : List ℕ) (h : List Event) (count : ℕ) → x ≡ Checked.Refused r → Scanning.Refused r ≡ scanAfter x starts h count
@@ -116,3 +105,7 @@ after-refused starts h count e = decided-refused _ (then-refused _ e)
 pub after-readable : {x : Checked} (starts : List ℕ) (h : List Event) (count : ℕ) → length h ≡ count → x ≡ Checked.Readable → scanOf starts h ≡ scanAfter x starts h count
 unfolding scanAfter scanOf
 after-readable starts h count l e = rw l (ap (λ (y : Checked). decided y (scan (startOf starts) h)) (sym (then-readable _ e)))
+
+-- so that of what is refused nothing else is said
+pub after-alike : (r : Refusal) (starts : List ℕ) (count : ℕ) (g h : List Event) → scanAfter (Checked.Refused r) starts g count ≡ scanAfter (Checked.Refused r) starts h count
+after-alike r starts count g h = sym (after-refused {x = Checked.Refused r} starts g count refl) ∙ after-refused {x = Checked.Refused r} starts h count refl

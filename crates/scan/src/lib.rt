@@ -6,11 +6,10 @@ ghost use lib.ListN.{take};
 ghost use Rattle.events.specs.Events.{isBegin};
 ghost use Rattle.events.specs.Questions.{readable};
 ghost use Rattle.log.specs.Columns.{columns};
-ghost use Rattle.log.specs.Rows.{logged};
+ghost use Rattle.log.specs.Rows.{logged, Entered};
 ghost use Rattle.log.specs.Starts.{startOf};
 ghost use Rattle.opacity.specs.Scan.{scan, cause};
 ghost use Rattle.opacity.specs.declared.verdict.Scanned.the-variants.{Faulted};
-ghost use Rattle.tables.specs.Calls.{Taken};
 ghost use Rattle.tables.specs.Order.{Judged};
 ghost use Rattle.scan.specs.Answer.{scanOf, scanAfter, scanAnswer};
 use events::event::Event;
@@ -130,7 +129,7 @@ pub fn scan_log(starts: &[u32; 32], log: &[Row]) -> Scanning
 
 // What the questions refuse, and else what the scan of the rows taken in answers.
 fn scan_admitted(starts: &[u32; 32], checked: Checked, rows: &[Row], count: usize) -> Scanning
-    requires { ⌜ Taken checked count (now rows) ⌝ }
+    requires { ⌜ Entered checked count (now rows) ⌝ }
     ensures { λ r. ⌜ r ≡ scanAfter checked (now (starts .entry)) (logged (take count (now (rows .entry)))) count ⌝ }
 {
     if let Checked::Refused(refusal) = checked {

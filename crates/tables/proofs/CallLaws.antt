@@ -69,15 +69,12 @@ then-then (Checked.Refused r) b c = refl
 
 -- ---- the rows that were taken in
 
--- they hold what is logged in them
-pub taken-in : (x : Checked) (h : List Event) (n : ℕ) (rows : List (List ℕ)) → (x ≡ Checked.Readable → Admitted h n rows) → Taken x n rows
-taken-in x h n rows f e = let a = f e in record { room = a .room; same = refl; readable = rw (a .same) (a .readable) }
-
 -- the first of them are a prefix of that, which is readable too
 pub prefix-logged : (n k : ℕ) (rows : List (List ℕ)) → k ≤ n → logged (take k rows) ≡ take k (logged (take n rows))
 prefix-logged n k rows l = ap logged (sym (take-take k n rows l)) ∙ logged-take k (take n rows)
 
-pub prefix-readable : (n k : ℕ) (rows : List (List ℕ)) → k ≤ n → Admitted (logged (take n rows)) n rows → readable (logged (take k rows)) ≡ true
-prefix-readable n k rows l a =
-    let m : length (logged (take n rows)) ≡ n = logged-length (take n rows) ∙ length-take-le n rows (a .room) in
-    ap readable (prefix-logged n k rows l) ∙ readable-take (logged (take n rows)) k (omega arith) (a .readable)
+pub prefix-readable : (n k : ℕ) (rows : List (List ℕ)) → k ≤ n → n ≤ length rows → readable (logged (take n rows)) ≡ true
+    → readable (logged (take k rows)) ≡ true
+prefix-readable n k rows l room r =
+    let m : length (logged (take n rows)) ≡ n = logged-length (take n rows) ∙ length-take-le n rows room in
+    ap readable (prefix-logged n k rows l) ∙ readable-take (logged (take n rows)) k (omega arith) r

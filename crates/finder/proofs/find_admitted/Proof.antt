@@ -3,7 +3,7 @@ use mathlib.Core.Path.{sym, _∙_}
 use native.Mathlib.Omega.{arith}
 use lib.ListN.{take}
 use lib.Seq.{length-take-le}
-use Rattle.log.specs.Rows.{Admitted, logged}
+use Rattle.log.specs.Rows.{logged}
 use Rattle.tables.proofs.CallLaws.{prefix-readable}
 use Rattle.finder.proofs.AnswerLaws.{after-refused, after-readable}
 use borrow.Author.Needs.{needs}
@@ -12,10 +12,6 @@ use Rattle.finder.proofs.find_admitted.Tie as tie
 
 abbrev entered : tie.After-enum-told → tie.Start
 entered a = a .before .before .before
-
--- the rows hold a readable history
-held : (a : tie.After-enum-told) → Admitted (logged (take (entered a .args .count) (entered a .args .rows .now))) (entered a .args .count) (entered a .args .rows .now)
-held a = entered a .pre .0 (a .enum-told .given .1)
 
 enum-known-checked : tie.Need-enum-known-checked
 enum-known-checked c = search needs
@@ -29,13 +25,14 @@ enum-told : tie.Need-enum-told
 enum-told c = search needs
 
 slice-aggregate-find-log : tie.Need-slice-aggregate-find-log
-slice-aggregate-find-log c = sym (length-take-le _ _ (omega (arith, held (c .before) .room, entered (c .before) .pre .1)))
+slice-aggregate-find-log c = sym (length-take-le _ _ (omega (arith, entered (c .before) .pre .0 .room (c .before .enum-told .given .1), entered (c .before) .pre .1)))
 
 find-log-requires : tie.Need-find-log-requires
 find-log-requires c κs =
     let t = c .before .before in
     let s = entered t in
-    prefix-readable (s .args .count) (s .args .prefix) (s .args .rows .now) (s .pre .1) (held t)
+    prefix-readable (s .args .count) (s .args .prefix) (s .args .rows .now) (s .pre .1)
+    (s .pre .0 .room (t .enum-told .given .1)) (s .pre .0 .readable (t .enum-told .given .1))
 
 same-length : tie.Need-same-length
 same-length c = search needs

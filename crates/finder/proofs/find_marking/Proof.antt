@@ -9,7 +9,8 @@ use Rattle.events.specs.declared.event.Event.{Event}
 use Rattle.events.specs.declared.refusal.Refusal.{Refusal}
 use Rattle.events.specs.Said.{refuse}
 use Rattle.log.specs.Columns.{Columns, columns, history}
-use Rattle.tables.proofs.CallLaws.{taken-in, prefix-logged}
+use Rattle.log.proofs.DoorLaws.{entered as let-in, in-rows}
+use Rattle.tables.proofs.CallLaws.{prefix-logged}
 use Rattle.finder.specs.declared.Finding.{Finding}
 use Rattle.finder.specs.Answer.{gives}
 use Rattle.finder.proofs.AnswerLaws.{call-refuses, call-refused, find-after}
@@ -68,8 +69,11 @@ slice-aggregate-find-admitted c = search needs
 find-admitted-requires : tie.Need-find-admitted-requires
 find-admitted-requires c κs =
     let a = c .before .before .before in
-    let s = few a in
-    (taken-in _ (history (given s) (s .args .count)) (s .args .count) _ (a .admit .ensures .1), inside a .if1 .left)
+    let s = few a in (
+      let-in (s .args .edition) (s .args .starts .now) (given s) (s .args .count) (a .admit .result) _ _ (a .admit .ensures .0) (a .admit .ensures .1)
+          (λ m. omega (arith, a .before .before .if2 .taken)),
+      inside a .if1 .left,
+    )
 
 same-length : tie.Need-same-length
 same-length c = search needs
@@ -81,7 +85,9 @@ returns-2 c =
     let s = few a in
     found .find-admitted .ensures
     ∙ find-after (s .args .edition) (s .args .starts .now) (given s) (s .args .count) (s .args .prefix) (s .args .output .now) _ _ (inside a .if1 .left) (a .admit .ensures .0)
-    (λ e. prefix-logged (s .args .count) (s .args .prefix) _ (inside a .if1 .left) ∙ ap (take (s .args .prefix)) (a .admit .ensures .1 e .same))
+    (λ e. prefix-logged (s .args .count) (s .args .prefix) _ (inside a .if1 .left) ∙ ap (take (s .args .prefix))
+    (in-rows (s .args .edition) (s .args .starts .now) (given s) (s .args .count) (a .admit .result) _ _ (a .admit .ensures .0) (a .admit .ensures .1)
+    (λ m. omega (arith, a .before .before .if2 .taken)) e .same))
 
 slice-aggregate-admit-2 : tie.Need-slice-aggregate-admit-2
 slice-aggregate-admit-2 c = search needs
@@ -95,8 +101,11 @@ slice-aggregate-find-admitted-2 c = search needs
 find-admitted-requires-2 : tie.Need-find-admitted-requires-2
 find-admitted-requires-2 c κs =
     let a = c .before .before .before in
-    let s = many a in
-    (taken-in _ (history (given s) (s .args .count)) (s .args .count) _ (a .admit2 .ensures .1), inside-many a .if1 .left)
+    let s = many a in (
+      let-in (s .args .edition) (s .args .starts .now) (given s) (s .args .count) (a .admit2 .result) _ _ (a .admit2 .ensures .0) (a .admit2 .ensures .1)
+          (λ m. m),
+      inside-many a .if1 .left,
+    )
 
 same-length-2 : tie.Need-same-length-2
 same-length-2 c = search needs
@@ -108,7 +117,9 @@ returns-3 c =
     let s = many a in
     found .find-admitted2 .ensures
     ∙ find-after (s .args .edition) (s .args .starts .now) (given s) (s .args .count) (s .args .prefix) (s .args .output .now) _ _ (inside-many a .if1 .left) (a .admit2 .ensures .0)
-    (λ e. prefix-logged (s .args .count) (s .args .prefix) _ (inside-many a .if1 .left) ∙ ap (take (s .args .prefix)) (a .admit2 .ensures .1 e .same))
+    (λ e. prefix-logged (s .args .count) (s .args .prefix) _ (inside-many a .if1 .left) ∙ ap (take (s .args .prefix))
+    (in-rows (s .args .edition) (s .args .starts .now) (given s) (s .args .count) (a .admit2 .result) _ _ (a .admit2 .ensures .0) (a .admit2 .ensures .1)
+    (λ m. m) e .same))
 
 pub find-marking-spec : {M : Type 1} → statement M
 find-marking-spec =

@@ -2,16 +2,12 @@
 use mathlib.Core.Path.{sym, _∙_}
 use lib.ListN.{take}
 use lib.Seq.{length-take-le}
-use Rattle.log.specs.Rows.{Admitted, logged}
+use Rattle.log.specs.Rows.{logged}
 use Rattle.log.proofs.RowLaws.{logged-length}
 use Rattle.scan.proofs.AnswerLaws.{after-refused, after-readable}
 use borrow.Author.Needs.{needs}
 use Rattle.scan.proofs.scan_admitted.Statement.{statement}
 use Rattle.scan.proofs.scan_admitted.Tie as tie
-
--- the rows hold a readable history
-held : (c : tie.After-enum-told) → Admitted (logged (take (c .before .before .args .count) (c .before .before .args .rows .now))) (c .before .before .args .count) (c .before .before .args .rows .now)
-held c = c .before .before .pre (c .enum-told .given .1)
 
 enum-known-checked : tie.Need-enum-known-checked
 enum-known-checked c = search needs
@@ -25,10 +21,10 @@ enum-told : tie.Need-enum-told
 enum-told c = search needs
 
 slice-aggregate-scan-log : tie.Need-slice-aggregate-scan-log
-slice-aggregate-scan-log c = sym (length-take-le _ _ (held (c .before) .room))
+slice-aggregate-scan-log c = sym (length-take-le _ _ (c .before .before .before .pre .room (c .before .enum-told .given .1)))
 
 scan-log-requires : tie.Need-scan-log-requires
-scan-log-requires c κs = held (c .before) .readable
+scan-log-requires c κs = c .before .before .before .pre .readable (c .before .enum-told .given .1)
 
 returns-2 : tie.Need-returns-2
 returns-2 c =
@@ -36,7 +32,7 @@ returns-2 c =
     let a = told .before .before .args in
     let h = logged (take (a .count) (a .rows .now)) in
     c .scan-log .ensures
-    ∙ after-readable (a .starts .now) h (a .count) (logged-length _ ∙ length-take-le (a .count) (a .rows .now) (held told .room)) (told .enum-told .given .1)
+    ∙ after-readable (a .starts .now) h (a .count) (logged-length _ ∙ length-take-le (a .count) (a .rows .now) (told .before .before .pre .room (told .enum-told .given .1))) (told .enum-told .given .1)
 
 pub scan-admitted-spec : {M : Type 1} → statement M
 scan-admitted-spec =

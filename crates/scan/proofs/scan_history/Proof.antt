@@ -1,8 +1,14 @@
 -- `scan::scan_history` meets its contract: the columns are taken in, and their rows answered. Assumes nothing.
-use mathlib.Core.Path.{_∙_}
-use Rattle.log.specs.Columns.{Columns, columns, history}
-use Rattle.tables.proofs.CallLaws.{taken-in}
-use Rattle.scan.proofs.AnswerLaws.{scan-after}
+use native.Mathlib.Omega.{arith}
+use mathlib.Core.Path.{refl, _∙_}
+use mathlib.Core.List.{List}
+use Rattle.events.specs.declared.event.Event.{Event}
+use Rattle.log.specs.declared.admit.Checked.{Checked}
+use Rattle.log.specs.Columns.{Columns, columns}
+use Rattle.log.proofs.DoorLaws.{entered as let-in, behind}
+use Rattle.scan.specs.declared.Scanning.{Scanning}
+use Rattle.scan.specs.Answer.{scanAfter, scanAnswer, scanRefusal}
+use Rattle.scan.proofs.AnswerLaws.{after-alike}
 use borrow.Author.Needs.{needs}
 use Rattle.scan.proofs.scan_history.Statement.{statement}
 use Rattle.scan.proofs.scan_history.Tie as tie
@@ -21,6 +27,10 @@ few a = entered (a .before .before .before)
 abbrev many : tie.After-admit2 → tie.Start
 many a = entered (a .before .before .before)
 
+-- the answer of what was taken in
+abbrev answer : tie.Start → Checked → List Event → Scanning
+answer s x h = scanAfter x (s .args .starts .now) h (s .args .count)
+
 slice-aggregate-admit : tie.Need-slice-aggregate-admit
 slice-aggregate-admit c = search needs
 
@@ -34,14 +44,17 @@ scan-admitted-requires : tie.Need-scan-admitted-requires
 scan-admitted-requires c κs =
     let a = c .before .before in
     let s = few a in
-    taken-in _ (history (given s) (s .args .count)) (s .args .count) _ (a .admit .ensures .1)
+    let-in (s .args .edition) (s .args .starts .now) (given s) (s .args .count) (a .admit .result) _ _ (a .admit .ensures .0) (a .admit .ensures .1)
+    (λ m. omega (arith, a .before .before .if1 .taken))
 
 returns : tie.Need-returns
+unfolding scanAfter scanAnswer scanRefusal
 returns c =
     let a = c .before .before .before in
     let s = few a in
     c .scan-admitted .ensures
-    ∙ scan-after (s .args .edition) (s .args .starts .now) (given s) (s .args .count) _ _ (a .admit .ensures .0) (λ e. a .admit .ensures .1 e .same)
+    ∙ behind (s .args .edition) (s .args .starts .now) (given s) (s .args .count) (a .admit .result) _ _ (a .admit .ensures .0) (a .admit .ensures .1)
+    (λ m. omega (arith, a .before .before .if1 .taken)) (answer s) (λ r g h. after-alike r (s .args .starts .now) (s .args .count) g h)
 
 slice-aggregate-admit-2 : tie.Need-slice-aggregate-admit-2
 slice-aggregate-admit-2 c = search needs
@@ -56,14 +69,17 @@ scan-admitted-requires-2 : tie.Need-scan-admitted-requires-2
 scan-admitted-requires-2 c κs =
     let a = c .before .before in
     let s = many a in
-    taken-in _ (history (given s) (s .args .count)) (s .args .count) _ (a .admit2 .ensures .1)
+    let-in (s .args .edition) (s .args .starts .now) (given s) (s .args .count) (a .admit2 .result) _ _ (a .admit2 .ensures .0) (a .admit2 .ensures .1)
+    (λ m. m)
 
 returns-2 : tie.Need-returns-2
+unfolding scanAfter scanAnswer scanRefusal
 returns-2 c =
     let a = c .before .before .before in
     let s = many a in
     c .scan-admitted2 .ensures
-    ∙ scan-after (s .args .edition) (s .args .starts .now) (given s) (s .args .count) _ _ (a .admit2 .ensures .0) (λ e. a .admit2 .ensures .1 e .same)
+    ∙ behind (s .args .edition) (s .args .starts .now) (given s) (s .args .count) (a .admit2 .result) _ _ (a .admit2 .ensures .0) (a .admit2 .ensures .1)
+    (λ m. m) (answer s) (λ r g h. after-alike r (s .args .starts .now) (s .args .count) g h)
 
 pub scan-history-spec : {M : Type 1} → statement M
 scan-history-spec =

@@ -24,7 +24,7 @@ abbrev μ-loop : tie.MeasureT-loop
 
 -- the rule, by what the function is given
 abbrev holds : tie.Start Inv-loop μ-loop → ℕ → Bool
-holds s = 
+holds s =
     pointRule (startOf (s .args .starts .now)) (logged (s .args .log .now)) (s .args .link .now) (s .args .writers .now) (s .args .place .now) (s .args .gaps .now) (s .args .rule)
 
 inside : (t : tie.In-loop Inv-loop μ-loop) → t .before .loop .i < length (logged (t .before .before .args .log .now))
