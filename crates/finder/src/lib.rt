@@ -9,9 +9,10 @@ ghost use Rattle.log.specs.Columns.{columns};
 ghost use Rattle.log.specs.Rows.{logged};
 ghost use Rattle.log.specs.Starts.{startOf};
 ghost use Rattle.log.specs.declared.columns.Checked.the-variants.{Readable};
-ghost use Rattle.tables.specs.Calls.{Taken};
+ghost use Rattle.tables.specs.Logs.{Taken};
 ghost use Rattle.tables.specs.Order.{Judged};
-ghost use Rattle.finder.specs.Answer.{markingSize, lowestMarking, gives, decided, findOf, findAfter, foundAnswer};
+ghost use Rattle.finder.specs.Answer.{markingSize, lowestMarking, gives, decided, foundAnswer};
+ghost use Rattle.finder.specs.Logs.{findOf, findAfter};
 
 mod arrays;
 
@@ -141,7 +142,10 @@ pub fn find_marking(
     prefix: usize,
     output: &mut [u8],
 ) -> Finding
-    ensures { λ r. ⌜ gives r (now (output .exit)) ≡ foundAnswer edition (now (starts .entry)) (columns (now (kinds .entry)) (now (transactions .entry)) (now (registers .entry)) (now (values .entry))) count prefix (now (output .entry)) ⌝ }
+    ensures { λ r. ⌜
+        gives r (now (output .exit))
+        ≡ foundAnswer edition (now (starts .entry))
+        (columns (now (kinds .entry)) (now (transactions .entry)) (now (registers .entry)) (now (values .entry))) count prefix (now (output .entry)) ⌝ }
 {
     if prefix > count {
         let held = columns_hold(kinds, transactions, registers, values, count);

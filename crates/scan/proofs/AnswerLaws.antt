@@ -24,7 +24,8 @@ use Rattle.opacity.specs.Scan.{scan}
 use Rattle.tables.specs.Calls.{thenChecked}
 use Rattle.tables.proofs.CallLaws.{asked-none, asked-yes, asked-no, asked-e, then-readable, then-refused, then-e}
 use Rattle.scan.specs.declared.Scanning.{Scanning}
-use Rattle.scan.specs.Answer.{Passed, scannedSaid, said, sizeRefusal, scanRefusal, decided, scanOf, scanAfter, scanAnswer}
+use Rattle.scan.specs.Answer.{Passed, scannedSaid, said, sizeRefusal, scanRefusal, decided, scanAnswer}
+use Rattle.scan.specs.Logs.{scanOf, scanAfter}
 
 -- ---- what is decided
 
@@ -104,9 +105,11 @@ module _ (edition : ℕ) (starts : List ℕ) (c : Columns) (count : ℕ) where
   scan-after x h e f = rw (← e) (go x f)
     where
       go : (y : Checked) → (y ≡ Checked.Readable → h ≡ history c count)
-          → decided (thenChecked y (sizeRefusal h count)) (scan (startOf starts) h) ≡ decided (thenChecked y (sizeRefusal (history c count) count)) (scan (startOf starts) (history c count))
+          → decided (thenChecked y (sizeRefusal h count)) (scan (startOf starts) h)
+          ≡ decided (thenChecked y (sizeRefusal (history c count) count)) (scan (startOf starts) (history c count))
       go Checked.Readable g = rw (g refl)
-      go (Checked.Refused r) g = rw (then-refused {a = Checked.Refused r} (sizeRefusal h count) refl, then-refused {a = Checked.Refused r} (sizeRefusal (history c count) count) refl) (sym (decided-refused {x = Checked.Refused r} (scan (startOf starts) h) refl) ∙ decided-refused {x = Checked.Refused r} (scan (startOf starts) (history c count)) refl)
+      go (Checked.Refused r) g =
+          sym (decided-refused {r = r} _ (then-refused {a = Checked.Refused r} _ refl)) ∙ decided-refused {r = r} _ (then-refused {a = Checked.Refused r} _ refl)
 
 -- a refusal is the answer, whatever the scan would say
 pub after-refused : {x : Checked} {r : Refusal} (starts : List ℕ) (h : List Event) (count : ℕ) → x ≡ Checked.Refused r → Scanning.Refused r ≡ scanAfter x starts h count

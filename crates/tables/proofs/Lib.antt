@@ -10,3 +10,4 @@ pub mod Link
 pub mod GoodHistory
 pub mod CallLaws
 pub mod JudgedLaws
+pub mod LogLaws

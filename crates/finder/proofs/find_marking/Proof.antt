@@ -9,7 +9,7 @@ use Rattle.events.specs.declared.event.Event.{Event}
 use Rattle.events.specs.declared.refusal.Refusal.{Refusal}
 use Rattle.events.specs.Said.{refuse}
 use Rattle.log.specs.Columns.{Columns, columns, history}
-use Rattle.tables.proofs.CallLaws.{taken-in, prefix-logged}
+use Rattle.tables.proofs.LogLaws.{taken-in, prefix-logged}
 use Rattle.finder.specs.declared.Finding.{Finding}
 use Rattle.finder.specs.Answer.{gives}
 use Rattle.finder.proofs.AnswerLaws.{call-refuses, call-refused, find-after}

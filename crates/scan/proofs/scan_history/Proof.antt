@@ -1,7 +1,7 @@
 -- `scan::scan_history` meets its contract: the columns are taken in, and their rows answered. Assumes nothing.
 use mathlib.Core.Path.{_∙_}
 use Rattle.log.specs.Columns.{Columns, columns, history}
-use Rattle.tables.proofs.CallLaws.{taken-in}
+use Rattle.tables.proofs.LogLaws.{taken-in}
 use Rattle.scan.proofs.AnswerLaws.{scan-after}
 use borrow.Author.Needs.{needs}
 use Rattle.scan.proofs.scan_history.Statement.{statement}
