@@ -26,7 +26,8 @@ use Rattle.opacity.specs.Marking.{marked, markingBytes}
 use Rattle.tables.specs.Calls.{thenChecked}
 use Rattle.tables.proofs.CallLaws.{asked-none, asked-yes, asked-no, asked-e, then-readable, then-refused, then-e}
 use Rattle.finder.specs.declared.Finding.{Finding}
-use Rattle.finder.specs.Answer.{markingSize, Passed, said, gives, decided, prefixRefusal, callRefusal, findRefusal, markingOf, lowestMarking, findOf, findAfter, foundAnswer}
+use Rattle.finder.specs.Answer.{markingSize, Passed, said, gives, decided, prefixRefusal, callRefusal, findRefusal, markingOf, lowestMarking, foundAnswer}
+use Rattle.finder.specs.Logs.{findOf, findAfter}
 
 -- ---- what is decided
 

@@ -83,15 +83,6 @@ decided (Checked.Refused r) m o = gives (Finding.Refused r) o
 decided Checked.Readable none o = gives Finding.None o
 decided Checked.Readable (some bytes) o = gives (Finding.Marking (length bytes)) (over bytes o)
 
--- 31 and 32 of a history that comes with this count, and then what is found of it
-unfoldable pub findOf : List ℕ → List Event → ℕ → List ℕ → Given
-findOf starts h count output = decided (prefixRefusal h count (length output)) (lowestMarking (startOf starts) h) output
-
--- the same after the questions of the columns
-unfoldable pub findAfter : Checked → List ℕ → List Event → ℕ → List ℕ → Given
-findAfter x starts h count output =
-    decided (thenChecked x (prefixRefusal h count (length output))) (lowestMarking (startOf starts) h) output
-
 -- a prefix keeps the edition and the start values of its history
 unfoldable pub foundAnswer : ℕ → List ℕ → Columns → ℕ → ℕ → List ℕ → Given
 foundAnswer edition starts c count prefix output =

@@ -1,3 +1,4 @@
 pub mod Arrays
 pub mod Answer
 pub mod Words
+pub mod Logs

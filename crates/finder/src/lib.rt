@@ -10,7 +10,8 @@ ghost use Rattle.log.specs.Rows.{logged, Entered};
 ghost use Rattle.log.specs.Starts.{startOf};
 ghost use Rattle.log.specs.declared.admit.Checked.the-variants.{Readable};
 ghost use Rattle.tables.specs.Order.{Judged};
-ghost use Rattle.finder.specs.Answer.{markingSize, lowestMarking, gives, decided, findOf, findAfter, foundAnswer};
+ghost use Rattle.finder.specs.Answer.{markingSize, lowestMarking, gives, decided, foundAnswer};
+ghost use Rattle.finder.specs.Logs.{findOf, findAfter};
 
 mod arrays;
 
@@ -140,7 +141,10 @@ pub fn find_marking(
     prefix: usize,
     output: &mut [u8],
 ) -> Finding
-    ensures { λ r. ⌜ gives r (now (output .exit)) ≡ foundAnswer edition (now (starts .entry)) (columns (now (kinds .entry)) (now (transactions .entry)) (now (registers .entry)) (now (values .entry))) count prefix (now (output .entry)) ⌝ }
+    ensures { λ r. ⌜
+        gives r (now (output .exit))
+        ≡ foundAnswer edition (now (starts .entry))
+        (columns (now (kinds .entry)) (now (transactions .entry)) (now (registers .entry)) (now (values .entry))) count prefix (now (output .entry)) ⌝ }
 {
     if prefix > count {
         let held = columns_hold(kinds, transactions, registers, values, count);

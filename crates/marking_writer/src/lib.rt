@@ -24,7 +24,9 @@ pub fn put_head(out: &mut [u8])
 // A transaction and its outcome, 0 aborted or 1 committed.
 pub fn put_place(out: &mut [u8], at: usize, transaction: u16, outcome: u16)
     requires { ⌜ at + 8 ≤ length (now out) ⌝ }
-    ensures { λ _. ⌜ now (out .exit) ≡ placed (now (out .entry)) at (u16Bytes 6 ++ u16Bytes 32 ++ u16Bytes transaction ++ u16Bytes outcome) ⌝ }
+    ensures { λ _. ⌜
+        now (out .exit)
+        ≡ placed (now (out .entry)) at (u16Bytes 6 ++ u16Bytes 32 ++ u16Bytes transaction ++ u16Bytes outcome) ⌝ }
 {
     fields::put_u16(out, at, Record::PLACE_LENGTH);
     fields::put_u16(out, at + 2, Record::PLACE);

@@ -24,7 +24,8 @@ use Rattle.opacity.specs.Scan.{scan}
 use Rattle.tables.specs.Calls.{thenChecked}
 use Rattle.tables.proofs.CallLaws.{asked-none, asked-yes, asked-no, asked-e, then-readable, then-refused, then-e}
 use Rattle.scan.specs.declared.Scanning.{Scanning}
-use Rattle.scan.specs.Answer.{Passed, scannedSaid, said, sizeRefusal, scanRefusal, decided, scanOf, scanAfter, scanAnswer}
+use Rattle.scan.specs.Answer.{Passed, scannedSaid, said, sizeRefusal, scanRefusal, decided, scanAnswer}
+use Rattle.scan.specs.Logs.{scanOf, scanAfter}
 
 -- ---- what is decided
 

@@ -5,7 +5,6 @@ use mathlib.Core.Path.{_≡_}
 use mathlib.Core.Bool.{true}
 use mathlib.Core.List.{List, [], _∷_}
 use lib.Dec.{leb}
-use lib.ListN.{length}
 use Rattle.events.specs.declared.event.Event.{Event}
 use Rattle.log.specs.declared.admit.Checked.{Checked}
 use Rattle.events.specs.Events.{begins}
@@ -52,14 +51,6 @@ Passes edition starts c count = scanRefusal edition starts c count ≡ Checked.R
 unfoldable pub decided : Checked → Scanned → Scanning
 decided (Checked.Refused r) s = Scanning.Refused r
 decided Checked.Readable s = Scanning.Scanned s
-
--- 31 of a history, and then what its prefixes say, each with the start values of the whole
-unfoldable pub scanOf : List ℕ → List Event → Scanning
-scanOf starts h = decided (sizeRefusal h (length h)) (scan (startOf starts) h)
-
--- the same after the questions of the columns
-unfoldable pub scanAfter : Checked → List ℕ → List Event → ℕ → Scanning
-scanAfter x starts h count = decided (thenChecked x (sizeRefusal h count)) (scan (startOf starts) h)
 
 -- each prefix keeps the edition and the start values of its history
 unfoldable pub scanAnswer : ℕ → List ℕ → Columns → ℕ → Scanning

@@ -11,7 +11,8 @@ ghost use Rattle.log.specs.Starts.{startOf};
 ghost use Rattle.opacity.specs.Scan.{scan, cause};
 ghost use Rattle.opacity.specs.declared.verdict.Scanned.the-variants.{Faulted};
 ghost use Rattle.tables.specs.Order.{Judged};
-ghost use Rattle.scan.specs.Answer.{scanOf, scanAfter, scanAnswer};
+ghost use Rattle.scan.specs.Answer.{scanAnswer};
+ghost use Rattle.scan.specs.Logs.{scanOf, scanAfter};
 use events::event::Event;
 use events::event::is_abort;
 use events::event::is_begin;
@@ -149,7 +150,9 @@ pub fn scan_history(
     values: &[u32],
     count: usize,
 ) -> Scanning
-    ensures { λ r. ⌜ r ≡ scanAnswer edition (now (starts .entry)) (columns (now (kinds .entry)) (now (transactions .entry)) (now (registers .entry)) (now (values .entry))) count ⌝ }
+    ensures { λ r. ⌜
+        r ≡ scanAnswer edition (now (starts .entry))
+        (columns (now (kinds .entry)) (now (transactions .entry)) (now (registers .entry)) (now (values .entry))) count ⌝ }
 {
     if count <= 64 {
         let mut few = [[0u32; 4]; 64];

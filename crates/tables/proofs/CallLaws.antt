@@ -1,25 +1,18 @@
 -- Laws of the questions put to a call.
 -- Assumes nothing.
-use Prim.Native.Nat.{ℕ, _≤_}
+use Prim.Native.Nat.{ℕ}
 use native.Mathlib.Omega.{arith}
 use mathlib.Core.Path.{_≡_, refl, sym, ap, _∙_}
 use mathlib.Core.Bool.{Bool, true, false}
 use mathlib.Core.List.{List, [], _∷_}
 use mathlib.Core.Option.{Option, Option·getD}
-use lib.ListN.{length, take}
-use lib.Seq.{take-take, length-take-le}
 use Rattle.log.specs.declared.admit.Checked.{Checked}
 use Rattle.events.specs.declared.refusal.Refusal.{Refusal}
 use Rattle.events.specs.Said.{refuse}
 use Rattle.events.specs.Questions.{Question, ask, refusal}
 use Rattle.log.specs.Answer.{refusedWith}
 use Rattle.events.proofs.QuestionLaws.{ask-yes, ask-no}
-use Rattle.events.specs.declared.event.Event.{Event}
-use Rattle.events.specs.Questions.{readable}
-use Rattle.events.proofs.QuestionLaws.{readable-take}
-use Rattle.log.specs.Rows.{Admitted, logged}
-use Rattle.log.proofs.RowLaws.{logged-length, logged-take}
-use Rattle.tables.specs.Calls.{askedOf, thenChecked, Taken}
+use Rattle.tables.specs.Calls.{askedOf, thenChecked}
 
 -- a refusal is not an answer that lets pass
 pub refused-readable : (r : Refusal) → Checked.Refused r ≡ Checked.Readable → ⊥
@@ -66,15 +59,3 @@ pub then-then : (a b c : Checked) → thenChecked (thenChecked a b) c ≡ thenCh
 unfolding thenChecked
 then-then Checked.Readable b c = refl
 then-then (Checked.Refused r) b c = refl
-
--- ---- the rows that were taken in
-
--- the first of them are a prefix of that, which is readable too
-pub prefix-logged : (n k : ℕ) (rows : List (List ℕ)) → k ≤ n → logged (take k rows) ≡ take k (logged (take n rows))
-prefix-logged n k rows l = ap logged (sym (take-take k n rows l)) ∙ logged-take k (take n rows)
-
-pub prefix-readable : (n k : ℕ) (rows : List (List ℕ)) → k ≤ n → n ≤ length rows → readable (logged (take n rows)) ≡ true
-    → readable (logged (take k rows)) ≡ true
-prefix-readable n k rows l room r =
-    let m : length (logged (take n rows)) ≡ n = logged-length (take n rows) ∙ length-take-le n rows room in
-    ap readable (prefix-logged n k rows l) ∙ readable-take (logged (take n rows)) k (omega arith) r

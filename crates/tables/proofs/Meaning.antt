@@ -188,7 +188,8 @@ module _ (h : List Event) (good : Good h) where
   unfolding next
   predecessors-step s past e t x k l q p = rw (precedes-snoc past e x t) (go (isBegin e) refl (eqb (e .transaction) t) refl)
     where
-      go : (b : Bool) → isBegin e ≡ b → (d : Bool) → eqb (e .transaction) t ≡ d → bitAt x (getD (cond b (set (s .predecessors) (e .transaction) (s .ended)) (s .predecessors)) t 0) ≡ digit (precedes past x t or (ended x past and by isBegin t e))
+      go : (b : Bool) → isBegin e ≡ b → (d : Bool) → eqb (e .transaction) t ≡ d
+          → bitAt x (getD (cond b (set (s .predecessors) (e .transaction) (s .ended)) (s .predecessors)) t 0) ≡ digit (precedes past x t or (ended x past and by isBegin t e))
       go true f true g =
           let w : getD (set (s .predecessors) (e .transaction) (s .ended)) t 0 ≡ s .ended =
           rw (eqb-true (e .transaction) t g) (getD-set-same (s .predecessors) t (s .ended) 0 (rw k l)) in
@@ -257,7 +258,12 @@ module _ (h : List Event) (good : Good h) where
       unended f = rw (eqb-true (e .transaction) t f) at going
 
       go : (d : Bool) → eqb (e .transaction) t ≡ d → (c : Bool) → isCommit e ≡ c → (x : Bool) → isAbort e ≡ x → (a : Bool) → asksCommit e ≡ a
-          → after c x a ≡ rule (cond (has isCommit t past or by isCommit t e) Status.committed (cond (has isAbort t past or by isAbort t e) Status.aborted (cond (has asksCommit t past or by asksCommit t e) Status.pending Status.live)))
+          → after c x a
+          ≡ rule
+          (cond (has isCommit t past or by isCommit t e) Status.committed
+          (cond (has isAbort t past or by isAbort t e) Status.aborted
+          (cond (has asksCommit t past or by asksCommit t e) Status.pending
+          Status.live)))
       go false f c u x v a w =
           simp (by-other isCommit t e f, by-other isAbort t e f, by-other asksCommit t e f, or-false) (away f c x a ∙ q)
       go true f true u x v a w = simp (by-same isCommit t e f, u, or-true) (here 1 f)

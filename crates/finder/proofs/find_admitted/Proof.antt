@@ -4,7 +4,7 @@ use native.Mathlib.Omega.{arith}
 use lib.ListN.{take}
 use lib.Seq.{length-take-le}
 use Rattle.log.specs.Rows.{logged}
-use Rattle.tables.proofs.CallLaws.{prefix-readable}
+use Rattle.log.proofs.DoorLaws.{prefix-readable}
 use Rattle.finder.proofs.AnswerLaws.{after-refused, after-readable}
 use borrow.Author.Needs.{needs}
 use Rattle.finder.proofs.find_admitted.Statement.{statement}

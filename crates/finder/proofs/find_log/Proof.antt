@@ -10,7 +10,8 @@ use Rattle.log.specs.declared.admit.Checked.{Checked}
 use Rattle.log.specs.Rows.{logged}
 use Rattle.log.specs.Starts.{startOf}
 use Rattle.opacity.proofs.Bounds.{reads-low}
-use Rattle.finder.specs.Answer.{lowestMarking, decided, findOf}
+use Rattle.finder.specs.Answer.{lowestMarking, decided}
+use Rattle.finder.specs.Logs.{findOf}
 use Rattle.finder.proofs.AnswerLaws.{decided-refused, refused-31, refused-32, passes-31-32}
 use borrow.Author.Needs.{needs}
 use Rattle.finder.proofs.find_log.Statement.{statement}

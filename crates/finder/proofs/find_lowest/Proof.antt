@@ -52,7 +52,8 @@ lowest : (a : tie.After-codes-of) → some (found a) ≡ lowestOf (startOf (ente
 lowest a =
     let s = entered a in
     let f = a .before .before .before .find-order in
-    places-found (startOf (s .args .starts .now)) (given s) (s .pre .0) (a .codes-of .result) (f .result) (a .before .transactions-begun .result) (a .before .before .if1 .left) (f .ensures) (a .before .transactions-begun .ensures) (a .codes-of .ensures)
+    places-found (startOf (s .args .starts .now)) (given s) (s .pre .0) (a .codes-of .result) (f .result) (a .before .transactions-begun .result)
+    (a .before .before .if1 .left) (f .ensures) (a .before .transactions-begun .ensures) (a .codes-of .ensures)
 
 -- a log of a readable history is no longer than the tables
 short : (s : tie.Start) → length (s .args .log .now) ≤ 2048
@@ -60,13 +61,15 @@ short s = omega (arith, readable-most (given s) (s .pre .0 .readable), logged-le
 
 -- what is written of the arrays is the marking
 marks : (g : tie.After-gaps-of)
-    → bytesIn (arrayed (g .before) .placed-by .result .order) (arrayed (g .before) .placed-by .result .outcomes) (coded g .before .transactions-begun .result) (g .before .store-reads .result) (g .gaps-of .result) (length (entered (coded g) .args .log .now))
+    → bytesIn (arrayed (g .before) .placed-by .result .order) (arrayed (g .before) .placed-by .result .outcomes) (coded g .before .transactions-begun .result)
+    (g .before .store-reads .result) (g .gaps-of .result) (length (entered (coded g) .args .log .now))
     ≡ markingBytes (marked (given (entered (coded g))) (found (coded g)))
 marks g =
     let a = coded g in
     let s = entered a in
     let ten : length (a .codes-of .result) ≡ 10 = search needs in
-    arrays-mark (given s) (length (s .args .log .now)) (logged-length (s .args .log .now)) (a .codes-of .result) _ _ (a .before .transactions-begun .result) (omega (arith, few a)) (arrayed (g .before) .placed-by .ensures) _ (g .before .store-reads .ensures) _ (g .gaps-of .ensures)
+    arrays-mark (given s) (length (s .args .log .now)) (logged-length (s .args .log .now)) (a .codes-of .result) _ _ (a .before .transactions-begun .result)
+    (omega (arith, few a)) (arrayed (g .before) .placed-by .ensures) _ (g .before .store-reads .ensures) _ (g .gaps-of .ensures)
 
 find-order-requires : tie.Need-find-order-requires
 find-order-requires c κs = search needs

@@ -9,8 +9,7 @@ use Rattle.events.specs.declared.event.Event.{Event}
 use Rattle.events.specs.declared.refusal.Refusal.{Refusal}
 use Rattle.events.specs.Said.{refuse}
 use Rattle.log.specs.Columns.{Columns, columns, history}
-use Rattle.log.proofs.DoorLaws.{entered as let-in, in-rows}
-use Rattle.tables.proofs.CallLaws.{prefix-logged}
+use Rattle.log.proofs.DoorLaws.{entered as let-in, in-rows, prefix-logged}
 use Rattle.finder.specs.declared.Finding.{Finding}
 use Rattle.finder.specs.Answer.{gives}
 use Rattle.finder.proofs.AnswerLaws.{call-refuses, call-refused, find-after}

@@ -68,7 +68,8 @@ loop-again c =
     let s = entered l in (
       omega arith,
       put-more (pointsIn (s .args .reads .now) (s .args .gaps .now)) (point s) (points-none _ _) (points-more _ _) (s .args .out .now) (s .args .from) (s .args .count) (s .pre .1)
-          (l .loop .i) (omega arith) (l .loop .out) (l .loop .at) (l .loop .inv .1) (p .put-read .last .0) (p .put-read .result) (p .put-read .kept .0) (p .put-read .ensures .0) (p .put-read .ensures .1),
+          (l .loop .i) (omega arith) (l .loop .out) (l .loop .at) (l .loop .inv .1)
+          (p .put-read .last .0) (p .put-read .result) (p .put-read .kept .0) (p .put-read .ensures .0) (p .put-read .ensures .1),
     )
 
 same-length : tie.Need-same-length Inv-loop μ-loop

@@ -7,7 +7,8 @@ use Rattle.log.specs.declared.admit.Checked.{Checked}
 use Rattle.log.specs.Columns.{Columns, columns}
 use Rattle.log.proofs.DoorLaws.{entered as let-in, behind}
 use Rattle.scan.specs.declared.Scanning.{Scanning}
-use Rattle.scan.specs.Answer.{scanAfter, scanAnswer, scanRefusal}
+use Rattle.scan.specs.Answer.{scanAnswer, scanRefusal}
+use Rattle.scan.specs.Logs.{scanAfter}
 use Rattle.scan.proofs.AnswerLaws.{after-alike}
 use borrow.Author.Needs.{needs}
 use Rattle.scan.proofs.scan_history.Statement.{statement}

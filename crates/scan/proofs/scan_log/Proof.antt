@@ -7,7 +7,7 @@ use native.Mathlib.Omega.{arith}
 use lib.ListN.{length}
 use Rattle.log.specs.Rows.{logged}
 use Rattle.scan.specs.declared.Scanning.{Scanning}
-use Rattle.scan.specs.Answer.{scanOf}
+use Rattle.scan.specs.Logs.{scanOf}
 use Rattle.scan.proofs.AnswerLaws.{decided-refused, decided-scanned, refused-31, passes-31}
 use borrow.Author.Needs.{needs}
 use Rattle.scan.proofs.scan_log.Statement.{statement}

@@ -50,7 +50,8 @@ loop-again c =
     let l = a .before .before in
     let s = l .before in
     let J = decode (take (s .args .count) (s .args .codes)) in
-    (omega arith, filled-more _ _ _ (l .loop .i) _ (l .loop .gaps) (omega (arith, s .pre .1)) (c .place-of .ensures .0 ∙ ap (λ (e : Event). placeOf (e .transaction) J) (a .event-at .ensures)) (l .loop .inv .1))
+    let gap = c .place-of .ensures .0 ∙ ap (λ (e : Event). placeOf (e .transaction) J) (a .event-at .ensures) in
+    (omega arith, filled-more _ _ _ (l .loop .i) _ (l .loop .gaps) (omega (arith, s .pre .1)) gap (l .loop .inv .1))
 
 returns : tie.Need-returns Inv-loop μ-loop
 returns c =
