@@ -5,7 +5,9 @@ ghost use mathlib.Core.Path.{_≡_};
 ghost use mathlib.Core.Bool.{true, false, cond};
 ghost use mathlib.Core.Option.{none};
 ghost use Prim.Native.Nat.{_-_, _^_, _<_};
+ghost use lib.Bits.{bitAnd};
 ghost use Rattle.places.specs.Bits.{bitAt};
+ghost use Rattle.places.specs.Facts.{afterOf};
 ghost use Rattle.places.specs.State.{placedOf, Sound, Placeable, Keeps};
 ghost use Rattle.places.specs.Tree.{asking, legalReads};
 ghost use Rattle.places.specs.Choice.{among};
@@ -16,6 +18,7 @@ use places::facts::ABORTED;
 use places::facts::AFTER;
 use places::facts::ALLOWED;
 use places::facts::COMMITTED;
+use places::facts::END;
 use places::facts::Facts;
 use places::facts::TRANSACTIONS;
 use places::lookup::legal_reads;
@@ -237,6 +240,13 @@ fn bereft(
     stranded(starts, facts, asked, s, need)
 }
 
+// Those of a set that must come before the end.
+pub fn before_end(facts: &[Facts; 11], set: u64) -> u64
+    ensures { λ r. ⌜ r ≡ bitAnd set (afterOf (now (facts .entry)) 10) ⌝ }
+{
+    set & facts[END][AFTER]
+}
+
 // Is there hope? It is asked once for a state, before its first candidate is tried, and only where there is much to try.
 pub fn hopeful(
     starts: &[u32; 32],
@@ -260,8 +270,23 @@ pub fn hopeful(
         return true;
     }
     let ready = ready_among(starts, facts, asked, s);
-    if bereft(starts, facts, effects, asked, s, s.unplaced ^ ready) {
+    if bereft(
+        starts,
+        facts,
+        effects,
+        asked,
+        s,
+        before_end(facts, s.unplaced ^ ready),
+    ) {
         return false;
     }
-    possible(starts, facts, effects, asked, s, candidates, ready)
+    possible(
+        starts,
+        facts,
+        effects,
+        asked,
+        s,
+        before_end(facts, candidates),
+        ready,
+    )
 }
