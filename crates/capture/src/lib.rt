@@ -1,26 +1,31 @@
 // The report on a capture, a history file and a marking file: every number of its lines, as one
 // function of the bytes of the two files.
 //
-// The columns stand in here and are as long as a history may be, so that no buffer is lent and none
-// can be too short. The report is proved to be that of the start values and the events in the history
-// file: what the columns are asked again, between the reader and the other functions, always says yes.
+// The history is read once, into the rows of a log, and no event is asked again: counts, tally, marking
+// and scan all go by that log. The rows stand in here, so that no buffer is lent and none can be too
+// short.
 ghost use mathlib.Core.Path.{_≡_};
 ghost use mathlib.Core.Bool.{true};
-ghost use Rattle.log.specs.Columns.{columns, history, hold};
-ghost use Rattle.log.specs.Answer.{columnsAnswer, historyAnswer};
+ghost use lib.ListN.{length};
+ghost use Rattle.events.specs.Questions.{readable};
+ghost use Rattle.log.specs.Rows.{logged};
 ghost use Rattle.log.specs.Starts.{startOf};
-ghost use Rattle.log.specs.declared.columns.Checked.{Checked};
+ghost use Rattle.reader.specs.Reading.{RowsFor};
 ghost use Rattle.capture.specs.Report.{countsOf, markingOf, judged, reportOn};
 use counts::tally::Tally;
 use counts::tally::tally_of;
 use events::refusal::Refusal;
-use marking::check::Checking;
-use marking::check::check_marking;
+use log::rows::Row;
+use log::rows::transactions_begun;
+use marking::check::Ruling;
+use marking::check::check_log;
 use opacity::verdict::Verdict;
 use reader::Reading;
-use reader::read_history;
+use reader::SHORT_FILE;
+use reader::read_log;
+use reads::count_store_reads;
 use scan::Scanning;
-use scan::scan_history;
+use scan::scan_log;
 
 // The report's first line: events, transactions begun and store reads.
 pub struct Counts {
@@ -47,93 +52,41 @@ pub enum Report {
     },
 }
 
-// The first line, of columns to which no question says no.
-fn counts_of(
-    kinds: &[u16],
-    transactions: &[u16],
-    registers: &[u16],
-    values: &[u32],
-    count: usize,
-) -> Counts
-    requires { ⌜ columnsAnswer (columns (now kinds) (now transactions) (now registers) (now values)) count ≡ Checked.Readable ⌝ }
-    ensures { λ r. ⌜ r ≡ countsOf (history (columns (now (kinds .entry)) (now (transactions .entry)) (now (registers .entry)) (now (values .entry))) count) ⌝ }
+// Counts what the first line says of a log.
+fn counts_of(log: &[Row]) -> Counts
+    requires { ⌜ readable (logged (now log)) ≡ true ⌝ }
+    ensures { λ r. ⌜ r ≡ countsOf (logged (now (log .entry))) ⌝ }
 {
-    let begun = opacity::counts::transactions_begun(kinds, transactions, registers, values, count);
-    let reads = opacity::counts::store_reads(kinds, transactions, registers, values, count);
+    let begun = transactions_begun(log);
+    let reads = count_store_reads(log);
     Counts {
-        events: count,
+        events: log.len(),
         transactions: begun,
         reads,
     }
 }
 
-// The line on the marking. The checker's own questions to the columns say yes: the last case, which
-// would be said of them, does not come.
-fn marking_of(
-    edition: u16,
-    starts: &[u32; 32],
-    kinds: &[u16],
-    transactions: &[u16],
-    registers: &[u16],
-    values: &[u32],
-    count: usize,
-    file: &[u8],
-) -> Marking
-    requires { ⌜ historyAnswer edition (now starts) (columns (now kinds) (now transactions) (now registers) (now values)) count ≡ Checked.Readable ⌝ }
-    ensures { λ r. ⌜ r ≡ markingOf (startOf (now (starts .entry))) (history (columns (now (kinds .entry)) (now (transactions .entry)) (now (registers .entry)) (now (values .entry))) count) (now (file .entry)) ⌝ }
+// Checks the marking against a log, for its line.
+fn marking_of(starts: &[u32; 32], log: &[Row], file: &[u8]) -> Marking
+    requires { ⌜ readable (logged (now log)) ≡ true ⌝ }
+    ensures { λ r. ⌜ r ≡ markingOf (startOf (now (starts .entry))) (logged (now (log .entry))) (now (file .entry)) ⌝ }
 {
-    let answer = check_marking(
-        edition,
-        starts,
-        kinds,
-        transactions,
-        registers,
-        values,
-        count,
-        file,
-    );
-    match answer {
-        Checking::Ruled(verdict) => Marking::Ruled(verdict),
-        Checking::MarkingRefused(refusal) => Marking::Refused(refusal),
-        Checking::HistoryRefused(refusal) => Marking::Refused(refusal),
+    let ruling = check_log(starts, log, file);
+    match ruling {
+        Ruling::Ruled(verdict) => Marking::Ruled(verdict),
+        Ruling::Refused(refusal) => Marking::Refused(refusal),
     }
 }
 
-// The four lines, of columns to which no question says no.
-fn judge_columns(
-    edition: u16,
-    starts: &[u32; 32],
-    kinds: &[u16],
-    transactions: &[u16],
-    registers: &[u16],
-    values: &[u32],
-    count: usize,
-    file: &[u8],
-) -> Report
-    requires { ⌜ historyAnswer edition (now starts) (columns (now kinds) (now transactions) (now registers) (now values)) count ≡ Checked.Readable ⌝ }
-    ensures { λ r. ⌜ r ≡ judged (startOf (now (starts .entry))) (history (columns (now (kinds .entry)) (now (transactions .entry)) (now (registers .entry)) (now (values .entry))) count) (now (file .entry)) ⌝ }
+// The four lines on a log and a marking file.
+fn judge_log(starts: &[u32; 32], log: &[Row], file: &[u8]) -> Report
+    requires { ⌜ readable (logged (now log)) ≡ true ⌝ }
+    ensures { λ r. ⌜ r ≡ judged (startOf (now (starts .entry))) (logged (now (log .entry))) (now (file .entry)) ⌝ }
 {
-    let counts = counts_of(kinds, transactions, registers, values, count);
-    let tally = tally_of(kinds, transactions, registers, values, count);
-    let marking = marking_of(
-        edition,
-        starts,
-        kinds,
-        transactions,
-        registers,
-        values,
-        count,
-        file,
-    );
-    let opacity = scan_history(
-        edition,
-        starts,
-        kinds,
-        transactions,
-        registers,
-        values,
-        count,
-    );
+    let counts = counts_of(log);
+    let tally = tally_of(log);
+    let marking = marking_of(starts, log, file);
+    let opacity = scan_log(starts, log);
     Report::Judged {
         counts,
         tally,
@@ -142,51 +95,28 @@ fn judge_columns(
     }
 }
 
-// The report, with columns that are as long as a history may be; what they held makes no difference.
-fn report_in(
-    history: &[u8],
-    marking: &[u8],
-    kinds: &mut [u16],
-    transactions: &mut [u16],
-    registers: &mut [u16],
-    values: &mut [u32],
-) -> Report
-    requires { ⌜ hold (columns (now kinds) (now transactions) (now registers) (now values)) 2048 ≡ true ⌝ }
+// The report, by way of rows that serve the history file; what they held makes no difference.
+fn report_in(history: &[u8], marking: &[u8], rows: &mut [Row]) -> Report
+    requires { ⌜ RowsFor (length (now history)) (length (now rows)) ⌝ }
     ensures { λ r. ⌜ r ≡ reportOn (now (history .entry)) (now (marking .entry)) ⌝ }
 {
-    let read = read_history(history, kinds, transactions, registers, values);
-    let edition = read.edition;
+    let read = read_log(history, rows);
     let starts = read.starts;
     let reading = read.reading;
     match reading {
-        Reading::Read(count) => judge_columns(
-            edition,
-            &starts,
-            kinds,
-            transactions,
-            registers,
-            values,
-            count,
-            marking,
-        ),
+        Reading::Read(count) => judge_log(&starts, &rows[..count], marking),
         Reading::Refused(refusal) => Report::Refused(refusal),
     }
 }
 
-// The report on a history file and a marking file.
+// The report on a history file and a marking file. A short file does not pay for the rows of a long one.
 pub fn report_on(history: &[u8], marking: &[u8]) -> Report
     ensures { λ r. ⌜ r ≡ reportOn (now (history .entry)) (now (marking .entry)) ⌝ }
 {
-    let mut kinds = [0u16; 2048];
-    let mut transactions = [0u16; 2048];
-    let mut registers = [0u16; 2048];
-    let mut values = [0u32; 2048];
-    report_in(
-        history,
-        marking,
-        &mut kinds,
-        &mut transactions,
-        &mut registers,
-        &mut values,
-    )
+    if history.len() <= SHORT_FILE {
+        let mut few = [[0u32; 4]; 64];
+        return report_in(history, marking, &mut few);
+    }
+    let mut rows = [[0u32; 4]; 2048];
+    report_in(history, marking, &mut rows)
 }

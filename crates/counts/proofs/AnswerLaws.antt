@@ -1,22 +1,27 @@
--- Laws of the answers of counts and tally: a question that says no, and columns to which none does.
+-- The answers of counts and tally: what stands behind the door answers of the rows what is asked of the columns.
 -- Assumes nothing.
-use Prim.Native.Nat.{ℕ}
-use mathlib.Core.Path.{_≡_}
-use Rattle.log.specs.declared.columns.Checked.{Checked}
+use Prim.Native.Nat.{ℕ, _≤_}
+use mathlib.Core.Path.{_≡_, ap, _∙_}
+use mathlib.Core.List.{List}
+use lib.ListN.{length, take}
+use Rattle.events.specs.declared.event.Event.{Event}
 use Rattle.events.specs.declared.refusal.Refusal.{Refusal}
-use Rattle.counts.specs.declared.Counting.{Counting}
-use Rattle.counts.specs.declared.Tallying.{Tallying}
-use Rattle.counts.specs.declared.tally.Tally.{Tally}
-use Rattle.counts.specs.Answer.{counted, tallied}
+use Rattle.log.specs.declared.admit.Checked.{Checked}
+use Rattle.log.specs.declared.admit.Checked.the-variants.{Refused}
+use Rattle.log.specs.Answer.{columnsAnswer, historyAnswer}
+use Rattle.log.specs.Columns.{Columns, history}
+use Rattle.log.specs.Rows.{logged, Taken, Entered}
+use Rattle.log.proofs.StartLaws.{as-columns, second-admitted}
+use Rattle.log.proofs.DoorLaws.{entered, behind}
 
-pub counted-refused : {x : Checked} {r : Refusal} (n : ℕ) → x ≡ Checked.Refused r → Counting.Refused r ≡ counted x n
-counted-refused n x = rw x
+module _ (starts : List ℕ) (c : Columns) (n : ℕ) (x : Checked) (before after : List (List ℕ))
+    (same : x ≡ historyAnswer 2 starts c n) (taken : Taken x c n before after) (room : n ≤ 2048 → n ≤ length before) where
+  pub let-in : Entered x n after
+  let-in = entered 2 starts c n x before after same taken room
 
-pub counted-readable : {x : Checked} (n : ℕ) → x ≡ Checked.Readable → Counting.Counted n ≡ counted x n
-counted-readable n x = rw x
-
-pub tallied-refused : {x : Checked} {r : Refusal} (n : Tally) → x ≡ Checked.Refused r → Tallying.Refused r ≡ tallied x n
-tallied-refused n x = rw x
-
-pub tallied-readable : {x : Checked} (n : Tally) → x ≡ Checked.Readable → Tallying.Tallied n ≡ tallied x n
-tallied-readable n x = rw x
+  -- edition 2 is admitted with any start values, so that the questions are those of columns alone
+  pub answered : {A : Type 0} (f : Checked → List Event → A) → ((r : Refusal) (g h : List Event) → f (Refused r) g ≡ f (Refused r) h)
+      → f x (logged (take n after)) ≡ f (columnsAnswer c n) (history c n)
+  answered f alike =
+      behind 2 starts c n x before after same taken room f alike
+      ∙ ap (λ (y : Checked). f y (history c n)) (as-columns 2 starts c n (second-admitted starts))

@@ -1,6 +1,5 @@
 -- What the proofs of several functions use.
 pub mod AnswerLaws
-pub mod MoveLaws
 pub mod TallyLaws
 pub mod Theorems
 pub mod Ends

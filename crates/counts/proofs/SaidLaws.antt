@@ -5,8 +5,8 @@ use native.Mathlib.Omega.{arith}
 use mathlib.Core.Path.{_≡_, refl, sym, ap, _∙_}
 use mathlib.Core.Logic.{_↔_}
 use mathlib.Core.List.{List, [], _∷_}
-use Rattle.log.specs.declared.columns.Checked.{Checked}
-use Rattle.log.specs.declared.columns.Checked.the-variants.{Readable, Refused as Refuses}
+use Rattle.log.specs.declared.admit.Checked.{Checked}
+use Rattle.log.specs.declared.admit.Checked.the-variants.{Readable, Refused as Refuses}
 use Rattle.log.specs.Columns.{Columns, history}
 use Rattle.events.specs.Said.{Said, done, atEvent, refuse}
 use Rattle.log.specs.Answer.{columnsAnswer}

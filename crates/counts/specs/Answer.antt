@@ -2,8 +2,9 @@
 -- tally.
 -- Assumes nothing.
 use Prim.Native.Nat.{ℕ}
-use mathlib.Core.List.{[], _∷_}
-use Rattle.log.specs.declared.columns.Checked.{Checked}
+use mathlib.Core.List.{List, [], _∷_}
+use Rattle.events.specs.declared.event.Event.{Event}
+use Rattle.log.specs.declared.admit.Checked.{Checked}
 use Rattle.log.specs.Columns.{Columns, history}
 use Rattle.events.specs.Said.{Said, done, eventRefused}
 use Rattle.log.specs.Answer.{columnsAnswer}
@@ -18,19 +19,28 @@ abbrev pub counted : Checked → ℕ → Counting
 counted Checked.Readable n = Counting.Counted n
 counted (Checked.Refused r) n = Counting.Refused r
 
+abbrev pub transactionsOf : Checked → List Event → Counting
+transactionsOf x h = counted x (counts h .transactions)
+
+abbrev pub storeReadsOf : Checked → List Event → Counting
+storeReadsOf x h = counted x (counts h .reads)
+
 unfoldable pub transactionsAnswer : Columns → ℕ → Counting
-transactionsAnswer c count = counted (columnsAnswer c count) (counts (history c count) .transactions)
+transactionsAnswer c count = transactionsOf (columnsAnswer c count) (history c count)
 
 unfoldable pub storeReadsAnswer : Columns → ℕ → Counting
-storeReadsAnswer c count = counted (columnsAnswer c count) (counts (history c count) .reads)
+storeReadsAnswer c count = storeReadsOf (columnsAnswer c count) (history c count)
 
 -- the same for a tally
 abbrev pub tallied : Checked → Tally → Tallying
 tallied Checked.Readable x = Tallying.Tallied x
 tallied (Checked.Refused r) x = Tallying.Refused r
 
+abbrev pub tallyOf : Checked → List Event → Tallying
+tallyOf x h = tallied x (tally h)
+
 unfoldable pub tallyAnswer : Columns → ℕ → Tallying
-tallyAnswer c count = tallied (columnsAnswer c count) (tally (history c count))
+tallyAnswer c count = tallyOf (columnsAnswer c count) (history c count)
 
 -- what a count says: the number counted, or the question with its event
 unfoldable pub countSaid : Counting → Said

@@ -1,3 +1,2 @@
 pub mod Tally
-pub mod Moves
 pub mod Answer

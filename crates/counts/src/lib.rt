@@ -1,16 +1,21 @@
 // The counts of the report's first line and the tally of its second, of columns that no one has put a
-// question to yet: 17 and each event's own questions come first, then the events are counted in one pass.
+// question to yet: 17 and each event's own questions come first, then the events are counted.
 ghost use mathlib.Core.Path.{_≡_};
+ghost use lib.ListN.{take};
 ghost use Rattle.log.specs.Columns.{columns};
-ghost use Rattle.counts.specs.Answer.{transactionsAnswer, storeReadsAnswer, tallyAnswer};
+ghost use Rattle.log.specs.Rows.{logged, Entered};
+ghost use Rattle.counts.specs.Answer.{transactionsOf, storeReadsOf, tallyOf, transactionsAnswer, storeReadsAnswer, tallyAnswer};
 
 pub mod tally;
 
 use crate::tally::Tally;
 use crate::tally::tally_of;
 use events::refusal::Refusal;
-use log::columns::Checked;
-use log::columns::check_columns;
+use log::admit::Checked;
+use log::admit::admit;
+use log::rows::Row;
+use log::rows::transactions_begun;
+use records::record::Record;
 
 // A count's answer: the number, or the question that says no with its event.
 pub enum Counting {
@@ -24,6 +29,41 @@ pub enum Tallying {
     Refused(Refusal),
 }
 
+// Counts the transactions of rows taken in.
+fn count_begun(checked: Checked, rows: &[Row], count: usize) -> Counting
+    requires { ⌜ Entered checked count (now rows) ⌝ }
+    ensures { λ r. ⌜ r ≡ transactionsOf checked (logged (take count (now (rows .entry)))) ⌝ }
+{
+    if let Checked::Refused(refusal) = checked {
+        return Counting::Refused(refusal);
+    }
+    let begun = transactions_begun(&rows[..count]);
+    Counting::Counted(begun)
+}
+
+// Counts the store reads of rows taken in.
+fn count_reads(checked: Checked, rows: &[Row], count: usize) -> Counting
+    requires { ⌜ Entered checked count (now rows) ⌝ }
+    ensures { λ r. ⌜ r ≡ storeReadsOf checked (logged (take count (now (rows .entry)))) ⌝ }
+{
+    if let Checked::Refused(refusal) = checked {
+        return Counting::Refused(refusal);
+    }
+    let reads = reads::count_store_reads(&rows[..count]);
+    Counting::Counted(reads)
+}
+
+// Tallies the transactions of rows taken in.
+fn tally_rows(checked: Checked, rows: &[Row], count: usize) -> Tallying
+    requires { ⌜ Entered checked count (now rows) ⌝ }
+    ensures { λ r. ⌜ r ≡ tallyOf checked (logged (take count (now (rows .entry)))) ⌝ }
+{
+    if let Checked::Refused(refusal) = checked {
+        return Tallying::Refused(refusal);
+    }
+    Tallying::Tallied(tally_of(&rows[..count]))
+}
+
 // How many transactions begin in the first `count` events.
 pub fn count_transactions(
     kinds: &[u16],
@@ -34,12 +74,33 @@ pub fn count_transactions(
 ) -> Counting
     ensures { λ r. ⌜ r ≡ transactionsAnswer (columns (now (kinds .entry)) (now (transactions .entry)) (now (registers .entry)) (now (values .entry))) count ⌝ }
 {
-    let checked = check_columns(kinds, transactions, registers, values, count);
-    if let Checked::Refused(refusal) = checked {
-        return Counting::Refused(refusal);
+    let starts = [0u32; 32];
+    if count <= 64 {
+        let mut few = [[0u32; 4]; 64];
+        let checked = admit(
+            Record::STARTS_EDITION,
+            &starts,
+            kinds,
+            transactions,
+            registers,
+            values,
+            count,
+            &mut few,
+        );
+        return count_begun(checked, &few, count);
     }
-    let begun = opacity::counts::transactions_begun(kinds, transactions, registers, values, count);
-    Counting::Counted(begun)
+    let mut rows = [[0u32; 4]; 2048];
+    let checked = admit(
+        Record::STARTS_EDITION,
+        &starts,
+        kinds,
+        transactions,
+        registers,
+        values,
+        count,
+        &mut rows,
+    );
+    count_begun(checked, &rows, count)
 }
 
 // How many store reads the first `count` events have.
@@ -52,12 +113,33 @@ pub fn count_store_reads(
 ) -> Counting
     ensures { λ r. ⌜ r ≡ storeReadsAnswer (columns (now (kinds .entry)) (now (transactions .entry)) (now (registers .entry)) (now (values .entry))) count ⌝ }
 {
-    let checked = check_columns(kinds, transactions, registers, values, count);
-    if let Checked::Refused(refusal) = checked {
-        return Counting::Refused(refusal);
+    let starts = [0u32; 32];
+    if count <= 64 {
+        let mut few = [[0u32; 4]; 64];
+        let checked = admit(
+            Record::STARTS_EDITION,
+            &starts,
+            kinds,
+            transactions,
+            registers,
+            values,
+            count,
+            &mut few,
+        );
+        return count_reads(checked, &few, count);
     }
-    let reads = opacity::counts::store_reads(kinds, transactions, registers, values, count);
-    Counting::Counted(reads)
+    let mut rows = [[0u32; 4]; 2048];
+    let checked = admit(
+        Record::STARTS_EDITION,
+        &starts,
+        kinds,
+        transactions,
+        registers,
+        values,
+        count,
+        &mut rows,
+    );
+    count_reads(checked, &rows, count)
 }
 
 // How many of the transactions in the first `count` events are committed, aborted, pending and live.
@@ -70,9 +152,31 @@ pub fn tally_transactions(
 ) -> Tallying
     ensures { λ r. ⌜ r ≡ tallyAnswer (columns (now (kinds .entry)) (now (transactions .entry)) (now (registers .entry)) (now (values .entry))) count ⌝ }
 {
-    let checked = check_columns(kinds, transactions, registers, values, count);
-    if let Checked::Refused(refusal) = checked {
-        return Tallying::Refused(refusal);
+    let starts = [0u32; 32];
+    if count <= 64 {
+        let mut few = [[0u32; 4]; 64];
+        let checked = admit(
+            Record::STARTS_EDITION,
+            &starts,
+            kinds,
+            transactions,
+            registers,
+            values,
+            count,
+            &mut few,
+        );
+        return tally_rows(checked, &few, count);
     }
-    Tallying::Tallied(tally_of(kinds, transactions, registers, values, count))
+    let mut rows = [[0u32; 4]; 2048];
+    let checked = admit(
+        Record::STARTS_EDITION,
+        &starts,
+        kinds,
+        transactions,
+        registers,
+        values,
+        count,
+        &mut rows,
+    );
+    tally_rows(checked, &rows, count)
 }

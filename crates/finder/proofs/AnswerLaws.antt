@@ -3,13 +3,13 @@
 use mathlib.Core.Path.{_≡_, refl, sym, ap, ap₂, _∙_}
 use Prim.Native.Nat.{ℕ, _≤_, _<_}
 use native.Mathlib.Omega.{arith}
-use mathlib.Core.Bool.{true, false}
+use mathlib.Core.Bool.{Bool, true, false, cond}
 use mathlib.Core.List.{List, [], _∷_}
 use mathlib.Core.Option.{Option, none, some, Option·none-ne-some, Option·some-ne-none, Option·some-injective}
 use lib.ListN.{length, take}
 use borrow.Author.Tests.{le-leb, lt-leb, leb-true}
 use Rattle.events.specs.declared.event.Event.{Event}
-use Rattle.log.specs.declared.columns.Checked.{Checked}
+use Rattle.log.specs.declared.admit.Checked.{Checked}
 use Rattle.events.specs.declared.refusal.Refusal.{Refusal}
 use Rattle.events.specs.Said.{done, nothing, atEvent, refuse}
 use Rattle.records.specs.Bytes.{over}
@@ -17,18 +17,17 @@ use Rattle.events.specs.Events.{begins}
 use Rattle.log.specs.Columns.{Columns, history, hold}
 use Rattle.log.specs.Starts.{startOf, admits}
 use Rattle.events.specs.Questions.{readable}
-use Rattle.log.specs.Answer.{eventsAnswer, columnsAnswer}
-use Rattle.log.proofs.ColumnLaws.{history-take, hold-e}
-use Rattle.log.proofs.AnswerLaws.{answer-readable}
-use Rattle.log.proofs.AnswerLaws.{readable-columns}
+use Rattle.log.specs.Answer.{eventsAnswer, columnsAnswer, historyAnswer}
+use Rattle.log.proofs.ColumnLaws.{hold-e}
+use Rattle.log.proofs.AnswerLaws.{answer-readable, readable-columns}
 use Rattle.opacity.specs.Justification.{Place}
 use Rattle.opacity.specs.Lowest.{lowestOf}
 use Rattle.opacity.specs.Marking.{marked, markingBytes}
-use Rattle.opacity.specs.Counts.{HoldsReadable}
-use Rattle.opacity.proofs.CountLaws.{checked-readable}
+use Rattle.tables.specs.Calls.{thenChecked}
 use Rattle.tables.proofs.CallLaws.{asked-none, asked-yes, asked-no, asked-e, then-readable, then-refused, then-e}
 use Rattle.finder.specs.declared.Finding.{Finding}
 use Rattle.finder.specs.Answer.{markingSize, Passed, said, gives, decided, prefixRefusal, callRefusal, findRefusal, markingOf, lowestMarking, foundAnswer}
+use Rattle.finder.specs.Logs.{findOf, findAfter}
 
 -- ---- what is decided
 
@@ -141,7 +140,7 @@ module _ (edition : ℕ) (starts : List ℕ) (c : Columns) (count prefix : ℕ) 
       let f = asked-e count 18 _ _ (g .1) in
       record { held = d .0; admitted = g .0; inside = leb-true _ _ (f .0); readable = answer-readable (history c count) (a .1) }
 
-  -- one after the other, as `check_call` puts them
+  -- one after the other, as they are put
   pub not-held : hold c count ≡ false → Checked.Refused (refuse 17 count) ≡ callRefusal edition starts c count prefix
   unfolding callRefusal
   not-held e = sym (then-refused _ (asked-no count 17 _ _ e))
@@ -165,10 +164,26 @@ module _ (edition : ℕ) (starts : List ℕ) (c : Columns) (count prefix : ℕ) 
       held-events e
       ∙ sym (then-readable _ (asked-yes count 17 _ _ e ∙ asked-yes count 3 _ _ a ∙ asked-yes count 18 _ _ (le-leb prefix count l) ∙ asked-none count))
 
-  pub called-readable : callRefusal edition starts c count prefix ≡ Checked.Readable → HoldsReadable c count × (prefix ≤ count)
-  called-readable x =
-      let p = called x in
-      (checked-readable c count (events-asked (p .held) (p .admitted) (p .inside) ∙ x), p .inside)
+  -- where the prefix is one of the history, they are those of the columns
+  pub call-answers : prefix ≤ count → callRefusal edition starts c count prefix ≡ historyAnswer edition starts c count
+  unfolding historyAnswer
+  call-answers l = go (hold c count) refl (admits edition starts) refl
+    where
+      go : (x : Bool) → hold c count ≡ x → (y : Bool) → admits edition starts ≡ y
+          → callRefusal edition starts c count prefix ≡ cond x (cond y (eventsAnswer (history c count)) (Checked.Refused (refuse 3 count))) (Checked.Refused (refuse 17 count))
+      go false e y a = sym (not-held e)
+      go true e false a = sym (not-admitted e a)
+      go true e true a = sym (events-asked e a l) ∙ held-events e
+
+  -- and else it is 17, 3 or 18
+  pub call-refuses : count < prefix → callRefusal edition starts c count prefix ≡ Checked.Refused (refuse (cond (hold c count) (cond (admits edition starts) 18 3) 17) count)
+  call-refuses l = go (hold c count) refl (admits edition starts) refl
+    where
+      go : (x : Bool) → hold c count ≡ x → (y : Bool) → admits edition starts ≡ y
+          → callRefusal edition starts c count prefix ≡ Checked.Refused (refuse (cond x (cond y 18 3) 17) count)
+      go false e y a = sym (not-held e)
+      go true e false a = sym (not-admitted e a)
+      go true e true a = sym (too-long e a l)
 
 -- ---- all questions
 
@@ -202,13 +217,29 @@ module _ (edition : ℕ) (starts : List ℕ) (c : Columns) (count prefix : ℕ) 
   unfolding foundAnswer findRefusal
   call-refused x = decided-refused _ o (then-refused _ x)
 
-  -- where the events are readable, what is left is asked and decided of the prefix alone
-  pub prefix-decides : callRefusal edition starts c count prefix ≡ Checked.Readable
-      → decided (prefixRefusal (history c prefix) count (length o)) (lowestMarking (startOf starts) (history c prefix)) o ≡ foundAnswer edition starts c count prefix o
-  unfolding foundAnswer findRefusal
-  prefix-decides x =
-      let a : findRefusal edition starts c count prefix (length o) ≡ prefixRefusal (take prefix (history c count)) count (length o) = then-readable _ x in
-      rw (a, history-take c count prefix (called edition starts c count prefix x .inside))
+  -- after the questions of the columns, what is left is asked and decided of the prefix alone
+  pub find-after : (x : Checked) (h : List Event) → prefix ≤ count → x ≡ historyAnswer edition starts c count
+      → (x ≡ Checked.Readable → h ≡ take prefix (history c count)) → findAfter x starts h count o ≡ foundAnswer edition starts c count prefix o
+  unfolding findAfter foundAnswer findRefusal
+  find-after x h l e f = rw (call-answers edition starts c count prefix l, ← e) (go x f)
+    where
+      go : (y : Checked) → (y ≡ Checked.Readable → h ≡ take prefix (history c count))
+          → decided (thenChecked y (prefixRefusal h count (length o))) (lowestMarking (startOf starts) h) o
+          ≡ decided (thenChecked y (prefixRefusal (take prefix (history c count)) count (length o))) (lowestMarking (startOf starts) (take prefix (history c count))) o
+      go Checked.Readable g = rw (g refl)
+      go (Checked.Refused r) g =
+          sym (decided-refused {r = r} _ o (then-refused {a = Checked.Refused r} _ refl))
+          ∙ decided-refused {r = r} _ o (then-refused {a = Checked.Refused r} _ refl)
+
+-- a refusal is the answer, whatever would be found
+pub after-refused : {x : Checked} {r : Refusal} (starts : List ℕ) (h : List Event) (count : ℕ) (o : List ℕ) → x ≡ Checked.Refused r
+    → gives (Finding.Refused r) o ≡ findAfter x starts h count o
+unfolding findAfter
+after-refused starts h count o e = decided-refused _ o (then-refused _ e)
+
+pub after-readable : {x : Checked} (starts : List ℕ) (h : List Event) (count : ℕ) (o : List ℕ) → x ≡ Checked.Readable → findOf starts h count o ≡ findAfter x starts h count o
+unfolding findAfter findOf
+after-readable starts h count o e = ap (λ (y : Checked). decided y (lowestMarking (startOf starts) h) o) (sym (then-readable _ e))
 
 -- ---- the lowest marking
 

@@ -1,4 +1,4 @@
--- The bytes of a marking, one place or point more.
+-- The place of a transaction in an order that is given by its codes.
 -- Assumes nothing.
 use mathlib.Core.Path.{_≡_, refl, sym, ap, ap₂, _∙_}
 use Prim.Native.Nat.{ℕ, suc, _+_, _*_, _/_, _%_, _≤_, _<_}
@@ -29,28 +29,6 @@ decode-length [] = refl
 decode-length (c ∷ p) = ap suc (decode-length p)
 
 module _ (places : List ℕ) (size : length places ≡ 10) where
-  pub places-length : (i : ℕ) → i ≤ 10 → length (flat placeBytes (decode (take i places))) ≡ 8 * i
-  places-length i l = flat-length placeBytes 8 (decode (take i places)) (λ p. refl) ∙ ap (λ (k : ℕ). 8 * k) (decode-length (take i places) ∙ length-take-le i places (omega arith))
-
-  -- one place more in the buffer
-  pub places-more : (d o o′ : List ℕ) (i code : ℕ) → i < 10 → 6 + 8 * i ≤ length d → code ≡ getD places i 0
-      → o ≡ bytes.placed d 6 (flat placeBytes (decode (take i places)))
-      → o′ ≡ bytes.placed o (6 + 8 * i) (u16Bytes 6 ++ u16Bytes 32 ++ u16Bytes (code / 2) ++ u16Bytes (code % 2))
-      → o′ ≡ bytes.placed d 6 (flat placeBytes (decode (take (i + 1) places)))
-  unfolding flat
-  places-more d o o′ i code l room c e f =
-      let P = decode (take i places) in
-      let n : length (flat placeBytes P) ≡ 8 * i = places-length i (omega arith) in
-      let k : decode (take (i + 1) places) ≡ P ++ (coded code ∷ []) =
-      ap (λ (m : ℕ). decode (take m places)) (add-one i) ∙ ap decode (take-suc places i 0 (omega arith)) ∙ decode-snoc (take i places) (getD places i 0)
-      ∙ ap (λ (m : ℕ). P ++ (coded m ∷ [])) (sym c) in
-      let b : flat placeBytes (decode (take (i + 1) places)) ≡ flat placeBytes P ++ (u16Bytes 6 ++ u16Bytes 32 ++ u16Bytes (code / 2) ++ u16Bytes (code % 2)) =
-      ap (flat placeBytes) k ∙ flat-append placeBytes P (coded code ∷ []) ∙ ap (λ (m : ℕ). flat placeBytes P ++ (u16Bytes 6 ++ u16Bytes 32 ++ u16Bytes (code / 2) ++ u16Bytes m)) (outcome-back (code % 2) (omega arith)) in
-      placed-then d o o′ 6 (flat placeBytes P) (u16Bytes 6 ++ u16Bytes 32 ++ u16Bytes (code / 2) ++ u16Bytes (code % 2)) (6 + 8 * i) e f (omega arith) room
-      ∙ ap (bytes.placed d 6) (sym b)
-
-  -- ---- the place of t
-
   before-all : (t : ℕ) (J : List Place) → placed t J ≡ false → before t J ≡ J
   unfolding before placed any
   before-all t [] q = refl

@@ -9,7 +9,7 @@ use mathlib.Core.Option.{Option, none, some}
 use lib.Dec.{leb}
 use lib.ListN.{length, take}
 use Rattle.events.specs.declared.event.Event.{Event}
-use Rattle.log.specs.declared.columns.Checked.{Checked}
+use Rattle.log.specs.declared.admit.Checked.{Checked}
 use Rattle.records.specs.Bytes.{over}
 use Rattle.events.specs.Events.{begins}
 use Rattle.log.specs.Columns.{Columns, history, hold}

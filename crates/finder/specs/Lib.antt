@@ -1,3 +1,4 @@
-pub mod Points
+pub mod Arrays
 pub mod Answer
 pub mod Words
+pub mod Logs

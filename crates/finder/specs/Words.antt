@@ -4,7 +4,7 @@ use Prim.Native.Nat.{ℕ}
 use mathlib.Core.Path.{_≡_}
 use mathlib.Core.List.{List}
 use lib.ListN.{length, take, drop}
-use Rattle.log.specs.declared.columns.Checked.{Checked}
+use Rattle.log.specs.declared.admit.Checked.{Checked}
 use Rattle.log.specs.Columns.{Columns, history}
 use Rattle.log.specs.Starts.{startOf}
 use Rattle.opacity.specs.declared.verdict.Verdict.{Verdict}

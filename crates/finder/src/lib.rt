@@ -1,18 +1,28 @@
 // The finder: the lowest justification of a prefix, as a marking.
 ghost use mathlib.Core.Path.{_≡_};
+ghost use mathlib.Core.Bool.{true, cond};
 ghost use Prim.Native.Nat.{_≤_};
-ghost use lib.ListN.{length};
-ghost use Rattle.log.specs.Columns.{columns, history};
-ghost use Rattle.log.specs.declared.columns.Checked.{Checked};
+ghost use lib.ListN.{length, take};
+ghost use Rattle.events.specs.Questions.{readable};
+ghost use Rattle.events.specs.Said.{refuse};
+ghost use Rattle.log.specs.Columns.{columns};
+ghost use Rattle.log.specs.Rows.{logged, Entered};
 ghost use Rattle.log.specs.Starts.{startOf};
-ghost use Rattle.opacity.specs.Counts.{HoldsReadable};
+ghost use Rattle.log.specs.declared.admit.Checked.the-variants.{Readable};
 ghost use Rattle.tables.specs.Order.{Judged};
-ghost use Rattle.finder.specs.Answer.{markingSize, lowestMarking, gives, decided, callRefusal, prefixRefusal, foundAnswer};
+ghost use Rattle.finder.specs.Answer.{markingSize, lowestMarking, gives, decided, foundAnswer};
+ghost use Rattle.finder.specs.Logs.{findOf, findAfter};
 
-pub mod writer;
+mod arrays;
 
 use events::refusal::Refusal;
-use log::columns::Checked;
+use log::admit::Checked;
+use log::admit::admit;
+use log::columns::columns_hold;
+use log::rows::Row;
+use log::rows::transactions_begun;
+use log::starts::is_admitted;
+use marking_writer::write_marking;
 use records::record::Record;
 
 // Question 31: at most this many transactions are searched.
@@ -25,62 +35,45 @@ pub enum Finding {
     Refused(Refusal),
 }
 
-// The lowest marking of the first n events, if they have one, put into an output that has room for any.
-fn find_lowest(
-    starts: &[u32; 32],
-    kinds: &[u16],
-    transactions: &[u16],
-    registers: &[u16],
-    values: &[u32],
-    n: usize,
-    output: &mut [u8],
-) -> Finding
-    requires { ⌜ Judged (columns (now kinds) (now transactions) (now registers) (now values)) n ⌝ }
-    requires { ⌜ markingSize (history (columns (now kinds) (now transactions) (now registers) (now values)) n) ≤ length (now output) ⌝ }
-    ensures { λ r. ⌜ gives r (now (output .exit)) ≡ decided Checked.Readable (lowestMarking (startOf (now (starts .entry))) (history (columns (now (kinds .entry)) (now (transactions .entry)) (now (registers .entry)) (now (values .entry))) n)) (now (output .entry)) ⌝ }
+// The lowest marking of a log, if it has one, put into an output that has room for any.
+fn find_lowest(starts: &[u32; 32], log: &[Row], output: &mut [u8]) -> Finding
+    requires { ⌜ Judged (logged (now log)) ⌝ }
+    requires { ⌜ markingSize (logged (now log)) ≤ length (now output) ⌝ }
+    ensures { λ r. ⌜
+        gives r (now (output .exit))
+        ≡ decided Readable (lowestMarking (startOf (now (starts .entry))) (logged (now (log .entry)))) (now (output .entry)) ⌝ }
 {
-    let order = tables::find_order(starts, kinds, transactions, registers, values, n);
-    if order == 0 {
+    let found = tables::find_order(starts, log);
+    if found == 0 {
         return Finding::None;
     }
-    let count = opacity::counts::transactions_begun(kinds, transactions, registers, values, n);
-    let places = places::state::codes_of(order, count);
-    let length = writer::write_marking(
-        kinds,
-        transactions,
-        registers,
-        values,
-        n,
-        places,
-        count,
-        output,
-    );
-    Finding::Marking(length)
+    let begun = transactions_begun(log);
+    let codes = places::state::codes_of(found, begun);
+    let placed = arrays::placed_by(codes, begun);
+    let order = placed.order;
+    let outcomes = placed.outcomes;
+    let own = reads::own_writes(log);
+    let store = reads::store_reads(log, &own);
+    let gaps = arrays::gaps_of(log, codes, begun);
+    let count = log.len();
+    Finding::Marking(write_marking(&order, &outcomes, begun, &store, &gaps, count, output))
 }
 
-// Questions 31 and 32, with the count as their event, and then the lowest marking, of the first n events.
-fn find_readable(
-    starts: &[u32; 32],
-    kinds: &[u16],
-    transactions: &[u16],
-    registers: &[u16],
-    values: &[u32],
-    count: usize,
-    n: usize,
-    output: &mut [u8],
-) -> Finding
-    requires { ⌜ HoldsReadable (columns (now kinds) (now transactions) (now registers) (now values)) count ⌝ }
-    requires { ⌜ n ≤ count ⌝ }
-    ensures { λ r. ⌜ gives r (now (output .exit)) ≡ decided (prefixRefusal (history (columns (now (kinds .entry)) (now (transactions .entry)) (now (registers .entry)) (now (values .entry))) n) count (length (now (output .entry)))) (lowestMarking (startOf (now (starts .entry))) (history (columns (now (kinds .entry)) (now (transactions .entry)) (now (registers .entry)) (now (values .entry))) n)) (now (output .entry)) ⌝ }
+// Questions 31 and 32, with the count as their event, and then the lowest marking, of a log.
+pub fn find_log(starts: &[u32; 32], log: &[Row], count: usize, output: &mut [u8]) -> Finding
+    requires { ⌜ readable (logged (now log)) ≡ true ⌝ }
+    ensures { λ r. ⌜
+        gives r (now (output .exit))
+        ≡ findOf (now (starts .entry)) (logged (now (log .entry))) count (now (output .entry)) ⌝ }
 {
-    let begun = opacity::counts::transactions_begun(kinds, transactions, registers, values, n);
+    let begun = transactions_begun(log);
     if begun > SEARCHED {
         return Finding::Refused(Refusal {
             question: 31,
             at: count,
         });
     }
-    let reads = opacity::counts::store_reads(kinds, transactions, registers, values, n);
+    let reads = reads::count_store_reads(log);
     if output.len()
         < Record::WHOLE_HEAD + Record::WHOLE_PLACE * begun + Record::WHOLE_POINT * reads
     {
@@ -89,45 +82,54 @@ fn find_readable(
             at: count,
         });
     }
-    find_lowest(starts, kinds, transactions, registers, values, n, output)
+    find_lowest(starts, log, output)
 }
 
-// The questions of the call and of its events: 17, 3 and 18, with the count as their event, and then each event's own.
-fn check_call(
-    edition: u16,
+// What the questions refuse, and else what is found of the first of the rows taken in.
+fn find_admitted(
     starts: &[u32; 32],
-    kinds: &[u16],
-    transactions: &[u16],
-    registers: &[u16],
-    values: &[u32],
+    checked: Checked,
+    rows: &[Row],
     count: usize,
     prefix: usize,
-) -> Checked
-    ensures { λ r. ⌜ r ≡ callRefusal edition (now (starts .entry)) (columns (now (kinds .entry)) (now (transactions .entry)) (now (registers .entry)) (now (values .entry))) count prefix ⌝ }
+    output: &mut [u8],
+) -> Finding
+    requires { ⌜ Entered checked count (now rows) ⌝ }
+    requires { ⌜ prefix ≤ count ⌝ }
+    ensures { λ r. ⌜
+        gives r (now (output .exit))
+        ≡ findAfter checked (now (starts .entry)) (logged (take prefix (now (rows .entry)))) count (now (output .entry)) ⌝ }
 {
-    if !log::columns::columns_hold(kinds, transactions, registers, values, count) {
-        return Checked::Refused(Refusal {
+    if let Checked::Refused(refusal) = checked {
+        return Finding::Refused(refusal);
+    }
+    find_log(starts, &rows[..prefix], count, output)
+}
+
+// The first of 17, 3 and 18 that says no where the prefix is longer than the history.
+fn prefix_refused(held: bool, admitted: bool, count: usize) -> Refusal
+    ensures { λ r. ⌜ r ≡ refuse (cond held (cond admitted 18 3) 17) count ⌝ }
+{
+    if !held {
+        return Refusal {
             question: 17,
             at: count,
-        });
+        };
     }
-    if !log::starts::is_admitted(edition, starts) {
-        return Checked::Refused(Refusal {
+    if !admitted {
+        return Refusal {
             question: 3,
             at: count,
-        });
+        };
     }
-    if prefix > count {
-        return Checked::Refused(Refusal {
-            question: 18,
-            at: count,
-        });
+    Refusal {
+        question: 18,
+        at: count,
     }
-    log::columns::check_columns(kinds, transactions, registers, values, count)
 }
 
 // The lowest marking of the first `prefix` of the first `count` events, written from the output's first byte. The prefix keeps
-// the edition and the start values of its history.
+// the edition and the start values of its history. 18 comes before the events' own questions, so it is asked first.
 pub fn find_marking(
     edition: u16,
     starts: &[u32; 32],
@@ -139,9 +141,32 @@ pub fn find_marking(
     prefix: usize,
     output: &mut [u8],
 ) -> Finding
-    ensures { λ r. ⌜ gives r (now (output .exit)) ≡ foundAnswer edition (now (starts .entry)) (columns (now (kinds .entry)) (now (transactions .entry)) (now (registers .entry)) (now (values .entry))) count prefix (now (output .entry)) ⌝ }
+    ensures { λ r. ⌜
+        gives r (now (output .exit))
+        ≡ foundAnswer edition (now (starts .entry))
+        (columns (now (kinds .entry)) (now (transactions .entry)) (now (registers .entry)) (now (values .entry))) count prefix (now (output .entry)) ⌝ }
 {
-    let checked = check_call(
+    if prefix > count {
+        let held = columns_hold(kinds, transactions, registers, values, count);
+        let admitted = is_admitted(edition, starts);
+        return Finding::Refused(prefix_refused(held, admitted, count));
+    }
+    if count <= 64 {
+        let mut few = [[0u32; 4]; 64];
+        let checked = admit(
+            edition,
+            starts,
+            kinds,
+            transactions,
+            registers,
+            values,
+            count,
+            &mut few,
+        );
+        return find_admitted(starts, checked, &few, count, prefix, output);
+    }
+    let mut rows = [[0u32; 4]; 2048];
+    let checked = admit(
         edition,
         starts,
         kinds,
@@ -149,19 +174,7 @@ pub fn find_marking(
         registers,
         values,
         count,
-        prefix,
+        &mut rows,
     );
-    if let Checked::Refused(refusal) = checked {
-        return Finding::Refused(refusal);
-    }
-    find_readable(
-        starts,
-        kinds,
-        transactions,
-        registers,
-        values,
-        count,
-        prefix,
-        output,
-    )
+    find_admitted(starts, checked, &rows, count, prefix, output)
 }

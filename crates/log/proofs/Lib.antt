@@ -5,3 +5,5 @@ pub mod StartLaws
 pub mod SaidLaws
 pub mod RowLaws
 pub mod AdmitLaws
+pub mod DoorLaws
+pub mod SpillLaws

@@ -3,4 +3,5 @@
 pub mod admit;
 pub mod columns;
 pub mod rows;
+pub mod spill;
 pub mod starts;

@@ -16,8 +16,8 @@ use Rattle.lists.proofs.ListLaws.{keep-append}
 use Rattle.lists.proofs.FilledLaws.{filled-at, filled-beyond}
 use Rattle.events.specs.Events.{eventAt, noEvent, begins, isRead}
 use Rattle.events.specs.Questions.{readable}
-use Rattle.log.specs.declared.columns.Checked.{Checked}
-use Rattle.log.specs.declared.columns.Checked.the-variants.{Readable, Refused}
+use Rattle.log.specs.declared.admit.Checked.{Checked}
+use Rattle.log.specs.declared.admit.Checked.the-variants.{Readable, Refused}
 use Rattle.log.specs.Answer.{historyAnswer}
 use Rattle.log.specs.Columns.{Columns, history}
 use Rattle.log.specs.Rows.{logged, Admitted}
@@ -110,16 +110,3 @@ module _ (log : List (List ℕ)) (b : ℕ) (reads : List Bool) (count : b ≡ be
       ap (λ (k : Known). fileRead k file) (sym known-same) ∙ (sym answer ∙ refused-as (length log) b r (r .question) (r .byte) refl refl z)
 
 -- ---- the door: what was admitted is what the columns hold
-
-pub admitted-log : {h : List Event} {n : ℕ} {rows : List (List ℕ)} → Admitted h n rows → Admitted (logged (take n rows)) n rows
-admitted-log a = record { room = a .room; same = refl; readable = rw (a .same) (a .readable) }
-
-pub door : (edition : ℕ) (starts : List ℕ) (c : Columns) (n : ℕ) (file : List ℕ) (rows : List (List ℕ)) {x : Checked}
-    → x ≡ historyAnswer edition starts c n → (x ≡ Readable → Admitted (history c n) n rows)
-    → afterColumns (startOf starts) (logged (take n rows)) file x ≡ verdictAnswer edition starts c n file
-unfolding verdictAnswer
-door edition starts c n file rows {x} e a = go x refl ∙ ap (afterColumns (startOf starts) (history c n) file) e
-  where
-    go : (k : Checked) → x ≡ k → afterColumns (startOf starts) (logged (take n rows)) file k ≡ afterColumns (startOf starts) (history c n) file k
-    go Readable q = ap (λ (h : List Event). afterColumns (startOf starts) h file Readable) (a q .same)
-    go (Refused r) q = refl

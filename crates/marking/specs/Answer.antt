@@ -4,8 +4,8 @@ use Prim.Native.Nat.{ℕ}
 use mathlib.Core.Path.{_≡_}
 use mathlib.Core.List.{List, []}
 use Rattle.events.specs.declared.event.Event.{Event}
-use Rattle.log.specs.declared.columns.Checked.{Checked}
-use Rattle.log.specs.declared.columns.Checked.the-variants.{Readable, Refused}
+use Rattle.log.specs.declared.admit.Checked.{Checked}
+use Rattle.log.specs.declared.admit.Checked.the-variants.{Readable, Refused}
 use Rattle.log.specs.Columns.{Columns, history}
 use Rattle.log.specs.Starts.{startOf}
 use Rattle.events.specs.Said.{Said, done, broken, eventRefused, byteRefused, refuse}
@@ -17,13 +17,22 @@ use Rattle.opacity.specs.Marking.{Marking, verdict, ruleNumber, namedEvent, nam
 use Rattle.opacity.specs.Verdicts.{RuleD, FirstBroken}
 use Rattle.opacity.specs.Justification.{Justified, zeros}
 use Rattle.marking.specs.declared.check.Checking.{Checking}
+use Rattle.marking.specs.declared.check.Ruling.{Ruling}
 use Rattle.marking.specs.declared.check.Checking.the-variants.{Ruled, HistoryRefused, MarkingRefused}
 use Rattle.marking.specs.File.{known, FileRead, content, refused, fileRead}
 
 -- the verdict on the content of the file, or the question that refuses the file
+abbrev pub ruling : (ℕ → ℕ) → List Event → FileRead → Ruling
+ruling start h (content m) = Ruling.Ruled (verdict start h m)
+ruling start h (refused q byte) = Ruling.Refused (refuse q byte)
+
+-- the checker's answer for a readable history
+abbrev pub fromFile : Ruling → Checking
+fromFile (Ruling.Ruled v) = Ruled v
+fromFile (Ruling.Refused r) = MarkingRefused r
+
 abbrev pub ruled : (ℕ → ℕ) → List Event → FileRead → Checking
-ruled start h (content m) = Ruled (verdict start h m)
-ruled start h (refused q byte) = MarkingRefused (refuse q byte)
+ruled start h x = fromFile (ruling start h x)
 
 abbrev pub afterColumns : (ℕ → ℕ) → List Event → List ℕ → Checked → Checking
 afterColumns start h file Readable = ruled start h (fileRead (known h) file)

@@ -3,17 +3,16 @@ ghost use mathlib.Core.Path.{_≡_};
 ghost use mathlib.Core.Bool.{true};
 ghost use lib.ListN.{take};
 ghost use Rattle.events.specs.Questions.{readable};
-ghost use Rattle.log.specs.declared.columns.Checked.the-variants.{Readable};
 ghost use Rattle.log.specs.Columns.{columns};
-ghost use Rattle.log.specs.Rows.{logged, Admitted};
+ghost use Rattle.log.specs.Rows.{logged, Entered};
 ghost use Rattle.log.specs.Starts.{startOf};
 ghost use Rattle.marking.specs.File.{known, fileRead};
-ghost use Rattle.marking.specs.Answer.{ruled, afterColumns, verdictAnswer};
+ghost use Rattle.marking.specs.Answer.{ruling, fromFile, afterColumns, verdictAnswer};
 use crate::read::read_marking;
 use events::refusal::Refusal;
 use links::writes::links;
+use log::admit::Checked;
 use log::admit::admit;
-use log::columns::Checked;
 use log::rows::Row;
 use log::rows::transactions_begun;
 use opacity::verdict::Verdict;
@@ -29,10 +28,17 @@ pub enum Checking {
     MarkingRefused(Refusal),
 }
 
+// The answer for a readable history: the verdict of the rules, or the question that refuses the
+// marking, with its byte.
+pub enum Ruling {
+    Ruled(Verdict),
+    Refused(Refusal),
+}
+
 // Checks a marking file against the readable history in a log.
-pub fn check_log(starts: &[u32; 32], log: &[Row], file: &[u8]) -> Checking
+pub fn check_log(starts: &[u32; 32], log: &[Row], file: &[u8]) -> Ruling
     requires { ⌜ readable (logged (now log)) ≡ true ⌝ }
-    ensures { λ r. ⌜ r ≡ ruled (startOf (now (starts .entry))) (logged (now (log .entry)))
+    ensures { λ r. ⌜ r ≡ ruling (startOf (now (starts .entry))) (logged (now (log .entry)))
         (fileRead (known (logged (now (log .entry)))) (now (file .entry))) ⌝ }
 {
     let begun = transactions_begun(log);
@@ -40,7 +46,7 @@ pub fn check_log(starts: &[u32; 32], log: &[Row], file: &[u8]) -> Checking
     let reads = store_reads(log, &own);
     let reading = read_marking(&reads, log.len(), begun, file);
     if reading.question != 0 {
-        return Checking::MarkingRefused(Refusal {
+        return Ruling::Refused(Refusal {
             question: reading.question,
             at: reading.byte,
         });
@@ -50,7 +56,17 @@ pub fn check_log(starts: &[u32; 32], log: &[Row], file: &[u8]) -> Checking
     let outcomes = reading.outcomes;
     let gaps = reading.gaps;
     let verdict = judge(starts, log, &own, &link, &order, &outcomes, &gaps);
-    Checking::Ruled(verdict)
+    Ruling::Ruled(verdict)
+}
+
+// The checker's answer, where the history is readable.
+fn checking_of(ruling: Ruling) -> Checking
+    ensures { λ r. ⌜ r ≡ fromFile ruling ⌝ }
+{
+    match ruling {
+        Ruling::Ruled(verdict) => Checking::Ruled(verdict),
+        Ruling::Refused(refusal) => Checking::MarkingRefused(refusal),
+    }
 }
 
 // The answer for what was taken in: the question that refuses it, or the check of the first rows.
@@ -61,13 +77,13 @@ fn check_admitted(
     count: usize,
     file: &[u8],
 ) -> Checking
-    requires { ⌜ (checked ≡ Readable → Admitted (logged (take count (now rows))) count (now rows)) ⌝ }
+    requires { ⌜ Entered checked count (now rows) ⌝ }
     ensures { λ r. ⌜ r ≡ afterColumns (startOf (now (starts .entry))) (logged (take count (now (rows .entry))))
         (now (file .entry)) checked ⌝ }
 {
     match checked {
         Checked::Refused(refusal) => Checking::HistoryRefused(refusal),
-        Checked::Readable => check_log(starts, &rows[..count], file),
+        Checked::Readable => checking_of(check_log(starts, &rows[..count], file)),
     }
 }
 

@@ -1,3 +1,4 @@
 -- What the proofs of several functions use, here and in the crates above.
 pub mod RunLaws
 pub mod PointLaws
+pub mod WholeLaws

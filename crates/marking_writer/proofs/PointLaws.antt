@@ -1,7 +1,8 @@
 -- The points of a marking, one event more at a time.
 -- Assumes nothing.
 use mathlib.Core.Path.{_≡_, refl, ap, ap₂, _∙_}
-use Prim.Native.Nat.{ℕ, zero, suc, _+_, _≤_}
+use Prim.Native.Nat.{ℕ, zero, suc, _+_, _≤_, _<_}
+use native.Mathlib.Nat.{le-step, lt-suc-self}
 use native.Mathlib.Omega.{arith}
 use mathlib.Core.Bool.{Bool, true, false}
 use mathlib.Core.List.{List, [], _∷_, _++_, map, map-append}
@@ -29,6 +30,15 @@ points-are store gap (suc n) =
     last : (b : Bool) → flat pointBytes (map (λ i. record { event = i; gap = gap i }) (push b n [])) ≡ readBytes b n (gap n)
     last true = refl
     last false = refl
+
+-- points with the same store reads and the same gaps are the same
+pub points-same : (store store′ : ℕ → Bool) (gap gap′ : ℕ → ℕ) (n : ℕ) → ((i : ℕ) → i < n → store i ≡ store′ i) → ((i : ℕ) → i < n → gap i ≡ gap′ i)
+    → pointsTo store gap n ≡ pointsTo store′ gap′ n
+unfolding pointsTo
+points-same store store′ gap gap′ zero f g = refl
+points-same store store′ gap gap′ (suc n) f g =
+    ap₂ (λ (a b : List ℕ). a ++ b) (points-same store store′ gap gap′ n (λ i l. f i (le-step l)) (λ i l. g i (le-step l)))
+    (ap₂ (λ (b : Bool) (m : ℕ). readBytes b n m) (f n (lt-suc-self n)) (g n (lt-suc-self n)))
 
 -- each event's point is put behind those before it
 module _ (store : ℕ → Bool) (gap : ℕ → ℕ) where

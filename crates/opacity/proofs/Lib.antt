@@ -1,8 +1,6 @@
-pub mod Prefixes
 pub mod Meanings
 pub mod Bounds
 pub mod HowMany
-pub mod CountLaws
 pub mod Orders
 pub mod Steps
 pub mod Compare

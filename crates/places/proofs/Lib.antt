@@ -2,5 +2,6 @@
 pub mod BitLaws
 pub mod SetLaws
 pub mod StateLaws
+pub mod FactLaws
 pub mod LookupLaws
 pub mod PlaceLaws

@@ -1,22 +1,23 @@
--- Laws of the lookup: the table of last writes as a history, and the last place that wrote.
+-- Laws of the lookup: the last writes of a table of facts as a history, and the last place that wrote.
 -- Assumes nothing.
 use mathlib.Core.Path.{_≡_, refl, sym, ap, _∙_}
-use Prim.Native.Nat.{ℕ, zero, suc, _+_, _*_, _-_, _/_, _%_, _≤_, _<_}
+use Prim.Native.Nat.{ℕ, zero, suc, _+_, _-_, _/_, _%_, _≤_, _<_}
 use native.Mathlib.Omega.{arith}
 use mathlib.Core.Bool.{Bool, true, false, cond}
 use mathlib.Core.List.{List, [], _∷_, _++_}
 use mathlib.Core.Option.{Option, none, some, Option·getD}
-use lib.ListN.{length, take, getD}
-use lib.Seq.{take-suc, take-all}
+use lib.ListN.{length, take, drop, getD}
+use lib.Seq.{take-suc, take-all, getD-drop}
 use lib.Dec.{eqb}
-use borrow.Author.Tests.{eqb-true, eqb-false, eq-eqb, ne-eqb}
+use borrow.Author.Tests.{eq-eqb, ne-eqb}
 use Rattle.lists.specs.Lists.{_and_, orElse, latest}
 use Rattle.events.specs.declared.event.Event.{Event}
 use Rattle.events.specs.Events.{isWrite, by}
 use Rattle.opacity.specs.Transactions.{lastWrite}
 use Rattle.opacity.specs.Justification.{Place, written, contents}
 use Rattle.opacity.proofs.Contents.{contents-more}
-use Rattle.places.specs.Places.{coded, decode, plus, consWrite, writesFrom, writesIn, writeOf}
+use Rattle.places.specs.Facts.{fact, writtenOf}
+use Rattle.places.specs.Places.{coded, decode, plus, consWrite, rowFrom, writesFrom, writesIn, writeOf}
 
 -- ---- the table as a history
 
@@ -25,78 +26,93 @@ abbrev entry : ℕ → Option ℕ
 entry zero = none
 entry (suc v) = some v
 
--- a write of t to r is at its slot
-slot-hit : (k t r : ℕ) → r < 32 → (eqb (k / 32) t and eqb 19 19) and eqb (k % 32) r ≡ eqb k (t * 32 + r)
-unfolding _and_
-slot-hit k t r l = go (eqb (k / 32) t) refl (eqb (k % 32) r) refl
-  where
-    go : (b : Bool) → eqb (k / 32) t ≡ b → (c : Bool) → eqb (k % 32) r ≡ c → ((b and true) and c) ≡ eqb k (t * 32 + r)
-    go true e true f =
-        let a = eqb-true (k / 32) t e in
-        let b = eqb-true (k % 32) r f in
-        sym (eq-eqb k (t * 32 + r) (omega arith))
-    go true e false f = sym (ne-eqb k (t * 32 + r) (λ q. eqb-false (k % 32) r f (omega arith)))
-    go false e c f = sym (ne-eqb k (t * 32 + r) (λ q. eqb-false (k / 32) t e (omega arith)))
-
-module _ (t r : ℕ) (low : r < 32) where
+module _ (u q : ℕ) where
   -- one entry more in front
-  last-cons : (k v : ℕ) (h : List Event) → lastWrite (consWrite k v h) t r ≡ orElse (lastWrite h t r) (cond (eqb k (t * 32 + r)) (entry v) none)
+  last-cons : (t r v : ℕ) (h : List Event) → lastWrite (consWrite t r v h) u q ≡ orElse (lastWrite h u q) (cond ((eqb t u and true) and eqb r q) (entry v) none)
   unfolding lastWrite latest by isWrite
-  last-cons k zero h = go (eqb k (t * 32 + r)) (lastWrite h t r)
+  last-cons t r zero h = go ((eqb t u and true) and eqb r q) (lastWrite h u q)
     where
       go : (b : Bool) (o : Option ℕ) → o ≡ orElse o (cond b none none)
       go true none = refl
       go true (some x) = refl
       go false none = refl
       go false (some x) = refl
-  last-cons k (suc v) h = ap (λ (b : Bool). orElse (lastWrite h t r) (cond b (some v) none)) (slot-hit k t r low)
+  last-cons t r (suc v) h = refl
 
-  none-last : lastWrite [] t r ≡ none
-  unfolding lastWrite latest
-  none-last = refl
-
-  -- the entries behind the slot have no write of t to r
-  from-behind : (w : List ℕ) (k : ℕ) → t * 32 + r < k → lastWrite (writesFrom k w) t r ≡ none
-  unfolding writesFrom
-  from-behind [] k l = none-last
-  from-behind (v ∷ w) k l =
-      let miss : eqb k (t * 32 + r) ≡ false = ne-eqb k (t * 32 + r) (λ q. omega arith) in
-      last-cons k v (writesFrom (suc k) w) ∙ (rw (miss, from-behind w (suc k) (omega arith)))
-
-  from-slot : (w : List ℕ) (k d : ℕ) → k + d ≡ t * 32 + r → plus (lastWrite (writesFrom k w) t r) ≡ getD w d 0
-  unfolding writesFrom
-  from-slot [] k d e = ap plus none-last
-  from-slot (v ∷ w) k zero e =
-      let hit : eqb k (t * 32 + r) ≡ true = eq-eqb k (t * 32 + r) (omega arith) in
-      ap plus (last-cons k v (writesFrom (suc k) w)) ∙ (rw (hit, from-behind w (suc k) (omega arith)) (same v))
+  -- one that is of another transaction or register
+  other-cons : (t r v : ℕ) (h : List Event) → ((eqb t u and true) and eqb r q) ≡ false → lastWrite (consWrite t r v h) u q ≡ lastWrite h u q
+  other-cons t r v h e = last-cons t r v h ∙ (rw e (past (lastWrite h u q)))
     where
-      same : (x : ℕ) → plus (entry x) ≡ x
-      same zero = refl
-      same (suc x) = omega arith
-  from-slot (v ∷ w) k (suc d) e =
-      let miss : eqb k (t * 32 + r) ≡ false = ne-eqb k (t * 32 + r) (λ q. omega arith) in
-      ap plus (last-cons k v (writesFrom (suc k) w)) ∙ (rw miss (past (lastWrite (writesFrom (suc k) w) t r))) ∙ from-slot w (suc k) d (omega arith)
-    where
-      past : (o : Option ℕ) → plus (orElse o none) ≡ plus o
+      past : (o : Option ℕ) → orElse o none ≡ o
       past none = refl
       past (some x) = refl
 
+  none-last : lastWrite [] u q ≡ none
+  unfolding lastWrite latest
+  none-last = refl
+
+  -- a row of another transaction, and the entries of a row behind the register
+  other-row : (t : ℕ) → eqb t u ≡ false → (w : List ℕ) (r : ℕ) (h : List Event) → lastWrite (rowFrom t r w h) u q ≡ lastWrite h u q
+  unfolding rowFrom _and_
+  other-row t e [] r h = refl
+  other-row t e (v ∷ w) r h = other-cons t r v (rowFrom t (suc r) w h) (rw e) ∙ other-row t e w (suc r) h
+
+  row-behind : (w : List ℕ) (r : ℕ) (h : List Event) → q < r → lastWrite (rowFrom u r w h) u q ≡ lastWrite h u q
+  unfolding rowFrom _and_
+  row-behind [] r h l = refl
+  row-behind (v ∷ w) r h l =
+      let same : eqb u u ≡ true = eq-eqb u u refl in
+      let miss : eqb r q ≡ false = ne-eqb r q (λ e. omega arith) in
+      other-cons u r v (rowFrom u (suc r) w h) (rw (same, miss)) ∙ row-behind w (suc r) h (omega arith)
+
+  in-row : (w : List ℕ) (r d : ℕ) (h : List Event) → r + d ≡ q → lastWrite h u q ≡ none → plus (lastWrite (rowFrom u r w h) u q) ≡ getD w d 0
+  unfolding rowFrom _and_
+  in-row [] r d h e n = ap plus n
+  in-row (v ∷ w) r zero h e n =
+      let same : eqb u u ≡ true = eq-eqb u u refl in
+      let hit : eqb r q ≡ true = eq-eqb r q (omega arith) in
+      ap plus (last-cons u r v (rowFrom u (suc r) w h)) ∙ (rw (same, hit, row-behind w (suc r) h (omega arith), n) (whole v))
+    where
+      whole : (x : ℕ) → plus (entry x) ≡ x
+      whole zero = refl
+      whole (suc x) = omega arith
+  in-row (v ∷ w) r (suc d) h e n =
+      let same : eqb u u ≡ true = eq-eqb u u refl in
+      let miss : eqb r q ≡ false = ne-eqb r q (λ k. omega arith) in
+      ap plus (other-cons u r v (rowFrom u (suc r) w h) (rw (same, miss))) ∙ in-row w (suc r) d h (omega arith) n
+
+  -- the rows behind that of u have no write of it
+  rows-behind : (f : List (List ℕ)) (t : ℕ) → u < t → lastWrite (writesFrom t f) u q ≡ none
+  unfolding writesFrom
+  rows-behind [] t l = none-last
+  rows-behind (row ∷ f) t l =
+      other-row t (ne-eqb t u (λ e. omega arith)) (drop 35 row) 0 (writesFrom (suc t) f) ∙ rows-behind f (suc t) (omega arith)
+
+  in-rows : (f : List (List ℕ)) (t d : ℕ) → t + d ≡ u → plus (lastWrite (writesFrom t f) u q) ≡ fact f d (35 + q)
+  unfolding writesFrom
+  in-rows [] t d e = ap plus none-last
+  in-rows (row ∷ f) t zero e =
+      let s : t ≡ u = omega arith in
+      rw s (in-row (drop 35 row) 0 q (writesFrom (suc u) f) (omega arith) (rows-behind f (suc u) (omega arith))) ∙ getD-drop 35 row q 0
+  in-rows (row ∷ f) t (suc d) e =
+      ap plus (other-row t (ne-eqb t u (λ k. omega arith)) (drop 35 row) 0 (writesFrom (suc t) f)) ∙ in-rows f (suc t) d (omega arith)
+
   -- what the table holds is the last write
-  pub held : (w : List ℕ) → plus (lastWrite (writesIn w) t r) ≡ getD w (t * 32 + r) 0
+  pub held : (f : List (List ℕ)) → plus (lastWrite (writesIn f) u q) ≡ writtenOf f u q
   unfolding writesIn
-  held w = from-slot w 0 (t * 32 + r) (omega arith)
+  held f = in-rows f 0 u (omega arith)
 
 -- ---- one place
 
 -- an aborted place wrote nothing
-pub aborted-wrote : (w : List ℕ) (r code : ℕ) → code % 2 ≡ 0 → writeOf w r code ≡ 0
+pub aborted-wrote : (w : List (List ℕ)) (r code : ℕ) → code % 2 ≡ 0 → writeOf w r code ≡ 0
 unfolding writeOf written
 aborted-wrote w r code e = let a : eqb (code % 2) 1 ≡ false = ne-eqb (code % 2) 1 (λ q. omega arith) in rw a
 
 -- a committed one what the table holds
-pub committed-wrote : (w : List ℕ) (r code : ℕ) → r < 32 → (code % 2 ≡ 0 → ⊥) → writeOf w r code ≡ getD w (code / 2 * 32 + r) 0
+pub committed-wrote : (w : List (List ℕ)) (r code : ℕ) → (code % 2 ≡ 0 → ⊥) → writeOf w r code ≡ writtenOf w (code / 2) r
 unfolding writeOf written
-committed-wrote w r code l f = let a : eqb (code % 2) 1 ≡ true = eq-eqb (code % 2) 1 (omega arith) in rw a (held (code / 2) r l w)
+committed-wrote w r code f = let a : eqb (code % 2) 1 ≡ true = eq-eqb (code % 2) 1 (omega arith) in rw a (held (code / 2) r w)
 
 -- ---- the places from the last one back
 
@@ -109,7 +125,7 @@ pub decode-snoc : (p : List ℕ) (c : ℕ) → decode (p ++ (c ∷ [])) ≡ deco
 unfolding decode
 decode-snoc p c = decode-append p (c ∷ [])
 
-module _ (start : ℕ → ℕ) (w p : List ℕ) (r : ℕ) where
+module _ (start : ℕ → ℕ) (w : List (List ℕ)) (p : List ℕ) (r : ℕ) where
   -- what r holds after the first n places
   abbrev pub after : ℕ → ℕ
   after n = contents start (writesIn w) (decode (take n p)) r

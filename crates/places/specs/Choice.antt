@@ -3,10 +3,11 @@
 -- Assumes nothing.
 use Prim.Native.Nat.{ℕ, _-_, _^_}
 use lib.Count.{ones}
+use Rattle.lists.specs.Lists.{orElse}
 use Rattle.places.specs.declared.state.Search.{Search}
 use Rattle.places.specs.Bits.{members}
 use Rattle.places.specs.State.{placedOf}
-use Rattle.places.specs.Tree.{Constraints, Completion, orElse, fromCandidates, atTransaction}
+use Rattle.places.specs.Tree.{Constraints, Completion, fromCandidates, atTransaction}
 
 -- the first completion of the places of s whose next transaction is one of the candidates c
 abbrev pub among : Constraints → Search → ℕ → Completion

@@ -1,4 +1,5 @@
 pub mod Bits
+pub mod Facts
 pub mod Places
 pub mod State
 pub mod Tree

@@ -1,10 +1,11 @@
 -- Vocabulary between crates: it need not be believed, the public contracts end in the paper's definitions.
--- The state's places and the table of last writes as the definitions of histories have them: an order, and a history.
+-- The state's places and the last writes of a table of facts as the definitions of histories have them: an order, and a history.
 -- Assumes nothing.
 use Prim.Native.Nat.{ℕ, zero, suc, _+_, _/_, _%_}
 use mathlib.Core.List.{List, [], _∷_, _++_}
 use mathlib.Core.Option.{Option, none, some}
 use lib.Dec.{eqb}
+use lib.ListN.{drop}
 use Rattle.events.specs.declared.event.Event.{Event}
 use Rattle.opacity.specs.Justification.{Place, written}
 use Rattle.opacity.specs.Lowest.{place}
@@ -27,19 +28,24 @@ abbrev pub plus : Option ℕ → ℕ
 plus none = 0
 plus (some v) = v + 1
 
--- the entry at 32 * t + r, if it is not 0, as a write of t to r
-abbrev pub consWrite : ℕ → ℕ → List Event → List Event
-consWrite k zero h = h
-consWrite k (suc v) h = record { kind = 19; transaction = k / 32; register = k % 32; value = v } ∷ h
+-- an entry of the table, if it is not 0, as a write of t to r
+abbrev pub consWrite : ℕ → ℕ → ℕ → List Event → List Event
+consWrite t r zero h = h
+consWrite t r (suc v) h = record { kind = 19; transaction = t; register = r; value = v } ∷ h
 
--- the writes that a table holds, as a history; the first entry is that at k
-unfoldable pub writesFrom : ℕ → List ℕ → List Event
-writesFrom k [] = []
-writesFrom k (v ∷ w) = consWrite k v (writesFrom (suc k) w)
+-- the writes of t that a row holds from register r on, and then the history h
+unfoldable pub rowFrom : ℕ → ℕ → List ℕ → List Event → List Event
+rowFrom t r [] h = h
+rowFrom t r (v ∷ w) h = consWrite t r v (rowFrom t (suc r) w h)
 
-unfoldable pub writesIn : List ℕ → List Event
-writesIn w = writesFrom 0 w
+-- the writes that a table of facts holds, as a history; the first row is that of t
+unfoldable pub writesFrom : ℕ → List (List ℕ) → List Event
+writesFrom t [] = []
+writesFrom t (row ∷ f) = rowFrom t 0 (drop 35 row) (writesFrom (suc t) f)
+
+unfoldable pub writesIn : List (List ℕ) → List Event
+writesIn f = writesFrom 0 f
 
 -- what a place wrote to r, as a table holds it
-unfoldable pub writeOf : List ℕ → ℕ → ℕ → ℕ
-writeOf w r code = plus (written (writesIn w) r (coded code))
+unfoldable pub writeOf : List (List ℕ) → ℕ → ℕ → ℕ
+writeOf f r code = plus (written (writesIn f) r (coded code))

@@ -7,56 +7,54 @@ ghost use Rattle.log.specs.Starts.{startOf};
 ghost use Rattle.opacity.specs.Justification.{contents};
 ghost use Rattle.places.specs.Bits.{members};
 ghost use Rattle.places.specs.Places.{codesOf, decode, writesIn, writeOf};
-ghost use Rattle.places.specs.State.{Coded};
-ghost use Rattle.places.specs.Tree.{legalAt};
+ghost use Rattle.places.specs.State.{placedOf, Coded};
+ghost use Rattle.places.specs.Tree.{asking, legalAt, legalReads};
+use crate::facts::Facts;
+use crate::facts::REQUIRED;
+use crate::facts::WRITTEN;
+use crate::facts::reads_asked;
+use crate::facts::wide;
 use crate::sets;
+use crate::state::Search;
 use crate::state::code_at;
-
-const REGISTERS: usize = 32;
-
-pub fn value_of(x: u32) -> u64
-    ensures { λ r. ⌜ r ≡ x ⌝ }
-{
-    x as u64
-}
 
 // What register holds before any writer.
 fn start_value(starts: &[u32; 32], register: usize) -> u64
     requires { ⌜ register < 32 ⌝ }
     ensures { λ r. ⌜ r ≡ getD (now (starts .entry)) register 0 ⌝ }
 {
-    value_of(starts[register])
+    wide(starts[register])
 }
 
 // What the place of this code wrote to register, as the table holds it: one that is aborted writes nothing.
-fn write_of(written: &[u64; 320], code: usize, register: usize) -> u64
+fn write_of(facts: &[Facts; 11], code: usize, register: usize) -> u64
     requires { ⌜ code < 20 ⌝ }
     requires { ⌜ register < 32 ⌝ }
-    ensures { λ r. ⌜ r ≡ writeOf (now (written .entry)) register code ⌝ }
+    ensures { λ r. ⌜ r ≡ writeOf (now (facts .entry)) register code ⌝ }
 {
     if code % 2 == 0 {
         return 0;
     }
-    written[code / 2 * REGISTERS + register]
+    facts[code / 2][WRITTEN + register]
 }
 
 // What register holds after the places filled: the value of the last committed writer, looked for from the last place back, or the
 // start value.
 pub fn content(
     starts: &[u32; 32],
-    written: &[u64; 320],
+    facts: &[Facts; 11],
     placed: u64,
     filled: usize,
     register: usize,
 ) -> u64
     requires { ⌜ Coded filled placed ⌝ }
     requires { ⌜ register < 32 ⌝ }
-    ensures { λ r. ⌜ r ≡ contents (startOf (now (starts .entry))) (writesIn (now (written .entry))) (decode (codesOf filled placed)) register ⌝ }
+    ensures { λ r. ⌜ r ≡ contents (startOf (now (starts .entry))) (writesIn (now (facts .entry))) (decode (codesOf filled placed)) register ⌝ }
 {
     let mut left = filled;
     while left > 0 {
         let code = code_at(placed, filled - left);
-        let w = write_of(written, code, register);
+        let w = write_of(facts, code, register);
         if w != 0 {
             return w - 1;
         }
@@ -68,46 +66,60 @@ pub fn content(
 // Is the store read of register by t, if there is one, that of the register's content?
 pub fn legal_at(
     starts: &[u32; 32],
-    required: &[u64; 320],
-    written: &[u64; 320],
+    facts: &[Facts; 11],
     placed: u64,
     filled: usize,
     t: usize,
     register: usize,
 ) -> bool
     requires { ⌜ Coded filled placed ⌝ }
-    requires { ⌜ t < 10 ⌝ }
+    requires { ⌜ t < 11 ⌝ }
     requires { ⌜ register < 32 ⌝ }
-    ensures { λ r. ⌜ r ≡ legalAt (now (starts .entry)) (now (required .entry)) (writesIn (now (written .entry))) (codesOf filled placed) t register ⌝ }
+    ensures { λ r. ⌜ r ≡ legalAt (now (starts .entry)) (now (facts .entry)) (codesOf filled placed) t register ⌝ }
 {
-    let w = required[t * REGISTERS + register];
+    let w = facts[t][REQUIRED + register];
     if w == 0 {
         return true;
     }
-    content(starts, written, placed, filled, register) == w - 1
+    content(starts, facts, placed, filled, register) == w - 1
 }
 
-// Is each store read of t that of its register's content? The registers that it reads are visited by their bits.
-pub fn legal(
+// Is each store read of t from these registers that of the register's content? They are visited by their bits.
+fn legal(
     starts: &[u32; 32],
-    required: &[u64; 320],
-    written: &[u64; 320],
+    facts: &[Facts; 11],
     placed: u64,
     filled: usize,
     t: usize,
     registers: u32,
 ) -> bool
     requires { ⌜ Coded filled placed ⌝ }
-    requires { ⌜ t < 10 ⌝ }
-    ensures { λ r. ⌜ r ≡ all (legalAt (now (starts .entry)) (now (required .entry)) (writesIn (now (written .entry))) (codesOf filled placed) t) (members registers) ⌝ }
+    requires { ⌜ t < 11 ⌝ }
+    ensures { λ r. ⌜ r ≡ all (legalAt (now (starts .entry)) (now (facts .entry)) (codesOf filled placed) t) (members registers) ⌝ }
 {
-    let mut left = value_of(registers);
+    let mut left = wide(registers);
     while left != 0 {
         let r = sets::lowest(left);
-        if !legal_at(starts, required, written, placed, filled, t, r) {
+        if !legal_at(starts, facts, placed, filled, t, r) {
             return false;
         }
         left = sets::without(left, r);
     }
     true
+}
+
+// Is each store read of t from the registers asked about legal after the places of s?
+pub fn legal_reads(starts: &[u32; 32], facts: &[Facts; 11], asked: u32, s: Search, t: usize) -> bool
+    requires { ⌜ Coded (s .filled) (s .placed) ⌝ }
+    requires { ⌜ t < 11 ⌝ }
+    ensures { λ r. ⌜ r ≡ legalReads (asking (now (starts .entry)) (now (facts .entry)) asked) (placedOf s) t ⌝ }
+{
+    legal(
+        starts,
+        facts,
+        s.placed,
+        s.filled,
+        t,
+        reads_asked(facts, t, asked),
+    )
 }

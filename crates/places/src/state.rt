@@ -6,11 +6,6 @@ ghost use Rattle.places.specs.Places.{codesOf};
 ghost use Rattle.places.specs.State.{Placeable, Extends, Ordered, PlaceOf};
 use crate::sets;
 
-// Outcomes, and as rules the outcomes that a transaction may have.
-pub const ABORTED: u8 = 0;
-
-pub const COMMITTED: u8 = 1;
-
 // A place is one of so many codes, in so many bits.
 const CODES: u64 = 32;
 
@@ -26,7 +21,7 @@ pub struct Search {
 
 impl Search {
     // The state with t placed next.
-    pub fn place(self, t: usize, outcome: u8) -> Search
+    pub fn place(self, t: usize, outcome: u64) -> Search
         requires { ⌜ Placeable self t ⌝ }
         requires { ⌜ outcome < 2 ⌝ }
         ensures { λ r. ⌜ Extends self t outcome r ⌝ }
@@ -34,7 +29,7 @@ impl Search {
         Search {
             unplaced: sets::without(self.unplaced, t),
             filled: self.filled + 1,
-            placed: self.placed * CODES + (t as u64 * 2 + outcome as u64),
+            placed: self.placed * CODES + (t as u64 * 2 + outcome),
         }
     }
 }

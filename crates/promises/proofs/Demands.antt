@@ -8,7 +8,7 @@ use mathlib.Core.Logic.{_↔_, _⊎_}
 use mathlib.Core.Bool.{true}
 use mathlib.Core.List.{List, [], _∷_}
 use lib.ListN.{length, take, drop}
-use Rattle.log.specs.declared.columns.Checked.the-variants.{Readable, Refused}
+use Rattle.log.specs.declared.admit.Checked.the-variants.{Readable, Refused}
 use Rattle.records.specs.Bytes.{Bytes, over}
 use Rattle.log.specs.Columns.{Columns, history, hold, Fitting}
 use Rattle.events.specs.Said.{done, nothing, faulted, broken, atEvent, atByte, refuse, number}

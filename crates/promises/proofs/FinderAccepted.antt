@@ -7,7 +7,7 @@ use mathlib.Core.Path.{_≡_, sym, ap, _∙_, subst}
 use mathlib.Core.List.{List}
 use lib.ListN.{length, take}
 use Rattle.events.specs.declared.event.Event.{Event}
-use Rattle.log.specs.declared.columns.Checked.the-variants.{Readable}
+use Rattle.log.specs.declared.admit.Checked.the-variants.{Readable}
 use Rattle.log.specs.Columns.{Columns, history}
 use Rattle.log.specs.Starts.{startOf}
 use Rattle.log.specs.Answer.{historyAnswer}

@@ -7,8 +7,8 @@ use mathlib.Core.Bool.{Bool, true, false, cond}
 use mathlib.Core.List.{List}
 use lib.Dec.{leb}
 use lib.ListN.{length}
-use Rattle.log.specs.declared.columns.Checked.{Checked}
-use Rattle.log.specs.declared.columns.Checked.the-variants.{Readable, Refused as Refuses}
+use Rattle.log.specs.declared.admit.Checked.{Checked}
+use Rattle.log.specs.declared.admit.Checked.the-variants.{Readable, Refused as Refuses}
 use Rattle.events.specs.Said.{refuse}
 use Rattle.records.specs.Bytes.{over}
 use Rattle.log.specs.Columns.{Columns, history, hold, filledWith}

@@ -5,7 +5,7 @@ use mathlib.Core.Path.{_≡_}
 use mathlib.Core.Bool.{true}
 use mathlib.Core.List.{List}
 use lib.ListN.{length, take}
-use Rattle.log.specs.declared.columns.Checked.the-variants.{Readable}
+use Rattle.log.specs.declared.admit.Checked.the-variants.{Readable}
 use Rattle.events.specs.declared.event.Event.{Event}
 use Rattle.records.specs.Bytes.{Bytes}
 use Rattle.log.specs.Columns.{Columns, history}

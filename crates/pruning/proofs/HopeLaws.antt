@@ -6,7 +6,6 @@ use native.Mathlib.Omega.{arith}
 use mathlib.Core.List.{List, [], _∷_, _++_}
 use mathlib.Core.Bool.{Bool, true, false, not, cond, false≢true}
 use mathlib.Core.Option.{none, Option·getD}
-use lib.ListN.{getD}
 use lib.Bits.{bitAnd}
 use lib.Dec.{eqb}
 use lib.Count.{ones, trailingZeros}
@@ -18,14 +17,15 @@ use Rattle.opacity.specs.Justification.{written}
 use Rattle.opacity.proofs.Contents.{contents-more}
 use Rattle.places.specs.declared.state.Search.{Search}
 use Rattle.places.specs.Bits.{bitAt, members}
-use Rattle.places.specs.Places.{coded, decode}
+use Rattle.places.specs.Facts.{afterOf, allowedOf, readsAsked}
+use Rattle.places.specs.Places.{coded, decode, writesIn}
 use Rattle.places.specs.State.{placedOf, Sound, Placeable, Keeps, Extends}
-use Rattle.places.specs.Tree.{Constraints, constraints, legalAt, legalReads, noneIn, ruleNext, allowsOutcome, fitsAt, fromCandidates}
-use Rattle.pruning.specs.Runs.{holds, Awaited, Hope, legalFor, Ready, Renewed, otherThan}
-use Rattle.places.proofs.BitLaws.{member-lt, member-off, member-kept, no-member, and-member, lowest-in}
+use Rattle.places.specs.Tree.{Constraints, legalAt, legalReads, noneIn, ruleNext, allowsOutcome, fitsAt, fromCandidates}
+use Rattle.pruning.specs.Runs.{holds, Awaited, Hope, Ready, Renewed, otherThan}
+use Rattle.places.proofs.BitLaws.{member-lt, member-off, member-kept, and-member, lowest-in}
 use Rattle.places.proofs.SetLaws.{not-gone, member-passes, members-pass}
 use Rattle.places.proofs.LookupLaws.{decode-snoc}
-use Rattle.pruning.proofs.RunLaws.{Step, step-of, runs-empty, none-runs}
+use Rattle.pruning.proofs.RunLaws.{Step, step-of, run-ends, none-runs}
 
 -- ---- what the registers hold
 
@@ -34,21 +34,21 @@ module _ (D : Constraints) where
   unfolding holds
   same-place p q c r e =
       rw (decode-snoc p c, decode-snoc q c)
-      (contents-more (startOf (D .starts)) (D .writes) (decode p) (coded c) r
-      ∙ ap (Option·getD (written (D .writes) r (coded c))) e
-      ∙ sym (contents-more (startOf (D .starts)) (D .writes) (decode q) (coded c) r))
+      (contents-more (startOf (D .starts)) (writesIn (D .facts)) (decode p) (coded c) r
+      ∙ ap (Option·getD (written (writesIn (D .facts)) r (coded c))) e
+      ∙ sym (contents-more (startOf (D .starts)) (writesIn (D .facts)) (decode q) (coded c) r))
 
   -- an aborted place leaves them as they are
   pub aborted-place : (p : List ℕ) (t r : ℕ) → holds D (p ++ ((t * 2 + 0) ∷ [])) r ≡ holds D p r
   unfolding holds written
   aborted-place p t r =
       let b : (t * 2 + 0) % 2 ≡ 0 = omega arith in
-      rw (decode-snoc p (t * 2 + 0)) (contents-more (startOf (D .starts)) (D .writes) (decode p) (coded (t * 2 + 0)) r ∙ (rw b))
+      rw (decode-snoc p (t * 2 + 0)) (contents-more (startOf (D .starts)) (writesIn (D .facts)) (decode p) (coded (t * 2 + 0)) r ∙ (rw b))
 
   -- and where they hold the same the same is legal
   legal-alike : (p q : List ℕ) → ((r : ℕ) → holds D p r ≡ holds D q r) → (t : ℕ) → legalReads D p t ≡ true → legalReads D q t ≡ true
   unfolding legalReads legalAt holds
-  legal-alike p q e t h = all-weaken _ _ (members (getD (D .reads) t 0)) (λ r g. rw (e r) at g) h
+  legal-alike p q e t h = all-weaken _ _ (members (readsAsked (D .facts) (D .asked) t)) (λ r g. rw (e r) at g) h
 
 -- ---- what is needed
 
@@ -69,9 +69,9 @@ none-within set u c few w h =
 -- ---- a place that fits
 
 pub record Fits (D : Constraints) (p : List ℕ) (u t o : ℕ) : Type 0 where
-  pub first : noneIn (getD (D .predecessors) t 0) (members u) ≡ true
+  pub first : noneIn (afterOf (D .facts) t) (members u) ≡ true
   pub legal : legalReads D p t ≡ true
-  pub allowed : allowsOutcome (getD (D .allowed) t 0) o ≡ true
+  pub allowed : allowsOutcome (allowedOf (D .facts) t) o ≡ true
 
 none-allowed : (o : ℕ) → o < 2 → allowsOutcome 3 o ≡ true → ⊥
 unfolding allowsOutcome
@@ -81,10 +81,10 @@ none-allowed (suc (suc o)) l e = omega arith
 
 pub fits-parts : (D : Constraints) (p : List ℕ) (u t o : ℕ) → o < 2 → fitsAt D p (members u) t o ≡ true → Fits D p u t o
 unfolding fitsAt ruleNext
-fits-parts D p u t o two h = go (noneIn (getD (D .predecessors) t 0) (members u)) refl (legalReads D p t) refl h
+fits-parts D p u t o two h = go (noneIn (afterOf (D .facts) t) (members u)) refl (legalReads D p t) refl h
   where
-    go : (b : Bool) → noneIn (getD (D .predecessors) t 0) (members u) ≡ b → (c : Bool) → legalReads D p t ≡ c
-        → allowsOutcome (cond b (cond c (getD (D .allowed) t 0) 3) 3) o ≡ true → Fits D p u t o
+    go : (b : Bool) → noneIn (afterOf (D .facts) t) (members u) ≡ b → (c : Bool) → legalReads D p t ≡ c
+        → allowsOutcome (cond b (cond c (allowedOf (D .facts) t) 3) 3) o ≡ true → Fits D p u t o
     go true e true f g = record { first = e; legal = f; allowed = g }
     go true e false f g = absurd (none-allowed o two g)
     go false e c f g = absurd (none-allowed o two g)
@@ -98,10 +98,6 @@ not-other rule o x two low f h = go (eqb rule o) refl h
     go true e g = ap not (ne-eqb rule x (λ q. f (sym q ∙ eqb-true rule o e)))
     go false e g = ap not (ne-eqb rule x (λ q. omega (arith, eqb-true rule 2 g)))
 
--- ready has all unplaced of s whose store reads are legal after its places
-abbrev pub Knows : Constraints → Search → ℕ → Type 0
-Knows D s ready = Keeps (λ k. legalReads D (placedOf s) k ≡ true) (s .unplaced) ready
-
 module _ (D : Constraints) (s : Search) (need u : ℕ) (p l : List ℕ) (t : ℕ) where
   step : (o : ℕ) → o < 2 → Awaited D s need u p ((t * 2 + o) ∷ l) → Step D p u t o l
   step o two a = step-of D p u t o l two (a .run)
@@ -113,24 +109,25 @@ module _ (D : Constraints) (s : Search) (need u : ℕ) (p l : List ℕ) (t : ℕ
   pub next-unplaced : (o : ℕ) → o < 2 → Awaited D s need u p ((t * 2 + o) ∷ l) → bitAt t (s .unplaced) ≡ 1
   next-unplaced o two a = a .unplaced t (step o two a .isIn)
 
-  pub next-ready : (ready o : ℕ) → o < 2 → Knows D s ready → Awaited D s need u p ((t * 2 + o) ∷ l) → bitAt t ready ≡ 1
+  pub next-ready : (ready o : ℕ) → o < 2 → Ready D s ready → Awaited D s need u p ((t * 2 + o) ∷ l) → bitAt t ready ≡ 1
   next-ready ready o two k a = k .has t (next-unplaced o two a) (legal-alike D p (placedOf s) (a .alike) t (fits o two a .legal))
 
   -- no needed one comes before it, and its outcome is not fixed as the other
-  pub next-may : (o x : ℕ) → o < 2 → x < 2 → (x ≡ o → ⊥) → Awaited D s need u p ((t * 2 + o) ∷ l) → otherThan (D .predecessors) (D .allowed) need t x ≡ true
+  pub next-may : (o x : ℕ) → o < 2 → x < 2 → (x ≡ o → ⊥) → Awaited D s need u p ((t * 2 + o) ∷ l) → otherThan (D .facts) need t x ≡ true
   unfolding otherThan
   next-may o x two low f a =
-      rw (none-within (getD (D .predecessors) t 0) u need (a .few) (a .needed) (fits o two a .first)) (not-other (getD (D .allowed) t 0) o x two low f (fits o two a .allowed))
+      rw (none-within (afterOf (D .facts) t) u need (a .few) (a .needed) (fits o two a .first)) (not-other (allowedOf (D .facts) t) o x two low f (fits o two a .allowed))
 
   -- one that is placed aborted is needed no more, so that the state waits for the rest of the run
-  aborted-next : (ready : ℕ) → Knows D s ready
-      → ((k : ℕ) → bitAt k need ≡ 1 → bitAt k ready ≡ 1 → otherThan (D .predecessors) (D .allowed) need k 1 ≡ false)
+  aborted-next : (ready : ℕ) → Ready D s ready
+      → ((k : ℕ) → bitAt k need ≡ 1 → bitAt k ready ≡ 1 → otherThan (D .facts) need k 1 ≡ false)
       → Awaited D s need u p ((t * 2 + 0) ∷ l) → Awaited D s need (u - 2 ^ t) (p ++ ((t * 2 + 0) ∷ [])) l
   aborted-next ready keeps stuck a =
       record {
         few = omega (arith, a .few);
         alike = λ r. aborted-place D p t r ∙ a .alike r;
         needed = λ k h. member-kept t k u (step 0 (omega arith) a .isIn) (λ e. passed (rw e at h)) (a .needed k h);
+        asked = a .asked;
         unplaced = λ k h. a .unplaced k (member-off t k u (step 0 (omega arith) a .isIn) h);
         run = step 0 (omega arith) a .rest;
       }
@@ -148,6 +145,7 @@ module _ (D : Constraints) (s : Search) (need u : ℕ) (p l : List ℕ) (t : ℕ
         needed = λ k h.
             let b = and-member k need (next .unplaced) h in
             member-kept t k u (step 1 (omega arith) a .isIn) (not-gone t k (s .unplaced) (next-unplaced 1 (omega arith) a) (rw (x .rest) at (b .1))) (a .needed k (b .0));
+        asked = λ k h. a .asked k (and-member k need (next .unplaced) h .0);
         unplaced = λ k h. rw (x .rest)
             (member-kept t k (s .unplaced) (next-unplaced 1 (omega arith) a) (not-gone t k u (step 1 (omega arith) a .isIn) h) (a .unplaced k (member-off t k u (step 1 (omega arith) a .isIn) h)));
         run = step 1 (omega arith) a .rest;
@@ -159,15 +157,10 @@ module _ (D : Constraints) (s : Search) (need u : ℕ) (p l : List ℕ) (t : ℕ
 abbrev pub Missed : Constraints → Search → ℕ → ℕ → Type 0
 Missed D s need t = (u : ℕ) (p l : List ℕ) → Awaited D s need u p ((t * 2 + 1) ∷ l) → ⊥
 
--- the tables say what is ready
-pub ready-by : (o b a x w v : List ℕ) (s : Search) (ready : ℕ) → Ready o x w v s ready → Knows (constraints o b a x w v) s ready
-unfolding legalReads
-ready-by o b a x w v s ready k = k
-
--- and what is when one more has committed
-pub ready-on : (o x w v : List ℕ) (s next : Search) (t ready after : ℕ) → Placeable s t → Extends s t 1 next → Ready o x w v s ready
-    → Keeps (Renewed (legalFor o x w v) (placedOf next) t ready) (next .unplaced) after → Ready o x w v next after
-ready-on o x w v s next t ready after r e known k =
+-- what is ready when one more has committed
+pub ready-on : (D : Constraints) (s next : Search) (t ready after : ℕ) → Placeable s t → Extends s t 1 next → Ready D s ready
+    → Keeps (Renewed (legalReads D) (placedOf next) t ready) (next .unplaced) after → Ready D next after
+ready-on D s next t ready after r e known k =
     record {
       within = k .within;
       has = λ j m h. k .has j m (record { before = placedOf s; grown = e .places; was = λ g. known .has j (member-off t j (s .unplaced) (r .isIn) (rw (e .rest) at m)) g; is = h });
@@ -176,16 +169,17 @@ ready-on o x w v s next t ready after r e known k =
 -- fewer are needed
 pub awaited-less : (D : Constraints) (s : Search) (need rest u : ℕ) (p l : List ℕ) → ((k : ℕ) → bitAt k rest ≡ 1 → bitAt k need ≡ 1)
     → Awaited D s need u p l → Awaited D s rest u p l
-awaited-less D s need rest u p l w a = record { few = a .few; alike = a .alike; needed = λ k h. a .needed k (w k h); unplaced = a .unplaced; run = a .run }
+awaited-less D s need rest u p l w a = record { few = a .few; alike = a .alike; needed = λ k h. a .needed k (w k h); asked = λ k h. a .asked k (w k h); unplaced = a .unplaced; run = a .run }
 
 module _ (D : Constraints) (s : Search) (need ready : ℕ) (low : need < 2 ^ 64) (more : need ≡ 0 → ⊥)
-    (keeps : Knows D s ready)
-    (stuck : (k : ℕ) → bitAt k need ≡ 1 → bitAt k ready ≡ 1 → otherThan (D .predecessors) (D .allowed) need k 1 ≡ false)
+    (keeps : Ready D s ready)
+    (stuck : (k : ℕ) → bitAt k need ≡ 1 → bitAt k ready ≡ 1 → otherThan (D .facts) need k 1 ≡ false)
     (missed : (t : ℕ) → Missed D s need t) where
   -- where something is needed and no commit begins a run, there is none
   pub no-run : (l : List ℕ) (u : ℕ) (p : List ℕ) → Awaited D s need u p l → ⊥
   no-run [] u p a =
-      no-member (trailingZeros 64 need) u (runs-empty D p u (a .run)) (a .needed (trailingZeros 64 need) (lowest-in 64 need low (omega arith)))
+      let isIn = lowest-in 64 need low (omega arith) in
+      run-ends D p u (trailingZeros 64 need) (a .few) (a .run) (a .needed (trailingZeros 64 need) isIn) (a .asked (trailingZeros 64 need) isIn)
   no-run (c ∷ l) u p a = go (c / 2) (c % 2) (omega arith) (omega arith) (no-run l)
     where
       go : (t o : ℕ) → o < 2 → c ≡ t * 2 + o → ((v : ℕ) (q : List ℕ) → Awaited D s need v q l → ⊥) → ⊥
@@ -193,10 +187,20 @@ module _ (D : Constraints) (s : Search) (need ready : ℕ) (low : need < 2 ^ 64)
       go t (suc zero) two e ih = missed t u p l (rw e at a)
       go t (suc (suc o)) two e ih = omega arith
 
+-- what is needed is unplaced, and must come before the end
+pub record Needs (D : Constraints) (s : Search) (need : ℕ) : Type 0 where
+  pub unplaced : (k : ℕ) → bitAt k need ≡ 1 → bitAt k (s .unplaced) ≡ 1
+  pub asked : (k : ℕ) → bitAt k need ≡ 1 → bitAt k (afterOf (D .facts) 10) ≡ 1
+
+pub needs-of : (D : Constraints) (s : Search) (set need : ℕ) → need ≡ bitAnd set (afterOf (D .facts) 10) → ((k : ℕ) → bitAt k set ≡ 1 → bitAt k (s .unplaced) ≡ 1)
+    → Needs D s need
+needs-of D s set need e f =
+    record { unplaced = λ k h. f k (and-member k set (afterOf (D .facts) 10) (rw e at h) .0); asked = λ k h. and-member k set (afterOf (D .facts) 10) (rw e at h) .1 }
+
 -- where it is certain that no run is waited for, nothing completes the state
-pub hopeless : (D : Constraints) (s : Search) (c : ℕ) (r : Bool) → Sound s → c ≡ s .unplaced → Hope D s c r → r ≡ false
+pub hopeless : (D : Constraints) (s : Search) (c need : ℕ) (r : Bool) → Sound s → c ≡ s .unplaced → Needs D s need → Hope D s need r → r ≡ false
     → fromCandidates D (ones (s .unplaced)) (placedOf s) (members (s .unplaced)) (members c) ≡ none
-hopeless D s c r h q f e =
+hopeless D s c need r h q n f e =
     rw q
     (none-runs D (ones (s .unplaced)) (placedOf s) (s .unplaced) (h .few) refl (λ l g.
-    clash (f (s .unplaced) (placedOf s) l (record { few = h .few; alike = λ k. refl; needed = λ k b. rw q at b; unplaced = λ k b. b; run = g })) e))
+    clash (f (s .unplaced) (placedOf s) l (record { few = h .few; alike = λ k. refl; needed = n .unplaced; asked = n .asked; unplaced = λ k b. b; run = g })) e))

@@ -1,13 +1,14 @@
 -- Registers that nobody writes hold what they started with, whatever places are filled: reads of them are right everywhere or nowhere.
 -- Assumes nothing.
-use mathlib.Core.Path.{_≡_, refl, sym, _∙_}
+use mathlib.Core.Path.{_≡_, refl, sym, ap, _∙_}
 use Prim.Native.Nat.{ℕ, zero, suc, _+_, _*_, _-_, _/_, _%_, _^_, _≤_, _<_}
 use native.Mathlib.Omega.{arith}
 use mathlib.Core.List.{List, [], _∷_, _++_}
 use mathlib.Core.Bool.{Bool, true, false, cond}
-use lib.ListN.{length, take, getD, set, length-set, length-append, List·getD-append}
-use lib.Seq.{getD-append-seam, getD-set-same, getD-set-other}
-use lib.Bits.{bitAnd, bitXor}
+use mathlib.Core.Option.{some}
+use lib.ListN.{length, take, getD, length-append, List·getD-append}
+use lib.Seq.{getD-append-seam}
+use lib.Bits.{bitXor}
 use lib.Dec.{eqb, ltb}
 use borrow.Author.Tests.{eqb-true, eqb-false, ltb-true, lt-ltb}
 use Rattle.lists.specs.Lists.{_and_, all}
@@ -15,55 +16,69 @@ use Rattle.log.specs.Starts.{startOf}
 use Rattle.lists.proofs.ListLaws.{and-l, and-r, and-i, both-ways}
 use Rattle.opacity.specs.Justification.{contents}
 use Rattle.places.specs.Bits.{bitAt, members}
+use Rattle.places.specs.Facts.{fact, readsAsked, writtenOf}
 use Rattle.places.specs.Places.{decode, writesIn, writeOf}
-use Rattle.places.specs.Tree.{Constraints, Completion, constraints, remove, upFrom, legalAt, legalReads, ruleNext, fitsAt, firstOf, tryOne, tryBoth, fromCandidates, firstCompletion}
-use Rattle.pruning.specs.Runs.{legalFor, Written, WrittenByAny, NoOther, Codes, Asked}
-use Rattle.places.proofs.BitLaws.{member-lt, and-member, member-and, member-xor}
-use Rattle.places.proofs.SetLaws.{member-passes, members-pass, fewer-pass}
+use Rattle.places.specs.Tree.{Constraints, Completion, asking, constraints, remove, upFrom, legalAt, legalReads, ruleNext, fitsAt, endsAt, firstOf, tryOne, tryBoth, fromCandidates, firstCompletion}
+use Rattle.pruning.specs.Runs.{Written, WrittenByAny, NoOther, Codes, Asked}
+use Rattle.places.proofs.BitLaws.{member-lt, and-member, member-and, member-xor, bit-all}
+use Rattle.places.proofs.SetLaws.{member-passes, members-pass}
 use Rattle.places.proofs.LookupLaws.{aborted-wrote, committed-wrote, all-after, before-any, passed-over}
 
 -- what the masks say of the table
-pub no-other : (v m : List ℕ) (any : ℕ) → Written v m → WrittenByAny m any → NoOther v any
-no-other v m any f g = record { none = λ t r low l out. go t r low l out (eqb (getD v (t * 32 + r) 0) 0) refl }
+pub no-other : (F : List (List ℕ)) (m : List ℕ) (any : ℕ) → Written F m → WrittenByAny m any → NoOther F any
+no-other F m any f g = record { none = λ t r low l out. go t r low l out (eqb (writtenOf F t r) 0) refl }
   where
-    go : (t r : ℕ) → t < 10 → r < 32 → (bitAt r any ≡ 1 → ⊥) → (b : Bool) → eqb (getD v (t * 32 + r) 0) 0 ≡ b → getD v (t * 32 + r) 0 ≡ 0
+    go : (t r : ℕ) → t < 10 → r < 32 → (bitAt r any ≡ 1 → ⊥) → (b : Bool) → eqb (writtenOf F t r) 0 ≡ b → writtenOf F t r ≡ 0
     go t r low l out true e = eqb-true _ _ e
     go t r low l out false e = absurd (out (g .has t r low (f .at t low .has r l (eqb-false _ _ e))))
 
-module _ (o w v : List ℕ) (any : ℕ) (other : NoOther v any) (r : ℕ) (low : r < 32) (out : bitAt r any ≡ 1 → ⊥) where
-  nothing-left : (code : ℕ) → code < 20 → writeOf v r code ≡ 0
+module _ (o : List ℕ) (F : List (List ℕ)) (any : ℕ) (other : NoOther F any) (r : ℕ) (low : r < 32) (out : bitAt r any ≡ 1 → ⊥) where
+  nothing-left : (code : ℕ) → code < 20 → writeOf F r code ≡ 0
   nothing-left code l = go (eqb (code % 2) 0) refl
     where
-      go : (b : Bool) → eqb (code % 2) 0 ≡ b → writeOf v r code ≡ 0
-      go true e = aborted-wrote v r code (eqb-true _ _ e)
-      go false e = committed-wrote v r code low (eqb-false _ _ e) ∙ other .none (code / 2) r (omega arith) low out
+      go : (b : Bool) → eqb (code % 2) 0 ≡ b → writeOf F r code ≡ 0
+      go true e = aborted-wrote F r code (eqb-true _ _ e)
+      go false e = committed-wrote F r code (eqb-false _ _ e) ∙ other .none (code / 2) r (omega arith) low out
 
-  still-start : (p : List ℕ) → Codes p → (n : ℕ) → n ≤ length p → contents (startOf o) (writesIn v) (decode (take n p)) r ≡ startOf o r
-  still-start p g zero l = before-any (startOf o) v p r
+  still-start : (p : List ℕ) → Codes p → (n : ℕ) → n ≤ length p → contents (startOf o) (writesIn F) (decode (take n p)) r ≡ startOf o r
+  still-start p g zero l = before-any (startOf o) F p r
   still-start p g (suc n) l =
       let e : suc n - 1 ≡ n = omega arith in
-      passed-over (startOf o) v p r (suc n) 0 (omega arith) l (sym (nothing-left _ (g (suc n - 1) (omega arith)))) refl ∙ (rw e (still-start p g n (omega arith)))
+      passed-over (startOf o) F p r (suc n) 0 (omega arith) l (sym (nothing-left _ (g (suc n - 1) (omega arith)))) refl ∙ (rw e (still-start p g n (omega arith)))
 
-  holds-start : (p : List ℕ) → Codes p → contents (startOf o) (writesIn v) (decode p) r ≡ startOf o r
-  holds-start p g = all-after (startOf o) v p r (length p) refl ∙ still-start p g (length p) (omega arith)
+  holds-start : (p : List ℕ) → Codes p → contents (startOf o) (writesIn F) (decode p) r ≡ startOf o r
+  holds-start p g = all-after (startOf o) F p r (length p) refl ∙ still-start p g (length p) (omega arith)
 
   -- a read of it that is legal before any places is legal after these
-  pub legal-after : (t : ℕ) (p : List ℕ) → Codes p → legalAt o w (writesIn v) [] t r ≡ true → legalAt o w (writesIn v) p t r ≡ true
+  pub legal-after : (t : ℕ) (p : List ℕ) → Codes p → legalAt o F [] t r ≡ true → legalAt o F p t r ≡ true
   unfolding legalAt
-  legal-after t p g h = let e : contents (startOf o) (writesIn v) (decode p) r ≡ contents (startOf o) (writesIn v) (decode []) r = holds-start p g ∙ sym (holds-start [] (λ i l. absurd (omega arith))) in rw e h
+  legal-after t p g h =
+      let e : contents (startOf o) (writesIn F) (decode p) r ≡ contents (startOf o) (writesIn F) (decode []) r = holds-start p g ∙ sym (holds-start [] (λ i l. absurd (omega arith))) in
+      rw e h
 
--- so that it need not be asked about
-module _ (o w v : List ℕ) (any t registers : ℕ) (other : NoOther v any) (low : registers < 2 ^ 32) where
-  pub asked-same : (p : List ℕ) → Codes p → all (legalAt o w (writesIn v) [] t) (members (bitXor registers (bitAnd registers any))) ≡ true
-      → all (legalAt o w (writesIn v) p t) (members (bitAnd registers any)) ≡ all (legalAt o w (writesIn v) p t) (members registers)
-  asked-same p c h = both-ways _ _ (λ g. members-pass _ registers (λ k b. go k b (member-lt k registers 32 b low) g (eqb (bitAt k any) 1) refl)) (fewer-pass _ registers any low)
+-- to ask t about these registers is to ask it about all
+abbrev pub SameReads : List ℕ → List (List ℕ) → ℕ → ℕ → Type 0
+SameReads o F asked t = (p : List ℕ) → Codes p → legalReads (asking o F asked) p t ≡ legalReads (constraints o F) p t
+
+-- so that registers that nobody writes need not be asked about
+module _ (o : List ℕ) (F : List (List ℕ)) (any t : ℕ) (other : NoOther F any) (few : any < 2 ^ 32) where
+  pub asked-same : legalReads (asking o F (bitXor 4294967295 any)) [] t ≡ true → SameReads o F any t
+  unfolding legalReads
+  asked-same h p c =
+      both-ways _ _
+      (λ g. members-pass _ (readsAsked F 4294967295 t) (λ k b. let m = and-member k (fact F t 2) 4294967295 b in go k (m .0) (member-lt k 4294967295 32 (m .1) (omega arith)) g (eqb (bitAt k any) 1) refl))
+      (λ g. members-pass _ (readsAsked F any t) (λ k b.
+      let m = and-member k (fact F t 2) any b in
+      let l = member-lt k any 32 (m .1) few in
+      member-passes _ (readsAsked F 4294967295 t) g k (omega arith) (member-and k (fact F t 2) 4294967295 (m .0) (bit-all k 32 l))))
     where
-      go : (k : ℕ) → bitAt k registers ≡ 1 → k < 32 → all (legalAt o w (writesIn v) p t) (members (bitAnd registers any)) ≡ true
-          → (d : Bool) → eqb (bitAt k any) 1 ≡ d → legalAt o w (writesIn v) p t k ≡ true
-      go k b l g true e = member-passes _ (bitAnd registers any) g k (omega arith) (member-and k registers any b (eqb-true _ _ e))
+      go : (k : ℕ) → bitAt k (fact F t 2) ≡ 1 → k < 32 → all (legalAt o F p t) (members (readsAsked F any t)) ≡ true
+          → (d : Bool) → eqb (bitAt k any) 1 ≡ d → legalAt o F p t k ≡ true
+      go k b l g true e = member-passes _ (readsAsked F any t) g k (omega arith) (member-and k (fact F t 2) any b (eqb-true _ _ e))
       go k b l g false e =
-          legal-after o w v any other k l (eqb-false _ _ e) t p c
-          (member-passes _ (bitXor registers (bitAnd registers any)) h k (omega arith) (member-xor k registers (bitAnd registers any) b (λ m. eqb-false _ _ e (and-member k registers any m .1))))
+          legal-after o F any other k l (eqb-false _ _ e) t p c
+          (member-passes _ (readsAsked F (bitXor 4294967295 any) t) h k (omega arith)
+          (member-and k (fact F t 2) (bitXor 4294967295 any) b (member-xor k 4294967295 any (bit-all k 32 l) (eqb-false _ _ e))))
 
 -- ---- the same tree
 
@@ -100,7 +115,8 @@ unfolding all _and_ upFrom
 low-up zero i l = refl
 low-up (suc n) i l = and-i (ltb i 10) (all (λ (y : ℕ). ltb y 10) (upFrom (suc i) n)) (lt-ltb i 10 (omega arith)) (low-up n (suc i) (omega arith))
 
-module _ (D E : Constraints) (same : (p u : List ℕ) (t z : ℕ) → Codes p → t < 10 → fitsAt D p u t z ≡ fitsAt E p u t z) where
+module _ (D E : Constraints) (same : (p u : List ℕ) (t z : ℕ) → Codes p → t < 10 → fitsAt D p u t z ≡ fitsAt E p u t z)
+    (same-end : (p u : List ℕ) → Codes p → endsAt D p u ≡ endsAt E p u) where
   same-first : (f g : ℕ → Completion) → ((t : ℕ) → t < 10 → f t ≡ g t) → (c : List ℕ) → Low c → firstOf f c ≡ firstOf g c
   unfolding firstOf all _and_
   same-first f g e [] h = refl
@@ -111,45 +127,23 @@ module _ (D E : Constraints) (same : (p u : List ℕ) (t z : ℕ) → Codes p �
 
   same-tree : (n : ℕ) (p u c : List ℕ) → Codes p → Low u → Low c → fromCandidates D n p u c ≡ fromCandidates E n p u c
   unfolding fromCandidates tryBoth tryOne
-  same-tree zero p u c g h k = refl
-  same-tree (suc n) p u c g h k = same-first _ _ (λ t low.
+  same-tree zero p u c g h k = rw (same-end p u g)
+  same-tree (suc n) p u c g h k =
+      rw (same-end p u g)
+      (ap (λ (x : Completion). cond (endsAt E p u) (some p) x) (same-first _ _ (λ t low.
       rw (
         same p u t 0 g low,
         same p u t 1 g low,
         same-tree n (p ++ ((t * 2 + 0) ∷ [])) (remove t u) (remove t u) (codes-more p t 0 g low (omega arith)) (low-remove t u h) (low-remove t u h),
         same-tree n (p ++ ((t * 2 + 1) ∷ [])) (remove t u) (remove t u) (codes-more p t 1 g low (omega arith)) (low-remove t u h) (low-remove t u h),
-      )) c k
+      )) c k))
 
   pub same-completion : (n : ℕ) → n ≤ 10 → firstCompletion D n ≡ firstCompletion E n
   unfolding firstCompletion
   same-completion n l = same-tree n [] (upFrom 0 n) (upFrom 0 n) (λ i m. absurd (omega arith)) (low-up n 0 (omega arith)) (low-up n 0 (omega arith))
 
 -- to ask about fewer registers is to search the same tree
-module _ (o b a x y w v : List ℕ) (f : Asked o x w v y) where
-  legal-same : (p : List ℕ) (t : ℕ) → Codes p → t < 10 → legalReads (constraints o b a y w v) p t ≡ legalReads (constraints o b a x w v) p t
-  unfolding legalReads
-  legal-same p t g low = f .same t p low g
-
-  pub asked-completion : (n : ℕ) → n ≤ 10 → firstCompletion (constraints o b a y w v) n ≡ firstCompletion (constraints o b a x w v) n
-  unfolding fitsAt ruleNext
-  asked-completion n l = same-completion (constraints o b a y w v) (constraints o b a x w v) (λ p u t z g low. rw (legal-same p t g low)) n l
-
--- ---- the table of the registers asked about
-
--- it is right below t
-pub record AskedBelow (o x w v y : List ℕ) (t : ℕ) : Type 0 where
-  pub long : length y ≡ 10
-  pub same : (k : ℕ) (p : List ℕ) → k < t → Codes p → legalFor o y w v p k ≡ legalFor o x w v p k
-
-pub asked-on : (o x w v y : List ℕ) (t n : ℕ) → t < 10 → AskedBelow o x w v y t
-    → ((p : List ℕ) → Codes p → all (legalAt o w (writesIn v) p t) (members n) ≡ legalFor o x w v p t) → AskedBelow o x w v (set y t n) (t + 1)
-asked-on o x w v y t n low f e = record { long = length-set y t n ∙ f .long; same = λ k p l g. go k p l g (eqb k t) refl }
-  where
-    go : (k : ℕ) (p : List ℕ) → k < t + 1 → Codes p → (b : Bool) → eqb k t ≡ b → legalFor o (set y t n) w v p k ≡ legalFor o x w v p k
-    go k p l g true q = let s : k ≡ t = eqb-true _ _ q in rw (s, getD-set-same y t n 0 (omega (arith, f .long))) (e p g)
-    go k p l g false q =
-        let other : k ≡ t → ⊥ = eqb-false _ _ q in
-        rw (getD-set-other y t k n 0 other) (f .same k p (omega arith) g)
-
-pub asked-all : (o x w v y : List ℕ) → AskedBelow o x w v y 10 → Asked o x w v y
-asked-all o x w v y f = record { same = λ t p l g. f .same t p l g }
+pub asked-completion : (o : List ℕ) (F : List (List ℕ)) (m : ℕ) → Asked o F m → (n : ℕ) → n ≤ 10 → firstCompletion (asking o F m) n ≡ firstCompletion (constraints o F) n
+unfolding fitsAt ruleNext endsAt
+asked-completion o F m f n l =
+    same-completion (asking o F m) (constraints o F) (λ p u t z g low. rw (f .same t p (omega arith) g)) (λ p u g. rw (f .same 10 p (omega arith) g)) n l

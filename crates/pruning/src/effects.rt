@@ -7,19 +7,21 @@ ghost use lib.Bits.{bitOr};
 ghost use lib.Dec.{eqb};
 ghost use Rattle.lists.specs.Lists.{all};
 ghost use Rattle.places.specs.Bits.{bitAt, members};
-ghost use Rattle.places.specs.Places.{writesIn};
 ghost use Rattle.places.specs.State.{Sound};
-ghost use Rattle.places.specs.Tree.{legalAt};
+ghost use Rattle.places.specs.Tree.{asking, legalAt};
 ghost use Rattle.pruning.specs.Runs.{Effect, Effects, Writes, Written, NoSource, Lost, Orphan, Orphaned};
+use places::facts::ABORTED;
+use places::facts::ALLOWED;
+use places::facts::Facts;
+use places::facts::REGISTERS;
+use places::facts::REQUIRED;
+use places::facts::TRANSACTIONS;
+use places::facts::WRITTEN;
+use places::facts::reads_asked;
+use places::facts::wide;
 use places::lookup::legal_at;
-use places::lookup::value_of;
 use places::sets;
-use places::state::ABORTED;
 use places::state::Search;
-
-const REGISTERS: usize = 32;
-
-const TRANSACTIONS: usize = 10;
 
 // What a commit does to the store reads of a transaction is one number. Below this stand the registers that it overwrites with another
 // value than was read, one bit each; this itself stands in it where a value that was read is written. So 0 is nothing at all.
@@ -37,51 +39,44 @@ fn noted(set: u32, r: usize, entry: u64) -> u32
 }
 
 // The registers that t writes.
-fn registers_of(written: &[u64; 320], t: usize) -> u32
+fn registers_of(facts: &[Facts; 11], t: usize) -> u32
     requires { ⌜ t < 10 ⌝ }
-    ensures { λ r. ⌜ Writes (now (written .entry)) t r ⌝ }
+    ensures { λ r. ⌜ Writes (now (facts .entry)) t r ⌝ }
 {
     let mut registers = 0u32;
     let mut r: usize = 0;
     while r < REGISTERS {
-        registers = noted(registers, r, written[t * REGISTERS + r]);
+        registers = noted(registers, r, facts[t][WRITTEN + r]);
         r += 1;
     }
     registers
 }
 
 // The registers that each transaction writes.
-pub fn registers_written(written: &[u64; 320]) -> [u32; 10]
-    ensures { λ r. ⌜ Written (now (written .entry)) r ⌝ }
+pub fn registers_written(facts: &[Facts; 11]) -> [u32; 10]
+    ensures { λ r. ⌜ Written (now (facts .entry)) r ⌝ }
 {
     let mut registers = [0u32; 10];
     let mut t: usize = 0;
     while t < TRANSACTIONS {
-        registers[t] = registers_of(written, t);
+        registers[t] = registers_of(facts, t);
         t += 1;
     }
     registers
 }
 
 // What the commit of x does to the store read of register by t.
-fn effect_at(
-    required: &[u64; 320],
-    written: &[u64; 320],
-    x: usize,
-    t: usize,
-    register: usize,
-) -> u64
+fn effect_at(facts: &[Facts; 11], x: usize, t: usize, register: usize) -> u64
     requires { ⌜ x < 10 ⌝ }
     requires { ⌜ t < 10 ⌝ }
     requires { ⌜ register < 32 ⌝ }
-    ensures { λ r. ⌜ Effect
-        (λ (o p : List ℕ). legalAt o (now (required .entry)) (writesIn (now (written .entry))) p t register) x r ⌝ }
+    ensures { λ r. ⌜ Effect (λ (o p : List ℕ). legalAt o (now (facts .entry)) p t register) x r ⌝ }
 {
-    let w = written[x * REGISTERS + register];
+    let w = facts[x][WRITTEN + register];
     if w == 0 {
         return 0;
     }
-    let v = required[t * REGISTERS + register];
+    let v = facts[t][REQUIRED + register];
     if v == 0 {
         return 0;
     }
@@ -92,91 +87,64 @@ fn effect_at(
 }
 
 // What it does to the store reads of t, which are those of these registers, where x writes those of `writes`.
-fn effect(
-    required: &[u64; 320],
-    written: &[u64; 320],
-    x: usize,
-    t: usize,
-    registers: u32,
-    writes: u32,
-) -> u64
+fn effect(facts: &[Facts; 11], x: usize, t: usize, registers: u32, writes: u32) -> u64
     requires { ⌜ x < 10 ⌝ }
     requires { ⌜ t < 10 ⌝ }
-    requires { ⌜ Writes (now written) x writes ⌝ }
-    ensures { λ r. ⌜ Effect
-        (λ (o p : List ℕ). all (legalAt o (now (required .entry)) (writesIn (now (written .entry))) p t) (members registers)) x r ⌝ }
+    requires { ⌜ Writes (now facts) x writes ⌝ }
+    ensures { λ r. ⌜ Effect (λ (o p : List ℕ). all (legalAt o (now (facts .entry)) p t) (members registers)) x r ⌝ }
 {
     let mut done = 0u64;
-    let mut left = value_of(registers & writes);
+    let mut left = wide(registers & writes);
     while left != 0 {
         let r = sets::lowest(left);
-        done = done | effect_at(required, written, x, t, r);
+        done = done | effect_at(facts, x, t, r);
         left = sets::without(left, r);
     }
     done
 }
 
 // What each commit does to each transaction: that of x to t stands at 10 * x + t.
-pub fn effects_among(
-    reads: &[u32; 10],
-    required: &[u64; 320],
-    written: &[u64; 320],
-    writes: &[u32; 10],
-) -> [u64; 100]
-    requires { ⌜ Written (now written) (now writes) ⌝ }
-    ensures { λ r. ⌜ Effects (now (reads .entry)) (now (required .entry)) (now (written .entry)) r ⌝ }
+pub fn effects_among(facts: &[Facts; 11], asked: u32, writes: &[u32; 10]) -> [u64; 100]
+    requires { ⌜ Written (now facts) (now writes) ⌝ }
+    ensures { λ r. ⌜ Effects (now (facts .entry)) asked r ⌝ }
 {
     let mut effects = [HELPED; 100];
     let mut i: usize = 0;
     while i < 100 {
         let x = i / TRANSACTIONS;
         let t = i % TRANSACTIONS;
-        effects[i] = effect(required, written, x, t, reads[t], writes[x]);
+        let registers = reads_asked(facts, t, asked);
+        effects[i] = effect(facts, x, t, registers, writes[x]);
         i += 1;
     }
     effects
 }
 
 // Could w, which is not t itself, write the value to register?
-fn source(
-    allowed: &[u8; 10],
-    written: &[u64; 320],
-    w: usize,
-    t: usize,
-    register: usize,
-    value: u64,
-) -> bool
+fn source(facts: &[Facts; 11], w: usize, t: usize, register: usize, value: u64) -> bool
     requires { ⌜ w < 10 ⌝ }
     requires { ⌜ register < 32 ⌝ }
-    ensures { λ r. ⌜ (r ≡ false → NoSource (now (allowed .entry)) (now (written .entry)) t register value w) ⌝ }
+    ensures { λ r. ⌜ (r ≡ false → NoSource (now (facts .entry)) t register value w) ⌝ }
 {
     if w == t {
         return false;
     }
-    if allowed[w] == ABORTED {
+    if facts[w][ALLOWED] == ABORTED {
         return false;
     }
-    written[w * REGISTERS + register] == value
+    facts[w][WRITTEN + register] == value
 }
 
 // Could one of the set?
-fn sourced(
-    allowed: &[u8; 10],
-    written: &[u64; 320],
-    set: u64,
-    t: usize,
-    register: usize,
-    value: u64,
-) -> bool
+fn sourced(facts: &[Facts; 11], set: u64, t: usize, register: usize, value: u64) -> bool
     requires { ⌜ set < 1024 ⌝ }
     requires { ⌜ register < 32 ⌝ }
-    ensures { λ r. ⌜ (r ≡ false → (k : ℕ) → bitAt k set ≡ 1
-        → NoSource (now (allowed .entry)) (now (written .entry)) t register value k) ⌝ }
+    ensures { λ r. ⌜ (r ≡ false → (k : ℕ) → bitAt k set ≡ 1 → NoSource (now (facts .entry)) t register value k) ⌝ }
 {
     let mut left = set;
     while left != 0 {
         let w = sets::lowest(left);
-        if source(allowed, written, w, t, register, value) {
+        if source(facts, w, t, register, value) {
             return true;
         }
         left = sets::without(left, w);
@@ -192,47 +160,29 @@ fn overwritten(effect: u64) -> u32
 }
 
 // Is the store read of register by t not legal after the places filled, with nobody unplaced who could make it so?
-fn orphan_at(
-    starts: &[u32; 32],
-    allowed: &[u8; 10],
-    required: &[u64; 320],
-    written: &[u64; 320],
-    s: Search,
-    t: usize,
-    register: usize,
-) -> bool
+fn orphan_at(starts: &[u32; 32], facts: &[Facts; 11], s: Search, t: usize, register: usize) -> bool
     requires { ⌜ Sound s ⌝ }
     requires { ⌜ t < 10 ⌝ }
     requires { ⌜ register < 32 ⌝ }
-    ensures { λ r. ⌜ (r ≡ true → Lost
-        (now (starts .entry)) (now (allowed .entry)) (now (required .entry)) (now (written .entry)) s t register) ⌝ }
+    ensures { λ r. ⌜ (r ≡ true → Lost (now (starts .entry)) (now (facts .entry)) s t register) ⌝ }
 {
-    if legal_at(starts, required, written, s.placed, s.filled, t, register) {
+    if legal_at(starts, facts, s.placed, s.filled, t, register) {
         return false;
     }
-    let value = required[t * REGISTERS + register];
-    !sourced(allowed, written, s.unplaced, t, register, value)
+    let value = facts[t][REQUIRED + register];
+    !sourced(facts, s.unplaced, t, register, value)
 }
 
 // Is one of the store reads of t from these registers?
-fn orphan(
-    starts: &[u32; 32],
-    allowed: &[u8; 10],
-    required: &[u64; 320],
-    written: &[u64; 320],
-    s: Search,
-    t: usize,
-    registers: u32,
-) -> bool
+fn orphan(starts: &[u32; 32], facts: &[Facts; 11], s: Search, t: usize, registers: u32) -> bool
     requires { ⌜ Sound s ⌝ }
     requires { ⌜ t < 10 ⌝ }
-    ensures { λ r. ⌜ (r ≡ true → Orphan
-        (now (starts .entry)) (now (allowed .entry)) (now (required .entry)) (now (written .entry)) s t registers) ⌝ }
+    ensures { λ r. ⌜ (r ≡ true → Orphan (now (starts .entry)) (now (facts .entry)) s t registers) ⌝ }
 {
-    let mut left = value_of(registers);
+    let mut left = wide(registers);
     while left != 0 {
         let r = sets::lowest(left);
-        if orphan_at(starts, allowed, required, written, s, t, r) {
+        if orphan_at(starts, facts, s, t, r) {
             return true;
         }
         left = sets::without(left, r);
@@ -243,11 +193,9 @@ fn orphan(
 // Is one of a transaction that is needed? Of each those registers are asked about that the commit of x overwrites.
 pub fn orphaned(
     starts: &[u32; 32],
-    allowed: &[u8; 10],
-    reads: &[u32; 10],
-    required: &[u64; 320],
-    written: &[u64; 320],
+    facts: &[Facts; 11],
     effects: &[u64; 100],
+    asked: u32,
     s: Search,
     need: u64,
     x: usize,
@@ -255,8 +203,7 @@ pub fn orphaned(
     requires { ⌜ Sound s ⌝ }
     requires { ⌜ need < 1024 ⌝ }
     requires { ⌜ x < 10 ⌝ }
-    ensures { λ r. ⌜ (r ≡ true → Orphaned
-        (now (starts .entry)) (now (allowed .entry)) (now (reads .entry)) (now (required .entry)) (now (written .entry)) s need) ⌝ }
+    ensures { λ r. ⌜ (r ≡ true → Orphaned (asking (now (starts .entry)) (now (facts .entry)) asked) s need) ⌝ }
 {
     let mut left = need;
     while left != 0 {
@@ -264,12 +211,10 @@ pub fn orphaned(
         let registers = overwritten(effects[x * TRANSACTIONS + t]);
         if orphan(
             starts,
-            allowed,
-            required,
-            written,
+            facts,
             s,
             t,
-            reads[t] & registers,
+            reads_asked(facts, t, asked & registers),
         ) {
             return true;
         }

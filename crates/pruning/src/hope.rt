@@ -5,17 +5,24 @@ ghost use mathlib.Core.Path.{_≡_};
 ghost use mathlib.Core.Bool.{true, false, cond};
 ghost use mathlib.Core.Option.{none};
 ghost use Prim.Native.Nat.{_-_, _^_, _<_};
+ghost use lib.Bits.{bitAnd};
 ghost use Rattle.places.specs.Bits.{bitAt};
+ghost use Rattle.places.specs.Facts.{afterOf};
 ghost use Rattle.places.specs.State.{placedOf, Sound, Placeable, Keeps};
-ghost use Rattle.places.specs.Tree.{constraints};
+ghost use Rattle.places.specs.Tree.{asking, legalReads};
 ghost use Rattle.places.specs.Choice.{among};
-ghost use Rattle.pruning.specs.Runs.{Hope, HopeBy, legalFor, Ready, Renewed, Stays, Effects, Orphaned, otherThan, Settled};
+ghost use Rattle.pruning.specs.Runs.{Hope, HopeBy, Ready, Renewed, Stays, Effects, Orphaned, otherThan, Settled};
 use crate::effects::HELPED;
 use crate::effects::orphaned;
-use places::lookup::legal;
+use places::facts::ABORTED;
+use places::facts::AFTER;
+use places::facts::ALLOWED;
+use places::facts::COMMITTED;
+use places::facts::END;
+use places::facts::Facts;
+use places::facts::TRANSACTIONS;
+use places::lookup::legal_reads;
 use places::sets;
-use places::state::ABORTED;
-use places::state::COMMITTED;
 use places::state::Search;
 use places::state::code_at;
 
@@ -25,10 +32,8 @@ pub const FEW: usize = 5;
 // A set of the lowest four is below this, and needs no counting.
 const LOWEST_FOUR: u64 = 16;
 
-// All registers.
-const ALL: u64 = 4294967295;
-
-const TRANSACTIONS: usize = 10;
+// The effect of one that overwrites all registers.
+const OVERWRITES_ALL: u64 = 4294967295;
 
 // The set, and t in it only if it passes.
 fn kept(set: u64, t: usize, passes: bool) -> u64
@@ -42,22 +47,15 @@ fn kept(set: u64, t: usize, passes: bool) -> u64
 }
 
 // The unplaced whose store reads are legal after the places filled.
-fn ready_among(
-    starts: &[u32; 32],
-    reads: &[u32; 10],
-    required: &[u64; 320],
-    written: &[u64; 320],
-    s: Search,
-) -> u64
+fn ready_among(starts: &[u32; 32], facts: &[Facts; 11], asked: u32, s: Search) -> u64
     requires { ⌜ Sound s ⌝ }
-    ensures { λ r. ⌜ Ready (now (starts .entry)) (now (reads .entry)) (now (required .entry)) (now (written .entry)) s r ⌝ }
+    ensures { λ r. ⌜ Ready (asking (now (starts .entry)) (now (facts .entry)) asked) s r ⌝ }
 {
     let mut ready = s.unplaced;
     let mut left = s.unplaced;
     while left != 0 {
         let t = sets::lowest(left);
-        let passes = legal(starts, required, written, s.placed, s.filled, t, reads[t]);
-        ready = kept(ready, t, passes);
+        ready = kept(ready, t, legal_reads(starts, facts, asked, s, t));
         left = sets::without(left, t);
     }
     ready
@@ -67,9 +65,8 @@ fn ready_among(
 // spoilt; if it was not, it may be only where something that it reads was written.
 fn still_ready(
     starts: &[u32; 32],
-    reads: &[u32; 10],
-    required: &[u64; 320],
-    written: &[u64; 320],
+    facts: &[Facts; 11],
+    asked: u32,
     s: Search,
     ready: u64,
     t: usize,
@@ -78,8 +75,7 @@ fn still_ready(
     requires { ⌜ Sound s ⌝ }
     requires { ⌜ t < 10 ⌝ }
     ensures { λ r. ⌜ (Stays
-        (legalFor (now (starts .entry)) (now (reads .entry)) (now (required .entry)) (now (written .entry)) (placedOf s) t)
-        ready t effect → r ≡ true) ⌝ }
+        (legalReads (asking (now (starts .entry)) (now (facts .entry)) asked) (placedOf s) t) ready t effect → r ≡ true) ⌝ }
 {
     if effect % HELPED != 0 {
         return false;
@@ -90,33 +86,31 @@ fn still_ready(
     if effect == 0 {
         return false;
     }
-    legal(starts, required, written, s.placed, s.filled, t, reads[t])
+    legal_reads(starts, facts, asked, s, t)
 }
 
 // The unplaced whose store reads may be legal after the places filled, from those before the last, which is x committed.
 fn ready_after(
     starts: &[u32; 32],
-    reads: &[u32; 10],
-    required: &[u64; 320],
-    written: &[u64; 320],
+    facts: &[Facts; 11],
     effects: &[u64; 100],
+    asked: u32,
     s: Search,
     x: usize,
     ready: u64,
 ) -> u64
     requires { ⌜ Sound s ⌝ }
     requires { ⌜ x < 10 ⌝ }
-    requires { ⌜ Effects (now reads) (now required) (now written) (now effects) ⌝ }
-    ensures { λ r. ⌜ Keeps (Renewed
-        (legalFor (now (starts .entry)) (now (reads .entry)) (now (required .entry)) (now (written .entry)))
-        (placedOf s) x ready) (s .unplaced) r ⌝ }
+    requires { ⌜ Effects (now facts) asked (now effects) ⌝ }
+    ensures { λ r. ⌜ Keeps
+        (Renewed (legalReads (asking (now (starts .entry)) (now (facts .entry)) asked)) (placedOf s) x ready) (s .unplaced) r ⌝ }
 {
     let mut after = s.unplaced;
     let mut left = s.unplaced;
     while left != 0 {
         let t = sets::lowest(left);
         let effect = effects[x * TRANSACTIONS + t];
-        let passes = still_ready(starts, reads, required, written, s, ready, t, effect);
+        let passes = still_ready(starts, facts, asked, s, ready, t, effect);
         after = kept(after, t, passes);
         left = sets::without(left, t);
     }
@@ -124,32 +118,26 @@ fn ready_after(
 }
 
 // May t come next with another outcome than this, where no one counts but those that are needed?
-fn other_than(
-    predecessors: &[u64; 10],
-    allowed: &[u8; 10],
-    need: u64,
-    t: usize,
-    outcome: u8,
-) -> bool
+fn other_than(facts: &[Facts; 11], need: u64, t: usize, outcome: u64) -> bool
     requires { ⌜ t < 10 ⌝ }
-    ensures { λ r. ⌜ r ≡ otherThan (now (predecessors .entry)) (now (allowed .entry)) need t outcome ⌝ }
+    ensures { λ r. ⌜ r ≡ otherThan (now (facts .entry)) need t outcome ⌝ }
 {
-    if predecessors[t] & need != 0 {
+    if facts[t][AFTER] & need != 0 {
         return false;
     }
-    allowed[t] != outcome
+    facts[t][ALLOWED] != outcome
 }
 
 // What is needed still when each that is ready and may be aborted has been passed over.
-fn settle(predecessors: &[u64; 10], allowed: &[u8; 10], need: u64, ready: u64) -> u64
+fn settle(facts: &[Facts; 11], need: u64, ready: u64) -> u64
     requires { ⌜ ready < 1024 ⌝ }
-    ensures { λ r. ⌜ Settled (now (predecessors .entry)) (now (allowed .entry)) ready need r ⌝ }
+    ensures { λ r. ⌜ Settled (now (facts .entry)) ready need r ⌝ }
 {
     let mut left = need & ready;
     while left != 0 {
         let t = sets::lowest(left);
-        if other_than(predecessors, allowed, need, t, COMMITTED) {
-            return settle(predecessors, allowed, sets::without(need, t), ready);
+        if other_than(facts, need, t, COMMITTED) {
+            return settle(facts, sets::without(need, t), ready);
         }
         left = sets::without(left, t);
     }
@@ -159,43 +147,26 @@ fn settle(predecessors: &[u64; 10], allowed: &[u8; 10], need: u64, ready: u64) -
 // Can all that are needed be placed after the places of s, with commits of the unplaced in between?
 fn possible(
     starts: &[u32; 32],
-    predecessors: &[u64; 10],
-    allowed: &[u8; 10],
-    reads: &[u32; 10],
-    required: &[u64; 320],
-    written: &[u64; 320],
+    facts: &[Facts; 11],
     effects: &[u64; 100],
+    asked: u32,
     s: Search,
     need: u64,
     ready: u64,
 ) -> bool
     requires { ⌜ Sound s ⌝ }
-    requires { ⌜ Ready (now starts) (now reads) (now required) (now written) s ready ⌝ }
-    requires { ⌜ Effects (now reads) (now required) (now written) (now effects) ⌝ }
-    ensures { λ r. ⌜ Hope
-        (constraints (now (starts .entry)) (now (predecessors .entry)) (now (allowed .entry))
-        (now (reads .entry)) (now (required .entry)) (now (written .entry))) s need r ⌝ }
+    requires { ⌜ Ready (asking (now starts) (now facts) asked) s ready ⌝ }
+    requires { ⌜ Effects (now facts) asked (now effects) ⌝ }
+    ensures { λ r. ⌜ Hope (asking (now (starts .entry)) (now (facts .entry)) asked) s need r ⌝ }
 {
-    let rest = settle(predecessors, allowed, need, ready);
+    let rest = settle(facts, need, ready);
     if rest == 0 {
         return true;
     }
     let mut left = ready;
     while left != 0 {
         let t = sets::lowest(left);
-        if leads(
-            starts,
-            predecessors,
-            allowed,
-            reads,
-            required,
-            written,
-            effects,
-            s,
-            rest,
-            ready,
-            t,
-        ) {
+        if leads(starts, facts, effects, asked, s, rest, ready, t) {
             return true;
         }
         left = sets::without(left, t);
@@ -206,92 +177,54 @@ fn possible(
 // Can they, if t commits next?
 fn leads(
     starts: &[u32; 32],
-    predecessors: &[u64; 10],
-    allowed: &[u8; 10],
-    reads: &[u32; 10],
-    required: &[u64; 320],
-    written: &[u64; 320],
+    facts: &[Facts; 11],
     effects: &[u64; 100],
+    asked: u32,
     s: Search,
     need: u64,
     ready: u64,
     t: usize,
 ) -> bool
     requires { ⌜ Placeable s t ⌝ }
-    requires { ⌜ Ready (now starts) (now reads) (now required) (now written) s ready ⌝ }
-    requires { ⌜ Effects (now reads) (now required) (now written) (now effects) ⌝ }
-    ensures { λ r. ⌜ HopeBy
-        (constraints (now (starts .entry)) (now (predecessors .entry)) (now (allowed .entry))
-        (now (reads .entry)) (now (required .entry)) (now (written .entry))) s need t r ⌝ }
+    requires { ⌜ Ready (asking (now starts) (now facts) asked) s ready ⌝ }
+    requires { ⌜ Effects (now facts) asked (now effects) ⌝ }
+    ensures { λ r. ⌜ HopeBy (asking (now (starts .entry)) (now (facts .entry)) asked) s need t r ⌝ }
 {
-    if !other_than(predecessors, allowed, need, t, ABORTED) {
+    if !other_than(facts, need, t, ABORTED) {
         return false;
     }
     let next = s.place(t, COMMITTED);
     let rest = need & next.unplaced;
-    if orphaned(
-        starts,
-        allowed,
-        reads,
-        required,
-        written,
-        effects,
-        next,
-        rest,
-        t,
-    ) {
+    if orphaned(starts, facts, effects, asked, next, rest, t) {
         return false;
     }
-    let after = ready_after(starts, reads, required, written, effects, next, t, ready);
-    possible(
-        starts,
-        predecessors,
-        allowed,
-        reads,
-        required,
-        written,
-        effects,
-        next,
-        rest,
-        after,
-    )
+    let after = ready_after(starts, facts, effects, asked, next, t, ready);
+    possible(starts, facts, effects, asked, next, rest, after)
 }
 
 // Is there one of these that needs a value which is not there, and which nobody unplaced could write?
-pub fn stranded(
-    starts: &[u32; 32],
-    allowed: &[u8; 10],
-    reads: &[u32; 10],
-    required: &[u64; 320],
-    written: &[u64; 320],
-    s: Search,
-    need: u64,
-) -> bool
+pub fn stranded(starts: &[u32; 32], facts: &[Facts; 11], asked: u32, s: Search, need: u64) -> bool
     requires { ⌜ Sound s ⌝ }
     requires { ⌜ need < 1024 ⌝ }
-    ensures { λ r. ⌜ (r ≡ true → Orphaned
-        (now (starts .entry)) (now (allowed .entry)) (now (reads .entry)) (now (required .entry)) (now (written .entry)) s need) ⌝ }
+    ensures { λ r. ⌜ (r ≡ true → Orphaned (asking (now (starts .entry)) (now (facts .entry)) asked) s need) ⌝ }
 {
-    let all = [ALL; 100];
-    orphaned(starts, allowed, reads, required, written, &all, s, need, 0)
+    let all = [OVERWRITES_ALL; 100];
+    orphaned(starts, facts, &all, asked, s, need, 0)
 }
 
 // Is there one now, by the last place? A commit has overwritten what it has, one that could have committed leaves others without its writes,
 // and any other place takes nothing away. Who is stranded before any place is filled has been asked already.
 fn bereft(
     starts: &[u32; 32],
-    allowed: &[u8; 10],
-    reads: &[u32; 10],
-    required: &[u64; 320],
-    written: &[u64; 320],
+    facts: &[Facts; 11],
     effects: &[u64; 100],
+    asked: u32,
     s: Search,
     need: u64,
 ) -> bool
     requires { ⌜ Sound s ⌝ }
     requires { ⌜ need < 1024 ⌝ }
-    ensures { λ r. ⌜ (r ≡ true → Orphaned
-        (now (starts .entry)) (now (allowed .entry)) (now (reads .entry)) (now (required .entry)) (now (written .entry)) s need) ⌝ }
+    ensures { λ r. ⌜ (r ≡ true → Orphaned (asking (now (starts .entry)) (now (facts .entry)) asked) s need) ⌝ }
 {
     if s.filled == 0 {
         return false;
@@ -299,41 +232,33 @@ fn bereft(
     let last = code_at(s.placed, 0);
     let x = last / 2;
     if last % 2 == 1 {
-        return orphaned(
-            starts,
-            allowed,
-            reads,
-            required,
-            written,
-            effects,
-            s,
-            need,
-            x,
-        );
+        return orphaned(starts, facts, effects, asked, s, need, x);
     }
-    if allowed[x] == ABORTED {
+    if facts[x][ALLOWED] == ABORTED {
         return false;
     }
-    stranded(starts, allowed, reads, required, written, s, need)
+    stranded(starts, facts, asked, s, need)
+}
+
+// Those of a set that must come before the end.
+pub fn before_end(facts: &[Facts; 11], set: u64) -> u64
+    ensures { λ r. ⌜ r ≡ bitAnd set (afterOf (now (facts .entry)) 10) ⌝ }
+{
+    set & facts[END][AFTER]
 }
 
 // Is there hope? It is asked once for a state, before its first candidate is tried, and only where there is much to try.
 pub fn hopeful(
     starts: &[u32; 32],
-    predecessors: &[u64; 10],
-    allowed: &[u8; 10],
-    reads: &[u32; 10],
-    required: &[u64; 320],
-    written: &[u64; 320],
+    facts: &[Facts; 11],
     effects: &[u64; 100],
+    asked: u32,
     s: Search,
     candidates: u64,
 ) -> bool
     requires { ⌜ Sound s ⌝ }
-    requires { ⌜ Effects (now reads) (now required) (now written) (now effects) ⌝ }
-    ensures { λ r. ⌜ (r ≡ false → among
-        (constraints (now (starts .entry)) (now (predecessors .entry)) (now (allowed .entry))
-        (now (reads .entry)) (now (required .entry)) (now (written .entry))) s candidates ≡ none) ⌝ }
+    requires { ⌜ Effects (now facts) asked (now effects) ⌝ }
+    ensures { λ r. ⌜ (r ≡ false → among (asking (now (starts .entry)) (now (facts .entry)) asked) s candidates ≡ none) ⌝ }
 {
     if candidates < LOWEST_FOUR {
         return true;
@@ -344,29 +269,24 @@ pub fn hopeful(
     if sets::count(candidates) < FEW {
         return true;
     }
-    let ready = ready_among(starts, reads, required, written, s);
+    let ready = ready_among(starts, facts, asked, s);
     if bereft(
         starts,
-        allowed,
-        reads,
-        required,
-        written,
+        facts,
         effects,
+        asked,
         s,
-        s.unplaced ^ ready,
+        before_end(facts, s.unplaced ^ ready),
     ) {
         return false;
     }
     possible(
         starts,
-        predecessors,
-        allowed,
-        reads,
-        required,
-        written,
+        facts,
         effects,
+        asked,
         s,
-        candidates,
+        before_end(facts, candidates),
         ready,
     )
 }

@@ -1,5 +1,6 @@
+pub mod FitLaws
 pub mod WalkLaws
-pub mod FillLaws
+pub mod RowLaws
 pub mod AnswerLaws
 pub mod OpeningLaws
 pub mod FirstEdition

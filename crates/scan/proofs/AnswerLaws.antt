@@ -5,9 +5,10 @@ use Prim.Native.Nat.{ℕ, _≤_, _<_}
 use native.Mathlib.Omega.{arith}
 use mathlib.Core.Bool.{true}
 use mathlib.Core.List.{List}
+use lib.ListN.{length}
 use borrow.Author.Tests.{le-leb, lt-leb, leb-true}
 use Rattle.events.specs.declared.event.Event.{Event}
-use Rattle.log.specs.declared.columns.Checked.{Checked}
+use Rattle.log.specs.declared.admit.Checked.{Checked}
 use Rattle.events.specs.declared.refusal.Refusal.{Refusal}
 use Rattle.events.specs.Said.{atEvent, refuse}
 use Rattle.events.specs.Events.{begins}
@@ -20,9 +21,11 @@ use Rattle.log.proofs.StartLaws.{fine, fine-answer}
 use Rattle.log.proofs.AnswerLaws.{columns-readable, readable-columns}
 use Rattle.opacity.specs.declared.verdict.Scanned.{Scanned}
 use Rattle.opacity.specs.Scan.{scan}
+use Rattle.tables.specs.Calls.{thenChecked}
 use Rattle.tables.proofs.CallLaws.{asked-none, asked-yes, asked-no, asked-e, then-readable, then-refused, then-e}
 use Rattle.scan.specs.declared.Scanning.{Scanning}
 use Rattle.scan.specs.Answer.{Passed, scannedSaid, said, sizeRefusal, scanRefusal, decided, scanAnswer}
+use Rattle.scan.specs.Logs.{scanOf, scanAfter}
 
 -- ---- what is decided
 
@@ -93,14 +96,17 @@ module _ (edition : ℕ) (starts : List ℕ) (c : Columns) (count : ℕ) where
   passes p =
       then-readable _ (fine-answer edition starts c count (p .admitted) (readable-columns c count (hold-e c count (p .held)) (p .readable)))
       ∙ passes-31 (history c count) count (p .few)
-
   -- ---- the questions one after the other, as `scan_history` puts them
 
-  pub history-refused : {r : Refusal} → historyAnswer edition starts c count ≡ Checked.Refused r → Scanning.Refused r ≡ scanAnswer edition starts c count
-  unfolding scanAnswer scanRefusal
-  history-refused x = decided-refused _ (then-refused _ x)
+-- a refusal is the answer, whatever the scan would say
+pub after-refused : {x : Checked} {r : Refusal} (starts : List ℕ) (h : List Event) (count : ℕ) → x ≡ Checked.Refused r → Scanning.Refused r ≡ scanAfter x starts h count
+unfolding scanAfter
+after-refused starts h count e = decided-refused _ (then-refused _ e)
 
-  pub events-decide : historyAnswer edition starts c count ≡ Checked.Readable
-      → decided (sizeRefusal (history c count) count) (scan (startOf starts) (history c count)) ≡ scanAnswer edition starts c count
-  unfolding scanAnswer scanRefusal
-  events-decide x = ap (λ (y : Checked). decided y (scan (startOf starts) (history c count))) (sym (then-readable _ x))
+pub after-readable : {x : Checked} (starts : List ℕ) (h : List Event) (count : ℕ) → length h ≡ count → x ≡ Checked.Readable → scanOf starts h ≡ scanAfter x starts h count
+unfolding scanAfter scanOf
+after-readable starts h count l e = rw l (ap (λ (y : Checked). decided y (scan (startOf starts) h)) (sym (then-readable _ e)))
+
+-- so that of what is refused nothing else is said
+pub after-alike : (r : Refusal) (starts : List ℕ) (count : ℕ) (g h : List Event) → scanAfter (Checked.Refused r) starts g count ≡ scanAfter (Checked.Refused r) starts h count
+after-alike r starts count g h = sym (after-refused {x = Checked.Refused r} starts g count refl) ∙ after-refused {x = Checked.Refused r} starts h count refl

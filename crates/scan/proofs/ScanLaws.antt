@@ -13,28 +13,26 @@ use lib.ListN.{length, take}
 use lib.Dec.{eqb}
 use borrow.Author.Tests.{ne-eqb}
 use Rattle.lists.specs.Lists.{isNone, first, keep}
-use Rattle.events.specs.Events.{begins, isBegin, isRead, isCommit, isAbort}
-use Rattle.log.specs.Columns.{Columns, entry, history}
+use Rattle.events.specs.declared.event.Event.{Event}
+use Rattle.events.specs.Events.{begins, isBegin, eventAt}
 use Rattle.log.specs.Starts.{startOf}
 use Rattle.opacity.specs.Justification.{Justified}
 use Rattle.opacity.specs.Lowest.{lowestOf}
 use Rattle.opacity.specs.Scan.{cause, scan}
 use Rattle.opacity.specs.declared.verdict.Scanned.the-variants.{Opaque, Faulted}
 use Rattle.lists.proofs.ListLaws.{below-cases, clash, first-none, first-some, none-first, First}
-use Rattle.log.proofs.ColumnLaws.{history-length, history-at, history-take, begins-more, begins-stay}
 use Rattle.opacity.proofs.Bounds.{transaction-known}
 use Rattle.opacity.proofs.Least.{lowest-justifies, lowest-least}
 use Rattle.opacity.proofs.Opacity.{empty-justified}
 use Rattle.places.specs.Places.{codesOf, decode}
 use Rattle.places.specs.Tree.{firstCompletion, readAnswer}
-use Rattle.opacity.specs.Counts.{ofKind}
 use Rattle.tables.specs.Tables.{Tables, empty, goThrough, next, tablesOf}
 use Rattle.tables.specs.Order.{constraintsOf, decoded, Judged}
 use Rattle.tables.proofs.TableLaws.{tables-more}
 use Rattle.tables.proofs.Link.{found-by}
 use Rattle.tables.proofs.JudgedLaws.{judged-prefix}
 use Rattle.scan.specs.Witness.{kept, Carryable, Judges}
-use Rattle.scan.proofs.WitnessLaws.{carryable, carried-on, room-on}
+use Rattle.scan.proofs.WitnessLaws.{begins-more, carryable, carried-on, room-on}
 
 -- the first that passes, where none before does
 first-at : (p : ℕ → Bool) (n k : ℕ) → k < n → p k ≡ true → ((j : ℕ) → j < k → p j ≡ false) → first p n ≡ some k
@@ -52,79 +50,74 @@ first-at p n k l t b = go (first p n) refl
     go (some m) e = ap some (same m (first-some p n e))
 
 -- the prefixes of at most i events have a justification, and the witness is one of the longest of them
-pub record Scanning (o : List ℕ) (c : Columns) (n i : ℕ) (s : Tables) (begun order : ℕ) : Type 0 where
-  pub passed : i ≤ n
-  pub tables : s ≡ tablesOf (history c i)
-  pub count : begun ≡ begins (history c i)
+pub record Scanning (o : List ℕ) (h : List Event) (i : ℕ) (s : Tables) (begun order : ℕ) : Type 0 where
+  pub passed : i ≤ length h
+  pub tables : s ≡ tablesOf (take i h)
+  pub count : begun ≡ begins (take i h)
   pub room : order < 2 ^ (begun * 5 + 1)
-  pub witness : Justified (startOf o) (history c i) (decode (codesOf begun order))
-  pub fine : (k : ℕ) → k < i → isNone (lowestOf (startOf o) (take (suc k) (history c n))) ≡ false
+  pub witness : Justified (startOf o) (take i h) (decode (codesOf begun order))
+  pub fine : (k : ℕ) → k < i → isNone (lowestOf (startOf o) (take (suc k) h)) ≡ false
 
-module _ (o : List ℕ) (c : Columns) (n : ℕ) where
-  pub scanning-none : (s : Tables) → s ≡ empty → Scanning o c n 0 s 0 1
-  unfolding history tablesOf goThrough begins keep codesOf decode
+module _ (o : List ℕ) (h : List Event) where
+  pub scanning-none : (s : Tables) → s ≡ empty → Scanning o h 0 s 0 1
+  unfolding tablesOf goThrough begins keep codesOf decode
   scanning-none s e =
       record { passed = omega arith; tables = e; count = refl; room = omega arith; witness = empty-justified (startOf o); fine = λ k l. absurd (omega arith) }
 
-  module _ (j : Judged c n) (i : ℕ) (l : i < n) (s : Tables) (begun order : ℕ) (p : Scanning o c n i s begun order) where
+  module _ (j : Judged h) (i : ℕ) (l : i < length h) (e : Event) (same : e ≡ eventAt h i) (s : Tables) (begun order : ℕ) (p : Scanning o h i s begun order) where
     pub few-before : begun ≤ 10
-    few-before = let q = judged-prefix c n i (p .passed) j .few in omega (arith, p .count)
+    few-before = let q = judged-prefix h i (p .passed) j .few in omega (arith, p .count)
 
-    pub may-carry : Carryable begun order (entry c i)
-    may-carry = carryable o c n j i l begun order (p .count) (p .room) (p .witness)
+    pub may-carry : Carryable begun order e
+    may-carry = carryable o h j i l e same begun order (p .count) (p .room) (p .witness)
 
-    module _ (s′ : Tables) (begun′ : ℕ) (steps : s′ ≡ next s (entry c i)) (counts : begun′ ≡ cond (isBegin (ofKind (entry c i .kind))) (begun + 1) begun) where
-      its-tables : s′ ≡ tablesOf (history c (i + 1))
-      its-tables = tables-more c i s s′ (p .tables) steps
+    module _ (s′ : Tables) (begun′ : ℕ) (steps : s′ ≡ next s e) (counts : begun′ ≡ cond (isBegin e) (begun + 1) begun) where
+      its-tables : s′ ≡ tablesOf (take (i + 1) h)
+      its-tables = tables-more h i l s s′ e (p .tables) same steps
 
-      its-count : begun′ ≡ begins (history c (i + 1))
-      unfolding isBegin
-      its-count = counts ∙ go (eqb (entry c i .kind) 16) refl
-        where
-          go : (b : Bool) → eqb (entry c i .kind) 16 ≡ b → cond b (begun + 1) begun ≡ begins (history c (i + 1))
-          go true e = ap (λ (m : ℕ). m + 1) (p .count) ∙ sym (begins-more c i e)
-          go false e = p .count ∙ sym (begins-stay c i e)
+      its-count : begun′ ≡ begins (take (i + 1) h)
+      its-count = counts ∙ ap (λ (m : ℕ). cond (isBegin e) (m + 1) m) (p .count) ∙ sym (begins-more h i l e same)
 
-      next-judged : Judged c (i + 1)
-      next-judged = judged-prefix c n (i + 1) (omega arith) j
+      next-judged : Judged (take (i + 1) h)
+      next-judged = judged-prefix h (i + 1) (omega arith) j
 
       pub few-begun : begun′ ≤ 10
       few-begun = let q = next-judged .few in omega (arith, its-count)
 
       -- the prefix that ends with event i
-      whole : take (suc i) (history c n) ≡ history c (i + 1)
-      whole = history-take c n (suc i) l ∙ ap (history c) (sym (add-one i))
+      whole : take (suc i) h ≡ take (i + 1) h
+      whole = ap (λ (k : ℕ). take k h) (sym (add-one i))
 
-      module _ (kept-order a : ℕ) (keeps : kept-order ≡ kept o (s .written) begun order (entry c i))
+      module _ (kept-order a : ℕ) (keeps : kept-order ≡ kept o (s .written) begun order e)
           (judges : Judges kept-order begun′ a (cond (s′ .contradictory) none (firstCompletion (constraintsOf o s′) begun′))) where
         -- searched anew
-        found : kept-order ≡ 0 → decoded (readAnswer begun′ a) ≡ lowestOf (startOf o) (history c (i + 1))
-        found z = found-by o c (i + 1) (readAnswer begun′ a) s′ begun′ next-judged its-tables its-count (judges .searched z .completion)
+        found : kept-order ≡ 0 → decoded (readAnswer begun′ a) ≡ lowestOf (startOf o) (take (i + 1) h)
+        found z = found-by o (take (i + 1) h) (readAnswer begun′ a) s′ begun′ next-judged its-tables its-count (judges .searched z .completion)
 
-        found-justifies : kept-order ≡ 0 → (a ≡ 0 → ⊥) → Justified (startOf o) (history c (i + 1)) (decode (codesOf begun′ a))
+        found-justifies : kept-order ≡ 0 → (a ≡ 0 → ⊥) → Justified (startOf o) (take (i + 1) h) (decode (codesOf begun′ a))
         found-justifies z f =
             let g : eqb a 0 ≡ false = ne-eqb a 0 f in
-            let q : some (decode (codesOf begun′ a)) ≡ lowestOf (startOf o) (history c (i + 1)) = rw g at (found z) in
-            lowest-justifies (startOf o) (history c (i + 1)) (transaction-known (history c (i + 1)) (next-judged .readable)) (sym q)
+            let q : some (decode (codesOf begun′ a)) ≡ lowestOf (startOf o) (take (i + 1) h) = rw g at (found z) in
+            lowest-justifies (startOf o) (take (i + 1) h) (transaction-known (take (i + 1) h) (next-judged .readable)) (sym q)
 
         -- kept, or searched anew
-        witness-more : (a ≡ 0 → ⊥) → (Justified (startOf o) (history c (i + 1)) (decode (codesOf begun′ a))) × (a < 2 ^ (begun′ * 5 + 1))
+        witness-more : (a ≡ 0 → ⊥) → (Justified (startOf o) (take (i + 1) h) (decode (codesOf begun′ a))) × (a < 2 ^ (begun′ * 5 + 1))
         witness-more f =
             elim (decLe kept-order 0) [
               | yes x ↦ let z : kept-order ≡ 0 = omega arith in (found-justifies z f, judges .searched z .room)
               | no x ↦
                   let g : kept-order ≡ 0 → ⊥ = λ z. x (omega arith) in
-                  let w : s .written ≡ tablesOf (history c i) .written = ap (λ (y : Tables). y .written) (p .tables) in
+                  let w : s .written ≡ tablesOf (take i h) .written = ap (λ (y : Tables). y .written) (p .tables) in
                   rw (judges .stays g) (
-                    carried-on o c n j i l begun order (p .count) (p .room) (p .witness) (s .written) w kept-order keeps g begun′ counts,
-                    room-on o c n j i l begun order (p .count) (p .room) (p .witness) (s .written) w kept-order keeps g begun′ counts,
+                    carried-on o h j i l e same begun order (p .count) (p .room) (p .witness) (s .written) w kept-order keeps g begun′ counts,
+                    room-on o h j i l e same begun order (p .count) (p .room) (p .witness) (s .written) w kept-order keeps g begun′ counts,
                   )
             ]
 
-        pub scanning-more : (a ≡ 0 → ⊥) → Scanning o c n (i + 1) s′ begun′ a
+        pub scanning-more : (a ≡ 0 → ⊥) → Scanning o h (i + 1) s′ begun′ a
         scanning-more f =
             let w = witness-more f in
-            let here : isNone (lowestOf (startOf o) (take (suc i) (history c n))) ≡ false = rw whole (ap isNone (lowest-least (startOf o) (history c (i + 1)) (w .0) .1)) in
+            let here : isNone (lowestOf (startOf o) (take (suc i) h)) ≡ false = rw whole (ap isNone (lowest-least (startOf o) (take (i + 1) h) (w .0) .1)) in
             record {
               passed = omega arith;
               tables = its-tables;
@@ -134,26 +127,26 @@ module _ (o : List ℕ) (c : Columns) (n : ℕ) where
               fine = λ k m. ⊎-elim (λ q. rw q here) (λ q. p .fine k q) (below-cases (rw add-one at m));
             }
 
-        none-here : a ≡ 0 → isNone (lowestOf (startOf o) (take (suc i) (history c n))) ≡ true
-        none-here e =
+        none-here : a ≡ 0 → isNone (lowestOf (startOf o) (take (suc i) h)) ≡ true
+        none-here z =
             elim (decLe kept-order 0) [
               | yes x ↦
-                  let z : kept-order ≡ 0 = omega arith in
-                  let q : none ≡ lowestOf (startOf o) (history c (i + 1)) = rw e at (found z) in
+                  let y : kept-order ≡ 0 = omega arith in
+                  let q : none ≡ lowestOf (startOf o) (take (i + 1) h) = rw z at (found y) in
                   rw whole (ap isNone (sym q))
-              | no x ↦ absurd (omega (arith, judges .stays (λ z. x (omega arith))))
+              | no x ↦ absurd (omega (arith, judges .stays (λ y. x (omega arith))))
             ]
 
-        pub scanning-fault : a ≡ 0 → Faulted i (cause (ofKind (entry c i .kind))) ≡ scan (startOf o) (history c n)
-        unfolding scan cause isRead isCommit isAbort
-        scanning-fault e =
-            let f : first (λ k. isNone (lowestOf (startOf o) (take (suc k) (history c n)))) (length (history c n)) ≡ some i =
-            first-at _ (length (history c n)) i (rw (history-length c n) l) (none-here e) (p .fine) in
-            rw (f, history-at c n i l)
+        pub scanning-fault : a ≡ 0 → Faulted i (cause e) ≡ scan (startOf o) h
+        unfolding scan
+        scanning-fault z =
+            let f : first (λ k. isNone (lowestOf (startOf o) (take (suc k) h))) (length h) ≡ some i =
+            first-at _ (length h) i l (none-here z) (p .fine) in
+            rw (f, same)
 
-  pub scanning-end : (i : ℕ) (s : Tables) (begun order : ℕ) → i ≡ n → Scanning o c n i s begun order → Opaque ≡ scan (startOf o) (history c n)
+  pub scanning-end : (i : ℕ) (s : Tables) (begun order : ℕ) → length h ≤ i → Scanning o h i s begun order → Opaque ≡ scan (startOf o) h
   unfolding scan
   scanning-end i s begun order e p =
-      let f : first (λ k. isNone (lowestOf (startOf o) (take (suc k) (history c n)))) (length (history c n)) ≡ none =
-      none-first _ (length (history c n)) (λ k m. p .fine k (rw e (rw (history-length c n) at m))) in
+      let f : first (λ k. isNone (lowestOf (startOf o) (take (suc k) h))) (length h) ≡ none =
+      none-first _ (length h) (λ k m. p .fine k (omega arith)) in
       rw f

@@ -9,33 +9,34 @@ use mathlib.Core.Bool.{Bool, true, false, not, cond}
 use mathlib.Core.List.{List, [], _∷_, _++_}
 use mathlib.Core.Option.{Option, none, some, Option·getD}
 use lib.Dec.{eqb, ltb}
-use lib.ListN.{take, getD}
+use lib.ListN.{length, take, getD}
 use lib.Pow.{pow-add, pow-mono}
 use borrow.Author.Tests.{ne-eqb, ltb-true, lt-ltb}
 use Rattle.lists.specs.Lists.{all}
 use Rattle.events.specs.declared.event.Event.{Event}
 use Rattle.events.specs.Events.{eventAt, isBegin, isRead, isCommit, isAbort, begins}
-use Rattle.log.specs.Columns.{Columns, entry, history}
 use Rattle.log.specs.Starts.{startOf}
 use Rattle.lists.proofs.ListLaws.{and-l, and-r, and-i, all-weaken}
-use Rattle.log.proofs.ColumnLaws.{history-length, history-at, history-take, begins-more, begins-stay}
+use Rattle.events.proofs.EventLaws.{begins-snoc, begins-same}
+use Rattle.events.proofs.QuestionLaws as asking
 use Rattle.opacity.specs.Transactions.{lastWrite}
 use Rattle.opacity.specs.Justification.{Place, isOf, before, outcome, contents, isOrder, Justified}
 use Rattle.opacity.specs.Lowest.{place}
 use Rattle.opacity.specs.Carry.{seen, carries, carried}
-use Rattle.opacity.specs.Counts.{ofKind}
-use Rattle.opacity.proofs.Bounds.{transaction-known}
+use Rattle.opacity.proofs.EventKinds.{begin-no-read}
 use Rattle.opacity.proofs.Carry.{carried-justified}
 use Rattle.places.specs.Places.{codesOf, decode, plus, writesIn}
+use Rattle.places.specs.Tree.{Completion, Answers}
 use Rattle.places.proofs.StateLaws.{one-more}
 use Rattle.places.proofs.LookupLaws.{held, decode-snoc}
-use Rattle.tables.specs.Tables.{event, tablesOf}
+use Rattle.tables.specs.Tables.{Tabled, tablesOf}
 use Rattle.tables.specs.Order.{Judged}
+use Rattle.tables.proofs.TableLaws.{take-more}
 use Rattle.tables.proofs.Meaning.{Good}
-use Rattle.tables.proofs.GoodHistory.{good, in-tables}
+use Rattle.tables.proofs.GoodHistory.{good, tabled}
 use Rattle.tables.proofs.LookupLink.{last-held, contents-held}
 use Rattle.tables.proofs.JudgedLaws.{judged-prefix}
-use Rattle.scan.specs.Witness.{carriedCode, kept, Carryable}
+use Rattle.scan.specs.Witness.{carriedCode, kept, Carryable, Judges}
 
 -- ---- what a transaction reads
 
@@ -56,32 +57,41 @@ module _ (start : ℕ → ℕ) (w : List ℕ) (J : List Place) (t r : ℕ) (low 
       go none k = refl
       go (some y) k = absurd (omega arith)
 
--- ---- what each kind of event leaves of the witness
+-- ---- what an event leaves of the witness
 
-module _ (starts w : List ℕ) (n order k t r v : ℕ) where
-  pub kept-begin : k ≡ 16 → order * 32 + t * 2 ≡ kept starts w n order (event k t r v)
-  unfolding kept carries carriedCode isBegin isRead isCommit isAbort
-  kept-begin e = rw e
+module _ (starts w : List ℕ) (n order : ℕ) (e : Event) where
+  -- one that begins has not read or ended yet
+  pub kept-begin : isBegin e ≡ true → order * 32 + e .transaction * 2 ≡ kept starts w n order e
+  unfolding kept carries carriedCode
+  kept-begin b = let x = begin-no-read e b in rw (b, x .0, x .1, x .2)
 
-  pub kept-read : k ≡ 18 → cond (eqb (seen (startOf starts) (writesIn w) (decode (codesOf n order)) t r) v) order 0 ≡ kept starts w n order (event k t r v)
-  unfolding kept carries carriedCode isBegin isRead
-  kept-read e = rw e
+  module _ (b : isBegin e ≡ false) where
+    pub kept-read : isRead e ≡ true → cond (eqb (seen (startOf starts) (writesIn w) (decode (codesOf n order)) (e .transaction) (e .register)) (e .value)) order 0 ≡ kept starts w n order e
+    unfolding kept carries carriedCode
+    kept-read r = rw (b, r)
 
-  pub kept-commit : k ≡ 22 → cond (outcome t (decode (codesOf n order))) order 0 ≡ kept starts w n order (event k t r v)
-  unfolding kept carries carriedCode isBegin isRead isCommit
-  kept-commit e = rw e
+    pub kept-commit : isRead e ≡ false → isCommit e ≡ true → cond (outcome (e .transaction) (decode (codesOf n order))) order 0 ≡ kept starts w n order e
+    unfolding kept carries carriedCode
+    kept-commit r c = rw (b, r, c)
 
-  pub kept-abort : k ≡ 23 → cond (not (outcome t (decode (codesOf n order)))) order 0 ≡ kept starts w n order (event k t r v)
-  unfolding kept carries carriedCode isBegin isRead isCommit isAbort
-  kept-abort e = rw e
+    pub kept-abort : isRead e ≡ false → isCommit e ≡ false → isAbort e ≡ true → cond (not (outcome (e .transaction) (decode (codesOf n order)))) order 0 ≡ kept starts w n order e
+    unfolding kept carries carriedCode
+    kept-abort r c a = rw (b, r, c, a)
 
-  pub kept-other : (k ≡ 16 → ⊥) → (k ≡ 18 → ⊥) → (k ≡ 22 → ⊥) → (k ≡ 23 → ⊥) → order ≡ kept starts w n order (event k t r v)
-  unfolding kept carries carriedCode isBegin isRead isCommit isAbort
-  kept-other a b c d = rw (ne-eqb k 16 a, ne-eqb k 18 b, ne-eqb k 22 c, ne-eqb k 23 d)
+    pub kept-other : isRead e ≡ false → isCommit e ≡ false → isAbort e ≡ false → order ≡ kept starts w n order e
+    unfolding kept carries carriedCode
+    kept-other r c a = rw (b, r, c, a)
 
 -- there is room for one place more
 pub room-more : (n order : ℕ) → n < 10 → order < 2 ^ (n * 5 + 1) → order < 2 ^ 46
 room-more n order l h = let m : 2 ^ (n * 5 + 1) ≤ 2 ^ 46 = pow-mono {i = n * 5 + 1} {j = 46} (omega arith) in omega arith
+
+-- the order after an event: the one that was kept, or the answer of the search
+pub judged-kept : (kept n a : ℕ) (x : Completion) → (kept ≡ 0 → ⊥) → a ≡ kept → Judges kept n a x
+judged-kept kept n a x f e = record { stays = λ _. e; searched = λ z. absurd (f z) }
+
+pub judged-anew : (kept n a found : ℕ) (x : Completion) → kept ≡ 0 → a ≡ found → Answers n found x → Judges kept n a x
+judged-anew kept n a found x z e w = record { stays = λ f. absurd (f z); searched = λ _. rw e w }
 
 -- ---- the order, carried on
 
@@ -107,53 +117,59 @@ room-after n order t l h =
     let q : (n + 1) * 5 + 1 ≡ n * 5 + 1 + 5 = omega arith in
     rw (q, p) (omega arith)
 
--- the first i events of n are justified by the order, and event i comes
-module _ (o : List ℕ) (c : Columns) (n : ℕ) (j : Judged c n) (i : ℕ) (l : i < n) (begun order : ℕ) (count : begun ≡ begins (history c i))
-    (room : order < 2 ^ (begun * 5 + 1)) (witness : Justified (startOf o) (history c i) (decode (codesOf begun order))) where
-  abbrev e : Event
-  e = entry c i
+-- ---- how many transactions begin
 
+pub begins-more : (h : List Event) (i : ℕ) → i < length h → (e : Event) → e ≡ eventAt h i → begins (take (i + 1) h) ≡ cond (isBegin e) (begins (take i h) + 1) (begins (take i h))
+begins-more h i l e q = rw (take-more h i l, ← q) (go (isBegin e) refl)
+  where
+    go : (b : Bool) → isBegin e ≡ b → begins (take i h ++ (e ∷ [])) ≡ cond b (begins (take i h) + 1) (begins (take i h))
+    go true b = begins-snoc (take i h) e b
+    go false b = begins-same (take i h) e b
+
+-- the first i events are justified by the order, and event i comes
+module _ (o : List ℕ) (h : List Event) (j : Judged h) (i : ℕ) (l : i < length h) (e : Event) (same : e ≡ eventAt h i) (begun order : ℕ)
+    (count : begun ≡ begins (take i h)) (room : order < 2 ^ (begun * 5 + 1)) (witness : Justified (startOf o) (take i h) (decode (codesOf begun order))) where
   J : List Place
   J = decode (codesOf begun order)
 
-  earlier : Judged c i
-  earlier = judged-prefix c n i (le-of-lt l) j
+  earlier : Judged (take i h)
+  earlier = judged-prefix h i (le-of-lt l) j
 
-  later : Judged c (i + 1)
-  later = judged-prefix c n (i + 1) (omega arith) j
+  later : Judged (take (i + 1) h)
+  later = judged-prefix h (i + 1) (omega arith) j
 
-  low : e .transaction < 10
-  low = in-tables c n j .transaction i l
+  fits : Tabled e
+  fits = tabled h j i l e same
 
   pub carryable : Carryable begun order e
   carryable =
       record {
         ordered = record { few = omega (arith, earlier .few); is-order = ap (λ (m : ℕ). isOrder m (decode (codesOf begun order))) count ∙ witness .order };
         room = room;
-        transaction = low;
-        register = in-tables c n j .register i l;
-        another = λ b. omega (arith, later .few, begins-more c i b);
-        known = λ b. omega (arith, begins-stay c i b, its-own);
+        transaction = fits .transaction;
+        register = fits .register;
+        another = λ b. omega (arith, later .few, rw b at (begins-more h i l e same));
+        known = λ b. omega (arith, rw b at (begins-more h i l e same), its-own);
       }
     where
-      its-own : e .transaction < begins (history c (i + 1))
-      its-own = rw (history-at c (i + 1) i (omega arith)) at (transaction-known (history c (i + 1)) (later .readable) i (rw (history-length c (i + 1)) (omega arith)))
+      its-own : e .transaction < begins (take (i + 1) h)
+      its-own = rw (same, add-one i) (asking.begun h (j .readable) i l)
 
   -- the tables say of the transaction of event i what the events say
-  seen-same : (w : List ℕ) → w ≡ tablesOf (history c i) .written → (t r : ℕ) → t < 10 → r < 32 → seen (startOf o) (writesIn w) J t r ≡ seen (startOf o) (history c i) J t r
+  seen-same : (w : List ℕ) → w ≡ tablesOf (take i h) .written → (t r : ℕ) → t < 10 → r < 32 → seen (startOf o) (writesIn w) J t r ≡ seen (startOf o) (take i h) J t r
   unfolding seen
   seen-same w q t r lt lr =
-      let g : Good (history c i) = good (history c i) (earlier .readable) (earlier .few) in
-      rw (q, last-held (history c i) g r lr t lt, contents-held (history c i) g r lr (startOf o) (before t J) few)
+      let g : Good (take i h) = good (take i h) (earlier .readable) (earlier .few) in
+      rw (q, last-held (take i h) g r lr t lt, contents-held (take i h) g r lr (startOf o) (before t J) few)
     where
       few : all (λ p. ltb (p .transaction) 10) (before t J) ≡ true
       few =
           before-all _ t J
-          (all-weaken (λ p. ltb (p .transaction) (begins (history c i))) (λ p. ltb (p .transaction) 10) J
-          (λ p k. lt-ltb (p .transaction) 10 (omega (arith, earlier .few, ltb-true (p .transaction) (begins (history c i)) k)))
+          (all-weaken (λ p. ltb (p .transaction) (begins (take i h))) (λ p. ltb (p .transaction) 10) J
+          (λ p k. lt-ltb (p .transaction) 10 (omega (arith, earlier .few, ltb-true (p .transaction) (begins (take i h)) k)))
           (unfold isOrder J in and-l _ _ (witness .order)))
 
-  module _ (w : List ℕ) (its : w ≡ tablesOf (history c i) .written) (k : ℕ) (keeps : k ≡ kept o w begun order e) (some : k ≡ 0 → ⊥) where
+  module _ (w : List ℕ) (its : w ≡ tablesOf (take i h) .written) (k : ℕ) (keeps : k ≡ kept o w begun order e) (some : k ≡ 0 → ⊥) where
     -- the order was kept
     was-kept : (carries (startOf o) (writesIn w) J e ≡ true) × (k ≡ carriedCode order e)
     unfolding kept J
@@ -163,39 +179,36 @@ module _ (o : List ℕ) (c : Columns) (n : ℕ) (j : Judged c n) (i : ℕ) (l : 
         go true q = (refl, q)
         go false q = absurd (some q)
 
-    passes : carries (startOf o) (history c i) J e ≡ true
+    passes : carries (startOf o) (take i h) J e ≡ true
     unfolding carries
     passes =
         ap (λ (x : ℕ). cond (isRead e) (eqb x (e .value)) (cond (isCommit e) (outcome (e .transaction) J) (cond (isAbort e) (not (outcome (e .transaction) J)) true)))
-        (sym (seen-same w its (e .transaction) (e .register) low (in-tables c n j .register i l)))
+        (sym (seen-same w its (e .transaction) (e .register) (fits .transaction) (fits .register)))
         ∙ was-kept .0
 
-    goes-on : Justified (startOf o) (history c (i + 1)) (carried J e)
-    goes-on =
-        let H = history c n in
-        let a : take i H ≡ history c i = history-take c n i (le-of-lt l) in
-        let b : eventAt H i ≡ e = history-at c n i l in
-        let d : take (suc i) H ≡ history c (suc i) = history-take c n (suc i) l in
-        rw (add-one, ← d, ← b)
-        (carried-justified (startOf o) H (j .readable) i (rw (history-length c n) l) J (rw a (unfold J in witness)) (rw (a, b) passes))
+    goes-on : Justified (startOf o) (take (i + 1) h) (carried J e)
+    goes-on = go J e same (unfold J in witness) passes
+      where
+        go : (K : List Place) (x : Event) → x ≡ eventAt h i → Justified (startOf o) (take i h) K → carries (startOf o) (take i h) K x ≡ true → Justified (startOf o) (take (i + 1) h) (carried K x)
+        go K x q w y = rw (add-one i, q) (carried-justified (startOf o) h (j .readable) i l K w (rw q at y))
 
-    module _ (begun′ : ℕ) (counts : begun′ ≡ cond (isBegin (ofKind (e .kind))) (begun + 1) begun) where
+    module _ (begun′ : ℕ) (counts : begun′ ≡ cond (isBegin e) (begun + 1) begun) where
       code : carried J e ≡ decode (codesOf begun′ k)
-      unfolding carried carriedCode J isBegin
-      code = go (eqb (e .kind) 16) counts (was-kept .1)
+      unfolding carried carriedCode J
+      code = go (isBegin e) counts (was-kept .1)
         where
           go : (b : Bool) → begun′ ≡ cond b (begun + 1) begun → k ≡ cond b (order * 32 + e .transaction * 2) order
               → cond b (decode (codesOf begun order) ++ (place (e .transaction) false ∷ [])) (decode (codesOf begun order)) ≡ decode (codesOf begun′ k)
-          go true x y = rw (x, y) (sym (code-more begun order (e .transaction) low))
+          go true x y = rw (x, y) (sym (code-more begun order (e .transaction) (fits .transaction)))
           go false x y = rw (x, y)
 
-      pub carried-on : Justified (startOf o) (history c (i + 1)) (decode (codesOf begun′ k))
+      pub carried-on : Justified (startOf o) (take (i + 1) h) (decode (codesOf begun′ k))
       carried-on = rw code at goes-on
 
       pub room-on : k < 2 ^ (begun′ * 5 + 1)
-      unfolding carriedCode isBegin
-      room-on = go (eqb (e .kind) 16) counts (was-kept .1)
+      unfolding carriedCode
+      room-on = go (isBegin e) counts (was-kept .1)
         where
           go : (b : Bool) → begun′ ≡ cond b (begun + 1) begun → k ≡ cond b (order * 32 + e .transaction * 2) order → k < 2 ^ (begun′ * 5 + 1)
-          go true x y = rw (x, y) (room-after begun order (e .transaction) low room)
+          go true x y = rw (x, y) (room-after begun order (e .transaction) (fits .transaction) room)
           go false x y = rw (x, y) room

@@ -6,7 +6,7 @@ use mathlib.Core.Bool.{true}
 use mathlib.Core.List.{List, [], _∷_}
 use lib.Dec.{leb}
 use Rattle.events.specs.declared.event.Event.{Event}
-use Rattle.log.specs.declared.columns.Checked.{Checked}
+use Rattle.log.specs.declared.admit.Checked.{Checked}
 use Rattle.events.specs.Events.{begins}
 use Rattle.log.specs.Columns.{Columns, history, hold}
 use Rattle.log.specs.Starts.{startOf, admits}

@@ -1,19 +1,30 @@
 // The scan: the prefixes of a history, by rising length, until one has no justification.
 ghost use mathlib.Core.Path.{_≡_};
-ghost use mathlib.Core.Bool.{cond};
+ghost use mathlib.Core.Bool.{true, cond};
 ghost use Prim.Native.Nat.{_+_, _<_};
-ghost use Rattle.log.specs.Columns.{columns, history};
+ghost use lib.ListN.{take};
 ghost use Rattle.events.specs.Events.{isBegin};
+ghost use Rattle.events.specs.Questions.{readable};
+ghost use Rattle.log.specs.Columns.{columns};
+ghost use Rattle.log.specs.Rows.{logged, Entered};
 ghost use Rattle.log.specs.Starts.{startOf};
 ghost use Rattle.opacity.specs.Scan.{scan, cause};
 ghost use Rattle.opacity.specs.declared.verdict.Scanned.the-variants.{Faulted};
-ghost use Rattle.opacity.specs.Counts.{ofKind, HoldsReadable};
 ghost use Rattle.tables.specs.Order.{Judged};
-ghost use Rattle.scan.specs.Answer.{sizeRefusal, decided, scanAnswer};
+ghost use Rattle.scan.specs.Answer.{scanAnswer};
+ghost use Rattle.scan.specs.Logs.{scanOf, scanAfter};
+use events::event::Event;
+use events::event::is_abort;
+use events::event::is_begin;
+use events::event::is_commit;
+use events::event::is_read;
 use events::refusal::Refusal;
-use log::columns::Checked;
+use log::admit::Checked;
+use log::admit::admit;
+use log::rows::Row;
+use log::rows::event_at;
+use log::rows::transactions_begun;
 use opacity::verdict::Scanned;
-use records::record::Record;
 
 mod witness;
 
@@ -27,122 +38,105 @@ pub enum Scanning {
 }
 
 // How many transactions have begun, with one event more.
-fn counted(begun: usize, kind: u16) -> usize
+fn counted(begun: usize, e: Event) -> usize
     requires { ⌜ begun < 100 ⌝ }
-    ensures { λ r. ⌜ r ≡ cond (isBegin (ofKind kind)) (begun + 1) begun ⌝ }
+    ensures { λ r. ⌜ r ≡ cond (isBegin e) (begun + 1) begun ⌝ }
 {
-    if kind == Record::BEGIN {
+    if is_begin(e) {
         return begun + 1;
     }
     begun
 }
 
-// By the kind: 1 read returned, 2 committed, 3 aborted, 4 any other.
-fn cause_of(kind: u16) -> u32
-    ensures { λ r. ⌜ r ≡ cause (ofKind kind) ⌝ }
+// The cause: 1 read returned, 2 committed, 3 aborted, 4 any other.
+fn cause_of(e: Event) -> u32
+    ensures { λ r. ⌜ r ≡ cause e ⌝ }
 {
-    if kind == Record::READ_RETURNED {
+    if is_read(e) {
         return 1;
     }
-    if kind == Record::COMMITTED {
+    if is_commit(e) {
         return 2;
     }
-    if kind == Record::ABORTED {
+    if is_abort(e) {
         return 3;
     }
     4
 }
 
-// The answer where the prefix that ends with an event of this kind is the first without a justification.
-fn faulted(event: usize, kind: u16) -> Scanned
-    ensures { λ r. ⌜ r ≡ Faulted event (cause (ofKind kind)) ⌝ }
+// The answer where the prefix that ends with this event is the first without a justification.
+fn faulted(event: usize, e: Event) -> Scanned
+    ensures { λ r. ⌜ r ≡ Faulted event (cause e) ⌝ }
 {
     Scanned::Faulted {
         event,
-        cause: cause_of(kind),
+        cause: cause_of(e),
     }
 }
 
-// The prefixes of the first n events, of at most ten transactions, by rising length: the tables grow by one event each time. The order that
-// justifies a prefix is kept for the next where it justifies that too; only where it does not is an order searched for anew.
-fn scan_prefixes(
-    starts: &[u32; 32],
-    kinds: &[u16],
-    transactions: &[u16],
-    registers: &[u16],
-    values: &[u32],
-    n: usize,
-) -> Scanned
-    requires { ⌜ Judged (columns (now kinds) (now transactions) (now registers) (now values)) n ⌝ }
-    ensures { λ r. ⌜ r ≡ scan (startOf (now (starts .entry))) (history (columns (now (kinds .entry)) (now (transactions .entry)) (now (registers .entry)) (now (values .entry))) n) ⌝ }
+// The prefixes of a log of at most ten transactions, by rising length: the tables grow by one event each time, and n counts the
+// transactions begun. The order that justifies a prefix is kept for the next where it justifies that too; only where it does not is an
+// order searched for anew.
+fn scan_prefixes(starts: &[u32; 32], log: &[Row]) -> Scanned
+    requires { ⌜ Judged (logged (now log)) ⌝ }
+    ensures { λ r. ⌜ r ≡ scan (startOf (now (starts .entry))) (logged (now (log .entry))) ⌝ }
 {
-    let mut predecessors = [0u64; 10];
+    let mut before = [0u64; 10];
     let mut allowed = [0u8; 10];
     let mut reads = [0u32; 10];
     let mut required = [0u64; 320];
     let mut written = [0u64; 320];
     let mut s = tables::no_events();
-    let mut begun: usize = 0;
+    let mut n: usize = 0;
     let mut order: u64 = 1;
     let mut i: usize = 0;
-    while i < n {
-        let kind = kinds[i];
-        let t = transactions[i];
-        let r = registers[i];
-        let value = values[i];
-        let kept = witness::carry(starts, &written, order, begun, kind, t, r, value);
+    while i < log.len() {
+        let e = event_at(log, i);
+        let kept = witness::carry(starts, &written, order, n, e);
         s = s.step(
-            &mut predecessors,
+            &mut before,
             &mut allowed,
             &mut reads,
             &mut required,
             &mut written,
-            kind,
-            t,
-            r,
-            value,
+            e,
         );
-        begun = counted(begun, kind);
-        order = witness::judge(
-            starts,
-            s,
-            &predecessors,
-            &allowed,
-            &reads,
-            &required,
-            &written,
-            begun,
-            kept,
-        );
+        n = counted(n, e);
+        order = kept;
+        if kept == 0 {
+            order = tables::complete(starts, s, &before, &allowed, &reads, &required, &written, n);
+        }
         if order == 0 {
-            return faulted(i, kind);
+            return faulted(i, e);
         }
         i += 1;
     }
     Scanned::Opaque
 }
 
-// Question 31, and then the prefixes of the first count events.
-fn scan_readable(
-    starts: &[u32; 32],
-    kinds: &[u16],
-    transactions: &[u16],
-    registers: &[u16],
-    values: &[u32],
-    count: usize,
-) -> Scanning
-    requires { ⌜ HoldsReadable (columns (now kinds) (now transactions) (now registers) (now values)) count ⌝ }
-    ensures { λ r. ⌜ r ≡ decided (sizeRefusal (history (columns (now (kinds .entry)) (now (transactions .entry)) (now (registers .entry)) (now (values .entry))) count) count) (scan (startOf (now (starts .entry))) (history (columns (now (kinds .entry)) (now (transactions .entry)) (now (registers .entry)) (now (values .entry))) count)) ⌝ }
+// Question 31, and then the prefixes of a log.
+pub fn scan_log(starts: &[u32; 32], log: &[Row]) -> Scanning
+    requires { ⌜ readable (logged (now log)) ≡ true ⌝ }
+    ensures { λ r. ⌜ r ≡ scanOf (now (starts .entry)) (logged (now (log .entry))) ⌝ }
 {
-    let begun = opacity::counts::transactions_begun(kinds, transactions, registers, values, count);
-    if begun > SEARCHED {
+    if transactions_begun(log) > SEARCHED {
         return Scanning::Refused(Refusal {
             question: 31,
-            at: count,
+            at: log.len(),
         });
     }
-    let scanned = scan_prefixes(starts, kinds, transactions, registers, values, count);
-    Scanning::Scanned(scanned)
+    Scanning::Scanned(scan_prefixes(starts, log))
+}
+
+// What the questions refuse, and else what the scan of the rows taken in answers.
+fn scan_admitted(starts: &[u32; 32], checked: Checked, rows: &[Row], count: usize) -> Scanning
+    requires { ⌜ Entered checked count (now rows) ⌝ }
+    ensures { λ r. ⌜ r ≡ scanAfter checked (now (starts .entry)) (logged (take count (now (rows .entry)))) count ⌝ }
+{
+    if let Checked::Refused(refusal) = checked {
+        return Scanning::Refused(refusal);
+    }
+    scan_log(starts, &rows[..count])
 }
 
 // Is every prefix of the first count events justified? If not, the last event of the first that is not, and the cause. Each
@@ -156,9 +150,26 @@ pub fn scan_history(
     values: &[u32],
     count: usize,
 ) -> Scanning
-    ensures { λ r. ⌜ r ≡ scanAnswer edition (now (starts .entry)) (columns (now (kinds .entry)) (now (transactions .entry)) (now (registers .entry)) (now (values .entry))) count ⌝ }
+    ensures { λ r. ⌜
+        r ≡ scanAnswer edition (now (starts .entry))
+        (columns (now (kinds .entry)) (now (transactions .entry)) (now (registers .entry)) (now (values .entry))) count ⌝ }
 {
-    let checked = log::columns::check_history(
+    if count <= 64 {
+        let mut few = [[0u32; 4]; 64];
+        let checked = admit(
+            edition,
+            starts,
+            kinds,
+            transactions,
+            registers,
+            values,
+            count,
+            &mut few,
+        );
+        return scan_admitted(starts, checked, &few, count);
+    }
+    let mut rows = [[0u32; 4]; 2048];
+    let checked = admit(
         edition,
         starts,
         kinds,
@@ -166,9 +177,7 @@ pub fn scan_history(
         registers,
         values,
         count,
+        &mut rows,
     );
-    if let Checked::Refused(refusal) = checked {
-        return Scanning::Refused(refusal);
-    }
-    scan_readable(starts, kinds, transactions, registers, values, count)
+    scan_admitted(starts, checked, &rows, count)
 }

@@ -10,8 +10,8 @@ use mathlib.Core.Option.{Option, none, some, Option·getD, Option·none-ne-some,
 use lib.Dec.{eqb}
 use lib.ListN.{length, take}
 use Rattle.events.specs.declared.event.Event.{Event}
-use Rattle.log.specs.declared.columns.Checked.{Checked}
-use Rattle.log.specs.declared.columns.Checked.the-variants.{Readable, Refused as Refuses}
+use Rattle.log.specs.declared.admit.Checked.{Checked}
+use Rattle.log.specs.declared.admit.Checked.the-variants.{Readable, Refused as Refuses}
 use Rattle.events.specs.declared.refusal.Refusal.{Refusal}
 use Rattle.events.specs.Said.{refuse}
 use Rattle.lists.specs.Lists.{_and_, all, lowest}

@@ -18,8 +18,8 @@ use Rattle.log.specs.Rows.{logged, Admitted}
 use Rattle.log.specs.Starts.{startOf}
 use Rattle.log.proofs.RowLaws.{logged-length}
 use Rattle.log.specs.Answer.{historyAnswer}
-use Rattle.log.specs.declared.columns.Checked.{Checked}
-use Rattle.log.specs.declared.columns.Checked.the-variants.{Readable, Refused as Refuses}
+use Rattle.log.specs.declared.admit.Checked.{Checked}
+use Rattle.log.specs.declared.admit.Checked.the-variants.{Readable, Refused as Refuses}
 use Rattle.events.specs.Events.{begins}
 use Rattle.lists.proofs.ListLaws.{and-l, and-r}
 use Rattle.opacity.specs.declared.verdict.Verdict.{Verdict}
@@ -91,16 +91,3 @@ module _ (start : ℕ → ℕ) (h : List Event) (n : ℕ) (file output list : Li
         let s = ap length (content-bytes (known h) file by m holds) in
         let k = readable-length h m f in
         record { bytes = omega arith; entries = leb-true _ _ (and-r _ _ e) }
-
--- ---- the door: what was admitted is what the columns hold
-
-pub door : (edition : ℕ) (starts : List ℕ) (c : Columns) (n : ℕ) (file output list : List ℕ) (rows : List (List ℕ)) {x : Checked}
-    → x ≡ historyAnswer edition starts c n → (x ≡ Readable → Admitted (history c n) n rows)
-    → afterColumns (startOf starts) (logged (take n rows)) n file output list x ≡ straightenedAnswer edition starts c n file output list
-unfolding straightenedAnswer
-door edition starts c n file output list rows {x} e a = go x refl ∙ ap (afterColumns (startOf starts) (history c n) n file output list) e
-  where
-    go : (k : Checked) → x ≡ k
-        → afterColumns (startOf starts) (logged (take n rows)) n file output list k ≡ afterColumns (startOf starts) (history c n) n file output list k
-    go Readable q = ap (λ (h : List Event). afterColumns (startOf starts) h n file output list Readable) (a q .same)
-    go (Refuses r) q = refl

@@ -11,9 +11,9 @@ ghost use lib.ListN.{length, take};
 ghost use Rattle.lists.specs.Lists.{_and_};
 ghost use Rattle.events.specs.Events.{begins};
 ghost use Rattle.events.specs.Questions.{readable};
-ghost use Rattle.log.specs.declared.columns.Checked.the-variants.{Readable};
+ghost use Rattle.log.specs.declared.admit.Checked.the-variants.{Readable};
 ghost use Rattle.log.specs.Columns.{columns};
-ghost use Rattle.log.specs.Rows.{logged, Admitted};
+ghost use Rattle.log.specs.Rows.{logged, Entered};
 ghost use Rattle.log.specs.Starts.{startOf};
 ghost use Rattle.rules.specs.Judge.{content};
 ghost use Rattle.marking.specs.File.{known, fileRead};
@@ -29,8 +29,8 @@ use crate::write::list_moved;
 use crate::write::write_marking;
 use events::refusal::Refusal;
 use links::writes::links;
+use log::admit::Checked;
 use log::admit::admit;
-use log::columns::Checked;
 use log::rows::Row;
 use log::rows::transactions_begun;
 use marking::read::Reading;
@@ -193,7 +193,7 @@ fn straighten_admitted(
     output: &mut [u8],
     moved: &mut [u32],
 ) -> Straightening
-    requires { ⌜ (checked ≡ Readable → Admitted (logged (take count (now rows))) count (now rows)) ⌝ }
+    requires { ⌜ Entered checked count (now rows) ⌝ }
     ensures { λ r. ⌜ gives r (now (output .exit)) (now (moved .exit))
         ≡ afterColumns (startOf (now (starts .entry))) (logged (take count (now (rows .entry)))) count
         (now (file .entry)) (now (output .entry)) (now (moved .entry)) checked ⌝ }

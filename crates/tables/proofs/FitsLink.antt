@@ -169,7 +169,8 @@ module _ (o : List ℕ) (h : List Event) (good : Good h) (few : begins h ≤ 10)
         content : (r : ℕ) → r < 32 → contents (startOf o) W (decode p) r ≡ contents (startOf o) h (decode p) r
         content r l = looked-up-contents o h good p (λ i k. omega (arith, st .known i k)) r l
 
-        forth : all (legalAt o K W p t) (members set) ≡ true → every (λ i. eqb (eventAt h i .transaction) t implies (isStoreRead h i implies eqb (eventAt h i .value) (contents (startOf o) h (decode p) (eventAt h i .register)))) (length h) ≡ true
+        forth : all (legalAt o K W p t) (members set) ≡ true
+            → every (λ i. eqb (eventAt h i .transaction) t implies (isStoreRead h i implies eqb (eventAt h i .value) (contents (startOf o) h (decode p) (eventAt h i .register)))) (length h) ≡ true
         forth k = every-i _ _ (λ i l. imp-i _ _ (λ e. imp-i _ _ (λ s. go i l (eqb-true _ _ e) s)))
           where
             go : (i : ℕ) → i < length h → eventAt h i .transaction ≡ t → isStoreRead h i ≡ true → eqb (eventAt h i .value) (contents (startOf o) h (decode p) (eventAt h i .register)) ≡ true
@@ -182,7 +183,8 @@ module _ (o : List ℕ) (h : List Event) (good : Good h) (few : begins h ≤ 10)
                 let b : contents (startOf o) W (decode p) r ≡ eventAt h i .value = eqb-true _ _ (sym (legal-read o K W p t r (eventAt h i .value) w) ∙ a) in
                 eq-eqb _ _ (sym b ∙ content r lr)
 
-        back : every (λ i. eqb (eventAt h i .transaction) t implies (isStoreRead h i implies eqb (eventAt h i .value) (contents (startOf o) h (decode p) (eventAt h i .register)))) (length h) ≡ true → all (legalAt o K W p t) (members set) ≡ true
+        back : every (λ i. eqb (eventAt h i .transaction) t implies (isStoreRead h i implies eqb (eventAt h i .value) (contents (startOf o) h (decode p) (eventAt h i .register)))) (length h) ≡ true
+            → all (legalAt o K W p t) (members set) ≡ true
         back k = members-pass (legalAt o K W p t) set (λ r m. let l : r < 32 = marks .low t r (omega arith) m in ⊎-elim (legal-none o K W p t r 0) (go r l) (reads .some-read t r (omega arith) l))
           where
             go : (r : ℕ) → r < 32 → Wanted h (length h) t r (getD K (t * 32 + r) 0) → legalAt o K W p t r ≡ true

@@ -1,6 +1,5 @@
 -- What the proofs of several functions use, here and in the crates above.
 pub mod TableLaws
-pub mod NextLaws
 pub mod Meaning
 pub mod ReadMeaning
 pub mod ReadSets

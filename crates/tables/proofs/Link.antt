@@ -19,7 +19,6 @@ use Rattle.lists.proofs.ListLaws.{and-false-l, and-false-r, imp-e, clash, every
 use Rattle.opacity.proofs.Least.{none-iff}
 use Rattle.places.specs.Places.{decode}
 use Rattle.places.specs.Tree.{Completion, upFrom, firstCompletion}
-use Rattle.log.specs.Columns.{Columns, history}
 use Rattle.log.specs.Starts.{startOf}
 use Rattle.tables.specs.Tables.{Tables, tablesOf}
 use Rattle.tables.specs.Order.{decoded, constraintsOf, foundOrder, Judged}
@@ -66,11 +65,10 @@ module _ (o : List ℕ) (h : List Event) (good : Good h) (begun : (i : ℕ) → 
       go false q = completes q
 
 -- what the functions answer, one after the other
-pub found-by : (o : List ℕ) (c : Columns) (n : ℕ) (a : Completion) (s : Tables) (m : ℕ) → Judged c n → s ≡ tablesOf (history c n) → m ≡ begins (history c n)
-    → a ≡ cond (s .contradictory) none (firstCompletion (constraintsOf o s) m) → decoded a ≡ lowestOf (startOf o) (history c n)
+pub found-by : (o : List ℕ) (h : List Event) (a : Completion) (s : Tables) (m : ℕ) → Judged h → s ≡ tablesOf h → m ≡ begins h
+    → a ≡ cond (s .contradictory) none (firstCompletion (constraintsOf o s) m) → decoded a ≡ lowestOf (startOf o) h
 unfolding foundOrder
-found-by o c n a s m j e f g =
-    let h = history c n in
+found-by o h a s m j e f g =
     ap decoded g ∙ through (s .contradictory) (firstCompletion (constraintsOf o s) m)
     ∙ ap₂ (λ (x : Tables) (k : ℕ). cond (x .contradictory) none (decoded (firstCompletion (constraintsOf o x) k))) e f
     ∙ found-lowest o h (good h (j .readable) (j .few)) (transaction-known h (j .readable)) (j .few)

@@ -26,7 +26,6 @@ use Rattle.places.specs.Places.{codesOf, decode, plus, writesIn}
 use Rattle.places.specs.State.{Coded}
 use Rattle.places.proofs.StateLaws.{length-codes}
 use Rattle.places.proofs.LookupLaws.{held}
-use Rattle.log.specs.Columns.{Columns, history}
 use Rattle.tables.specs.Order.{Judged}
 use Rattle.tables.proofs.GoodHistory.{good}
 use Rattle.tables.specs.Tables.{tablesOf}
@@ -77,13 +76,13 @@ module _ (o : List ℕ) (h : List Event) (good : Good h) (p : List ℕ) (known :
   pub looked-up-serial : contents (startOf o) (writesIn (tablesOf h .written)) (decode p) r ≡ serialStore (startOf o) h (decode p) r
   looked-up-serial = looked-up-contents ∙ sym (serial-contents (startOf o) h (decode p) r)
 
--- The value that the lookup returns while the first n events are judged, whatever the places filled: what the committed transactions among
--- them, applied in order over the start values, leave in the register.
-pub value-looked-up : (o : List ℕ) (c : Columns) (n : ℕ) → Judged c n → (filled placed r v : ℕ) → Coded filled placed → r < 32
-    → v ≡ contents (startOf o) (writesIn (tablesOf (history c n) .written)) (decode (codesOf filled placed)) r
-    → v ≡ applied (startOf o) (history c n) (decode (codesOf filled placed)) r
-value-looked-up o c n j filled placed r v k low e =
-    e ∙ looked-up-applied o (history c n) (good (history c n) (j .readable) (j .few)) (codesOf filled placed) known r low
+-- The value that the lookup returns while a history is judged, whatever the places filled: what the committed transactions among them,
+-- applied in order over the start values, leave in the register.
+pub value-looked-up : (o : List ℕ) (h : List Event) → Judged h → (filled placed r v : ℕ) → Coded filled placed → r < 32
+    → v ≡ contents (startOf o) (writesIn (tablesOf h .written)) (decode (codesOf filled placed)) r
+    → v ≡ applied (startOf o) h (decode (codesOf filled placed)) r
+value-looked-up o h j filled placed r v k low e =
+    e ∙ looked-up-applied o h (good h (j .readable) (j .few)) (codesOf filled placed) known r low
   where
     known : Known (codesOf filled placed)
     known i l = omega (arith, k .codes i (rw (length-codes filled placed) at l))

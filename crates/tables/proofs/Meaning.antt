@@ -19,18 +19,18 @@ use Rattle.opacity.specs.Transactions.{precedes, Status, status, lastWrite}
 use Rattle.lists.proofs.ListLaws.{and-l, and-r, and-i, or-l, or-r, or-false, any-weaken, latest-snoc}
 use Rattle.events.proofs.StateLaws.{has-snoc}
 use Rattle.opacity.proofs.Snoc.{precedes-more}
+use Rattle.opacity.proofs.Statuses.{not-committed, not-aborted}
 use Rattle.places.specs.Bits.{bitAt}
 use Rattle.places.specs.Places.{plus}
 use Rattle.places.proofs.BitLaws.{bit-none, bit-with}
-use Rattle.tables.specs.Tables.{Tables, slotOf, next, empty, goThrough, tablesOf}
+use Rattle.tables.specs.Tables.{Tables, slotOf, hasOwn, next, empty, goThrough, tablesOf}
 use Rattle.tables.proofs.TableLaws.{tables-snoc}
-use Rattle.tables.proofs.NextLaws.{Sort, begin, read, write, ask, commit, abort, other, sort, ended-next, predecessors-next, written-next, allowed-next, required-next}
 
 -- what the tables need of an event e after the events past
 pub record Fine (past : List Event) (e : Event) : Type 0 where
   pub transaction : e .transaction < 10
   pub register : e .register < 32
-  pub going : isBegin e ≡ false → ended (e .transaction) past ≡ false
+  pub going : ended (e .transaction) past ≡ false
 
 abbrev pub Good : List Event → Type 0
 Good h = (i : ℕ) → i < length h → Fine (take i h) (eventAt h i)
@@ -118,14 +118,6 @@ unfolding _or_
 or-true true = refl
 or-true false = refl
 
-no-commit : (t : ℕ) (past : List Event) → ended t past ≡ false → has isCommit t past ≡ false
-unfolding ended has by isEnd
-no-commit t past q = any-weaken (by isEnd t) (by isCommit t) past (λ e k. and-i _ _ (and-l _ _ k) (or-l _ _ (and-r _ _ k))) q
-
-no-abort : (t : ℕ) (past : List Event) → ended t past ≡ false → has isAbort t past ≡ false
-unfolding ended has by isEnd
-no-abort t past q = any-weaken (by isEnd t) (by isAbort t) past (λ e k. and-i _ _ (and-l _ _ k) (or-r _ _ (and-r _ _ k))) q
-
 ends : (b c : Bool) → (b ≡ true → c ≡ true) → digit c ≡ digit (b or (c and true))
 unfolding _or_ _and_
 ends true c f = ap digit (f refl)
@@ -149,8 +141,8 @@ module _ (h : List Event) (good : Good h) where
   -- ---- those that have ended, and those that had ended before a transaction began
 
   ended-step : (s : Tables) (past : List Event) (e : Event) (x : ℕ) → bitAt x (s .ended) ≡ digit (ended x past) → bitAt x (next s e .ended) ≡ digit (ended x (past ++ (e ∷ [])))
-  unfolding ended
-  ended-step s past e x q = rw (ended-next s e, has-snoc isEnd past e x) (go (isEnd e) refl (eqb (e .transaction) x) refl)
+  unfolding ended next
+  ended-step s past e x q = rw (has-snoc isEnd past e x) (go (isEnd e) refl (eqb (e .transaction) x) refl)
     where
       go : (b : Bool) → isEnd e ≡ b → (d : Bool) → eqb (e .transaction) x ≡ d → bitAt x (cond b (bitOr (s .ended) (2 ^ e .transaction)) (s .ended)) ≡ digit (has isEnd x past or by isEnd x e)
       go true f true g = rw (bit-with x (e .transaction) (s .ended), g, by-same isEnd x e g, f, or-true)
@@ -164,21 +156,22 @@ module _ (h : List Event) (good : Good h) where
   lengths-step : (s : Tables) (e : Event)
       → (length (s .predecessors) ≡ 10) × (length (s .allowed) ≡ 10) × (length (s .required) ≡ 320) × (length (s .written) ≡ 320)
       → (length (next s e .predecessors) ≡ 10) × (length (next s e .allowed) ≡ 10) × (length (next s e .required) ≡ 320) × (length (next s e .written) ≡ 320)
-  lengths-step s e q = rw (predecessors-next s e, allowed-next s e, required-next s e, written-next s e) (b (isBegin e), a (asksCommit e) (isCommit e) (isAbort e), w (isRead e) (eqb (getD (s .written) (slotOf e) 0) 0), v (isWrite e))
+  unfolding next
+  lengths-step s e q = (b (isBegin e), a (isCommit e) (isAbort e) (asksCommit e), w (isRead e) (hasOwn (s .written) e), v (isWrite e))
     where
       b : (x : Bool) → length (cond x (set (s .predecessors) (e .transaction) (s .ended)) (s .predecessors)) ≡ 10
       b true = length-set (s .predecessors) (e .transaction) (s .ended) ∙ q .0
       b false = q .0
 
-      a : (x y z : Bool) → length (cond x (set (s .allowed) (e .transaction) 2) (cond y (set (s .allowed) (e .transaction) 1) (cond z (set (s .allowed) (e .transaction) 0) (s .allowed)))) ≡ 10
-      a true y z = length-set (s .allowed) (e .transaction) 2 ∙ q .1
-      a false true z = length-set (s .allowed) (e .transaction) 1 ∙ q .1
-      a false false true = length-set (s .allowed) (e .transaction) 0 ∙ q .1
+      a : (x y z : Bool) → length (cond x (set (s .allowed) (e .transaction) 1) (cond y (set (s .allowed) (e .transaction) 0) (cond z (set (s .allowed) (e .transaction) 2) (s .allowed)))) ≡ 10
+      a true y z = length-set (s .allowed) (e .transaction) 1 ∙ q .1
+      a false true z = length-set (s .allowed) (e .transaction) 0 ∙ q .1
+      a false false true = length-set (s .allowed) (e .transaction) 2 ∙ q .1
       a false false false = q .1
 
-      w : (x y : Bool) → length (cond x (cond y (set (s .required) (slotOf e) (e .value + 1)) (s .required)) (s .required)) ≡ 320
-      w true true = length-set (s .required) (slotOf e) (e .value + 1) ∙ q .2
-      w true false = q .2
+      w : (x y : Bool) → length (cond x (cond y (s .required) (set (s .required) (slotOf e) (e .value + 1))) (s .required)) ≡ 320
+      w true true = q .2
+      w true false = length-set (s .required) (slotOf e) (e .value + 1) ∙ q .2
       w false y = q .2
 
       v : (x : Bool) → length (cond x (set (s .written) (slotOf e) (e .value + 1)) (s .written)) ≡ 320
@@ -192,9 +185,11 @@ module _ (h : List Event) (good : Good h) where
   predecessors-step : (s : Tables) (past : List Event) (e : Event) (t x : ℕ) → length (s .predecessors) ≡ 10 → t < 10
       → bitAt x (s .ended) ≡ digit (ended x past) → bitAt x (getD (s .predecessors) t 0) ≡ digit (precedes past x t)
       → bitAt x (getD (next s e .predecessors) t 0) ≡ digit (precedes (past ++ (e ∷ [])) x t)
-  predecessors-step s past e t x k l q p = rw (predecessors-next s e, precedes-snoc past e x t) (go (isBegin e) refl (eqb (e .transaction) t) refl)
+  unfolding next
+  predecessors-step s past e t x k l q p = rw (precedes-snoc past e x t) (go (isBegin e) refl (eqb (e .transaction) t) refl)
     where
-      go : (b : Bool) → isBegin e ≡ b → (d : Bool) → eqb (e .transaction) t ≡ d → bitAt x (getD (cond b (set (s .predecessors) (e .transaction) (s .ended)) (s .predecessors)) t 0) ≡ digit (precedes past x t or (ended x past and by isBegin t e))
+      go : (b : Bool) → isBegin e ≡ b → (d : Bool) → eqb (e .transaction) t ≡ d
+          → bitAt x (getD (cond b (set (s .predecessors) (e .transaction) (s .ended)) (s .predecessors)) t 0) ≡ digit (precedes past x t or (ended x past and by isBegin t e))
       go true f true g =
           let w : getD (set (s .predecessors) (e .transaction) (s .ended)) t 0 ≡ s .ended =
           rw (eqb-true (e .transaction) t g) (getD-set-same (s .predecessors) t (s .ended) 0 (rw k l)) in
@@ -215,8 +210,8 @@ module _ (h : List Event) (good : Good h) where
 
   written-step : (s : Tables) (past : List Event) (e : Event) → e .transaction < 10 → e .register < 32 → length (s .written) ≡ 320 → (t r : ℕ) → t < 10 → r < 32
       → getD (s .written) (t * 32 + r) 0 ≡ plus (lastWrite past t r) → getD (next s e .written) (t * 32 + r) 0 ≡ plus (lastWrite (past ++ (e ∷ [])) t r)
-  unfolding _and_
-  written-step s past e a b k t r lt lr q = rw (written-next s e, last-snoc past e t r) (go (isWrite e) refl (eqb (e .transaction) t) refl (eqb (e .register) r) refl)
+  unfolding _and_ next
+  written-step s past e a b k t r lt lr q = rw (last-snoc past e t r) (go (isWrite e) refl (eqb (e .transaction) t) refl (eqb (e .register) r) refl)
     where
       go : (b : Bool) → isWrite e ≡ b → (d : Bool) → eqb (e .transaction) t ≡ d → (f : Bool) → eqb (e .register) r ≡ f
           → getD (cond b (set (s .written) (slotOf e) (e .value + 1)) (s .written)) (t * 32 + r) 0
@@ -240,65 +235,52 @@ module _ (h : List Event) (good : Good h) where
 
   -- ---- the outcomes allowed
 
-  allowed-step : (s : Tables) (past : List Event) (e : Event) → length (s .allowed) ≡ 10 → (isBegin e ≡ false → ended (e .transaction) past ≡ false) → (t : ℕ) → t < 10
+  allowed-step : (s : Tables) (past : List Event) (e : Event) → length (s .allowed) ≡ 10 → ended (e .transaction) past ≡ false → (t : ℕ) → t < 10
       → getD (s .allowed) t 0 ≡ rule (status past t) → getD (next s e .allowed) t 0 ≡ rule (status (past ++ (e ∷ [])) t)
-  unfolding status
+  unfolding status next
   allowed-step s past e k going t l q =
-      rw (allowed-next s e, has-snoc isCommit past e t, has-snoc isAbort past e t, has-snoc asksCommit past e t) (go (eqb (e .transaction) t) refl (sort e))
+      rw (has-snoc isCommit past e t, has-snoc isAbort past e t, has-snoc asksCommit past e t)
+      (go (eqb (e .transaction) t) refl (isCommit e) refl (isAbort e) refl (asksCommit e) refl)
     where
-      now : ℕ → Bool → Bool → Bool → Type 0
-      now v c x a = v ≡ rule (cond (has isCommit t past or c) Status.committed (cond (has isAbort t past or x) Status.aborted (cond (has asksCommit t past or a) Status.pending Status.live)))
+      after : Bool → Bool → Bool → ℕ
+      after c x a = getD (cond c (set (s .allowed) (e .transaction) 1) (cond x (set (s .allowed) (e .transaction) 0) (cond a (set (s .allowed) (e .transaction) 2) (s .allowed)))) t 0
 
-      new : ℕ
-      new = getD (cond (asksCommit e) (set (s .allowed) (e .transaction) 2) (cond (isCommit e) (set (s .allowed) (e .transaction) 1) (cond (isAbort e) (set (s .allowed) (e .transaction) 0) (s .allowed)))) t 0
-
-      still : asksCommit e ≡ false → isCommit e ≡ false → isAbort e ≡ false → now new (by isCommit t e) (by isAbort t e) (by asksCommit t e)
-      still a c x = simp (a, c, x, by-not isCommit t e c, by-not isAbort t e x, by-not asksCommit t e a, or-false) q
-
-      away : eqb (e .transaction) t ≡ false → (a c x : Bool)
-          → getD (cond a (set (s .allowed) (e .transaction) 2) (cond c (set (s .allowed) (e .transaction) 1) (cond x (set (s .allowed) (e .transaction) 0) (s .allowed)))) t 0 ≡ getD (s .allowed) t 0
-      away f true c x = getD-set-other (s .allowed) (e .transaction) t 2 0 (λ r. eqb-false (e .transaction) t f (sym r))
-      away f false true x = getD-set-other (s .allowed) (e .transaction) t 1 0 (λ r. eqb-false (e .transaction) t f (sym r))
-      away f false false true = getD-set-other (s .allowed) (e .transaction) t 0 0 (λ r. eqb-false (e .transaction) t f (sym r))
+      away : eqb (e .transaction) t ≡ false → (c x a : Bool) → after c x a ≡ getD (s .allowed) t 0
+      away f true x a = getD-set-other (s .allowed) (e .transaction) t 1 0 (λ r. eqb-false (e .transaction) t f (sym r))
+      away f false true a = getD-set-other (s .allowed) (e .transaction) t 0 0 (λ r. eqb-false (e .transaction) t f (sym r))
+      away f false false true = getD-set-other (s .allowed) (e .transaction) t 2 0 (λ r. eqb-false (e .transaction) t f (sym r))
       away f false false false = refl
 
       here : (v : ℕ) → eqb (e .transaction) t ≡ true → getD (set (s .allowed) (e .transaction) v) t 0 ≡ v
       here v f = let w = eqb-true (e .transaction) t f in rw w (getD-set-same (s .allowed) t v 0 (rw k l))
 
-      unended : eqb (e .transaction) t ≡ true → isBegin e ≡ false → ended t past ≡ false
-      unended f b = rw (eqb-true (e .transaction) t f) at (going b)
+      unended : eqb (e .transaction) t ≡ true → ended t past ≡ false
+      unended f = rw (eqb-true (e .transaction) t f) at going
 
-      go : (d : Bool) → eqb (e .transaction) t ≡ d → Sort e → now new (by isCommit t e) (by isAbort t e) (by asksCommit t e)
-      go false f u =
-          simp (by-other isCommit t e f, by-other isAbort t e f, by-other asksCommit t e f, or-false)
-          (away f (asksCommit e) (isCommit e) (isAbort e) ∙ q)
-      go true f (begin u) = still (u .asks) (u .commits) (u .aborts)
-      go true f (read u) = still (u .asks) (u .commits) (u .aborts)
-      go true f (write u) = still (u .asks) (u .commits) (u .aborts)
-      go true f (other u) = still (u .asks) (u .commits) (u .aborts)
-      go true f (ask u) =
+      go : (d : Bool) → eqb (e .transaction) t ≡ d → (c : Bool) → isCommit e ≡ c → (x : Bool) → isAbort e ≡ x → (a : Bool) → asksCommit e ≡ a
+          → after c x a
+          ≡ rule
+          (cond (has isCommit t past or by isCommit t e) Status.committed
+          (cond (has isAbort t past or by isAbort t e) Status.aborted
+          (cond (has asksCommit t past or by asksCommit t e) Status.pending
+          Status.live)))
+      go false f c u x v a w =
+          simp (by-other isCommit t e f, by-other isAbort t e f, by-other asksCommit t e f, or-false) (away f c x a ∙ q)
+      go true f true u x v a w = simp (by-same isCommit t e f, u, or-true) (here 1 f)
+      go true f false u true v a w =
+          simp (by-not isCommit t e u, by-same isAbort t e f, v, or-false, or-true, not-committed t past (unended f)) (here 0 f)
+      go true f false u false v true w =
           simp (
-            u .asks,
-            by-not isCommit t e (u .commits),
-            by-not isAbort t e (u .aborts),
+            by-not isCommit t e u,
+            by-not isAbort t e v,
             by-same asksCommit t e f,
+            w,
             or-false,
             or-true,
-            no-commit t past (unended f (u .begins)),
-            no-abort t past (unended f (u .begins)),
+            not-committed t past (unended f),
+            not-aborted t past (unended f),
           ) (here 2 f)
-      go true f (commit u) = simp (u .asks, u .commits, by-same isCommit t e f, or-true) (here 1 f)
-      go true f (abort u) =
-          simp (
-            u .asks,
-            u .commits,
-            u .aborts,
-            by-not isCommit t e (u .commits),
-            by-same isAbort t e f,
-            or-false,
-            or-true,
-            no-commit t past (unended f (u .begins)),
-          ) (here 0 f)
+      go true f false u false v false w = simp (by-not isCommit t e u, by-not isAbort t e v, by-not asksCommit t e w, or-false) q
 
   pub allowed-holds : (n : ℕ) → n ≤ length h → (t : ℕ) → t < 10 → getD (tab n .allowed) t 0 ≡ rule (status (take n h) t)
   allowed-holds zero l t k = allowed-zero t k

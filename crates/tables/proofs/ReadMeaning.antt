@@ -16,10 +16,9 @@ use Rattle.lists.specs.Lists.{_and_, _or_, _implies_}
 use Rattle.events.specs.declared.event.Event.{Event}
 use Rattle.events.specs.Events.{eventAt, isRead}
 use Rattle.opacity.specs.Transactions.{ownWrite, isOwnRead, isStoreRead, ownRight}
-use Rattle.lists.proofs.ListLaws.{or-cases, nor-l, nor-r, clash, below-cases}
+use Rattle.lists.proofs.ListLaws.{or-cases, or-false, nor-l, nor-r, clash, below-cases}
 use Rattle.places.specs.Places.{plus}
-use Rattle.tables.specs.Tables.{Tables, slotOf, clashes, empty, goThrough, tablesOf}
-use Rattle.tables.proofs.NextLaws.{required-next, contradictory-next}
+use Rattle.tables.specs.Tables.{Tables, slotOf, clashes, hasOwn, next, empty, goThrough, tablesOf}
 use Rattle.tables.proofs.Meaning.{Fine, Good, tab, tab-suc, lengths, written-holds, required-zero}
 
 no-clash : (old v : ℕ) → clashes old v ≡ false → (old ≡ 0 → ⊥) → old ≡ v
@@ -175,7 +174,7 @@ contradictory-zero = refl
 
 module _ (h : List Event) (good : Good h) where
   pub reads-hold : (n : ℕ) → n ≤ length h → Reads h n (tab h good n .required) (tab h good n .contradictory)
-  unfolding ownWrite
+  unfolding ownWrite next
   reads-hold zero l =
       record {
         each = λ c i m s. absurd (not-suc-le-zero m);
@@ -184,7 +183,7 @@ module _ (h : List Event) (good : Good h) where
         bad = λ c. absurd (clash c contradictory-zero);
       }
   reads-hold (suc n) l =
-      rw (tab-suc h good n l, required-next (tab h good n) (eventAt h n), contradictory-next (tab h good n) (eventAt h n)) (go (isRead (eventAt h n)) refl (ownWrite h n) refl (reads-hold n (le-of-lt l)))
+      rw (tab-suc h good n l) (go (isRead (eventAt h n)) refl (ownWrite h n) refl (reads-hold n (le-of-lt l)))
     where
       s : Tables
       s = tab h good n
@@ -199,9 +198,9 @@ module _ (h : List Event) (good : Good h) where
       held = written-holds h good n (le-of-lt l) (e .transaction) (e .register) (f .transaction) (f .register)
 
       go : (r : Bool) → isRead e ≡ r → (o : Option ℕ) → ownWrite h n ≡ o → Reads h n (s .required) (s .contradictory)
-          → Reads h (suc n) (cond r (cond (eqb (getD (s .written) (slotOf e) 0) 0) (set (s .required) (slotOf e) (e .value + 1)) (s .required)) (s .required))
-          (cond r (s .contradictory or clashes (cond (eqb (getD (s .written) (slotOf e) 0) 0) (getD (s .required) (slotOf e) 0) (getD (s .written) (slotOf e) 0)) (e .value + 1)) (s .contradictory))
-      go false q o w ih = more-none h n (s .required) (s .contradictory) ih q
+          → Reads h (suc n) (cond r (cond (hasOwn (s .written) e) (s .required) (set (s .required) (slotOf e) (e .value + 1))) (s .required))
+          (s .contradictory or cond r (clashes (cond (hasOwn (s .written) e) (getD (s .written) (slotOf e) 0) (getD (s .required) (slotOf e) 0)) (e .value + 1)) false)
+      go false q o w ih = rw or-false (more-none h n (s .required) (s .contradictory) ih q)
       go true q none w ih =
           let z : getD (s .written) (slotOf e) 0 ≡ 0 = held ∙ ap plus w in
           rw z (more-store h n (s .required) (s .contradictory) ih f (λ i m. good i (omega arith)) (lengths h good n (le-of-lt l) .2) q w)

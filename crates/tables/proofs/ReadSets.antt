@@ -20,8 +20,7 @@ use Rattle.opacity.specs.Transactions.{ownWrite, isStoreRead}
 use Rattle.lists.proofs.ListLaws.{and-false-r, clash, below-cases}
 use Rattle.places.specs.Bits.{bitAt}
 use Rattle.places.specs.Places.{plus}
-use Rattle.tables.specs.Tables.{Tables, slotOf, withRegister, empty, goThrough, tablesOf}
-use Rattle.tables.proofs.NextLaws.{reads-next}
+use Rattle.tables.specs.Tables.{Tables, slotOf, hasOwn, withRegister, next, empty, goThrough, tablesOf}
 use Rattle.places.proofs.BitLaws.{bit-none, bit-with}
 use Rattle.tables.proofs.Meaning.{Fine, Good, tab, tab-suc, written-holds}
 
@@ -126,8 +125,9 @@ marks-zero h =
 
 module _ (h : List Event) (good : Good h) where
   pub marks-hold : (n : ℕ) → n ≤ length h → Marks h n (tab h good n .reads)
+  unfolding next
   marks-hold zero l = marks-zero h
-  marks-hold (suc n) l = rw (tab-suc h good n l, reads-next (tab h good n) (eventAt h n)) (go (isRead (eventAt h n)) refl (ownWrite h n) refl (marks-hold n (le-of-lt l)))
+  marks-hold (suc n) l = rw (tab-suc h good n l) (go (isRead (eventAt h n)) refl (ownWrite h n) refl (marks-hold n (le-of-lt l)))
     where
       s : Tables
       s = tab h good n
@@ -142,13 +142,11 @@ module _ (h : List Event) (good : Good h) where
       held = written-own h good n l
 
       go : (r : Bool) → isRead e ≡ r → (o : Option ℕ) → ownWrite h n ≡ o → Marks h n (s .reads)
-          → Marks h (suc n) (cond r (cond (eqb (getD (s .written) (slotOf e) 0) 0) (withRegister (s .reads) (slotOf e / 32) (slotOf e % 32)) (s .reads)) (s .reads))
+          → Marks h (suc n) (cond r (cond (hasOwn (s .written) e) (s .reads) (withRegister (s .reads) (e .transaction) (e .register))) (s .reads))
       go false q o w ih = more-none h n (s .reads) ih (no-read h n q)
       go true q none w ih =
           let z : getD (s .written) (slotOf e) 0 ≡ 0 = held ∙ ap plus w in
-          let t : slotOf e / 32 ≡ e .transaction = omega (arith, f .register) in
-          let r : slotOf e % 32 ≡ e .register = omega (arith, f .register) in
-          rw (z, t, r) (more-read h n (s .reads) ih (f .transaction) (f .register))
+          rw z (more-read h n (s .reads) ih (f .transaction) (f .register))
       go true q (some v) w ih =
           let z : getD (s .written) (slotOf e) 0 ≡ v + 1 = held ∙ ap plus w in
           let x : eqb (v + 1) 0 ≡ false = ne-eqb (v + 1) 0 (λ k. omega arith) in

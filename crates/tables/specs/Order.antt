@@ -6,8 +6,6 @@ use Prim.Native.Nat.{ℕ, _≤_}
 use mathlib.Core.Bool.{true, cond}
 use mathlib.Core.List.{List}
 use mathlib.Core.Option.{Option, none, some}
-use lib.ListN.{length}
-use Rattle.log.specs.Columns.{Columns, history}
 use Rattle.events.specs.Questions.{readable}
 use Rattle.events.specs.declared.event.Event.{Event}
 use Rattle.events.specs.Events.{begins}
@@ -27,14 +25,10 @@ constraintsOf o s = constraints o (s .predecessors) (s .allowed) (s .reads) (s .
 unfoldable pub foundOrder : List ℕ → List Event → Option (List Place)
 foundOrder o h = cond (tablesOf h .contradictory) none (decoded (firstCompletion (constraintsOf o (tablesOf h)) (begins h)))
 
--- what is judged: the first n entries of the columns are a readable history of at most ten transactions
-pub record Judged (c : Columns) (n : ℕ) : Type 0 where
-  pub kinds-long : n ≤ length (c .kinds)
-  pub transactions-long : n ≤ length (c .transactions)
-  pub registers-long : n ≤ length (c .registers)
-  pub values-long : n ≤ length (c .values)
-  pub readable : readable (history c n) ≡ true
-  pub few : begins (history c n) ≤ 10
+-- what is judged: a readable history of at most ten transactions
+pub record Judged (h : List Event) : Type 0 where
+  pub readable : readable h ≡ true
+  pub few : begins h ≤ 10
 
 -- the order of places of a history that an answer has
 abbrev pub orderOf : List Event → ℕ → Option (List Place)

@@ -1,17 +1,15 @@
 -- Vocabulary between crates: it need not be believed, the public contracts end in the paper's definitions.
 -- The tables of a history, one event at a time.
 -- Assumes nothing.
-use mathlib.Core.Path.{_≡_}
-use Prim.Native.Nat.{ℕ, _+_, _*_, _/_, _%_, _^_, _≤_, _<_}
+use Prim.Native.Nat.{ℕ, _+_, _*_, _^_, _<_}
 use mathlib.Core.Bool.{Bool, false, not, cond}
 use mathlib.Core.List.{List, [], _∷_}
-use lib.ListN.{length, getD, set, replicate}
+use lib.ListN.{getD, set, replicate}
 use lib.Dec.{eqb}
 use lib.Bits.{bitOr}
 use Rattle.lists.specs.Lists.{_and_, _or_}
 use Rattle.events.specs.declared.event.Event.{Event}
-use Rattle.events.specs.Events.{isBegin, isRead, isWrite, asksCommit, isCommit, isAbort}
-use Rattle.log.specs.Columns.{Columns}
+use Rattle.events.specs.Events.{isBegin, isRead, isWrite, asksCommit, isCommit, isAbort, isEnd}
 use Rattle.tables.specs.declared.Standing.{Standing}
 
 -- at t: the transactions that ended before t began, its outcome, and the registers that it reads from the store; at 32 * t + r: what its
@@ -38,13 +36,6 @@ tablesBy s b a x q w =
       contradictory = s .contradictory;
     }
 
--- two ways to the tables agree, whatever the predecessors and the outcomes allowed
-abbrev pub Becomes : (List ℕ → List ℕ → Tables) → (List ℕ → List ℕ → Tables) → Type 0
-Becomes f g = (b a : List ℕ) → f b a ≡ g b a
-
-abbrev pub event : ℕ → ℕ → ℕ → ℕ → Event
-event k t r v = record { kind = k; transaction = t; register = r; value = v }
-
 -- where a table holds what the transaction of an event has at its register
 abbrev pub slotOf : Event → ℕ
 slotOf e = e .transaction * 32 + e .register
@@ -53,45 +44,62 @@ slotOf e = e .transaction * 32 + e .register
 unfoldable pub clashes : ℕ → ℕ → Bool
 clashes old v = not (eqb old 0) and not (eqb old v)
 
-unfoldable pub begun : Tables → ℕ → Tables
-begun s t =
-    record { ended = s .ended; predecessors = set (s .predecessors) t (s .ended); allowed = s .allowed; reads = s .reads; required = s .required; written = s .written; contradictory = s .contradictory }
-
-unfoldable pub settled : Tables → ℕ → ℕ → ℕ → Tables
-settled s t rule over =
-    record { ended = over; predecessors = s .predecessors; allowed = set (s .allowed) t rule; reads = s .reads; required = s .required; written = s .written; contradictory = s .contradictory }
-
-unfoldable pub writtenAt : Tables → ℕ → ℕ → Tables
-writtenAt s k v =
-    record { ended = s .ended; predecessors = s .predecessors; allowed = s .allowed; reads = s .reads; required = s .required; written = set (s .written) k v; contradictory = s .contradictory }
-
 -- the sets, with r in that at t
 unfoldable pub withRegister : List ℕ → ℕ → ℕ → List ℕ
 withRegister sets t r = set sets t (bitOr (getD sets t 0) (2 ^ r))
 
--- a read of an own write is wrong if it returns another value, and two store reads of one register disagree
-unfoldable pub readAt : Tables → ℕ → ℕ → Tables
-readAt s k v =
-    record {
-      ended = s .ended;
-      predecessors = s .predecessors;
-      allowed = s .allowed;
-      reads = cond (eqb (getD (s .written) k 0) 0) (withRegister (s .reads) (k / 32) (k % 32)) (s .reads);
-      required = cond (eqb (getD (s .written) k 0) 0) (set (s .required) k v) (s .required);
-      written = s .written;
-      contradictory = s .contradictory or clashes (cond (eqb (getD (s .written) k 0) 0) (getD (s .required) k 0) (getD (s .written) k 0)) v;
-    }
+-- What an event makes of each table by itself: what it does to one says nothing of the others, so that an event may be several things at
+-- once.
+
+-- an end joins those that have ended
+abbrev pub endedWith : ℕ → Event → ℕ
+endedWith ended e = cond (isEnd e) (bitOr ended (2 ^ e .transaction)) ended
+
+-- those that have ended come before one that begins
+abbrev pub predecessorsWith : ℕ → List ℕ → Event → List ℕ
+predecessorsWith ended predecessors e = cond (isBegin e) (set predecessors (e .transaction) ended) predecessors
+
+-- the outcome is the recorded one, and free after a commit called and unanswered
+abbrev pub allowedWith : List ℕ → Event → List ℕ
+allowedWith allowed e =
+    cond (isCommit e) (set allowed (e .transaction) 1)
+    (cond (isAbort e) (set allowed (e .transaction) 0)
+    (cond (asksCommit e) (set allowed (e .transaction) 2)
+    allowed))
+
+-- the transaction of the event has written its register
+abbrev pub hasOwn : List ℕ → Event → Bool
+hasOwn written e = not (eqb (getD written (slotOf e) 0) 0)
+
+-- a register that is read from the store joins those read before it
+abbrev pub readsWith : List ℕ → List ℕ → Event → List ℕ
+readsWith written reads e = cond (isRead e) (cond (hasOwn written e) reads (withRegister reads (e .transaction) (e .register))) reads
+
+-- and what the read returns is required there
+abbrev pub requiredWith : List ℕ → List ℕ → Event → List ℕ
+requiredWith written required e = cond (isRead e) (cond (hasOwn written e) required (set required (slotOf e) (e .value + 1))) required
+
+abbrev pub writtenWith : List ℕ → Event → List ℕ
+writtenWith written e = cond (isWrite e) (set written (slotOf e) (e .value + 1)) written
+
+-- a read is wrong wherever its transaction is placed: it returns another value than its own write, or than a store read of the register
+-- before it
+abbrev pub contradicts : List ℕ → List ℕ → Event → Bool
+contradicts written required e =
+    cond (isRead e) (clashes (cond (hasOwn written e) (getD written (slotOf e) 0) (getD required (slotOf e) 0)) (e .value + 1)) false
 
 -- one event more
 unfoldable pub next : Tables → Event → Tables
 next s e =
-    cond (isBegin e) (begun s (e .transaction))
-    (cond (isRead e) (readAt s (slotOf e) (e .value + 1))
-    (cond (isWrite e) (writtenAt s (slotOf e) (e .value + 1))
-    (cond (asksCommit e) (settled s (e .transaction) 2 (s .ended))
-    (cond (isCommit e) (settled s (e .transaction) 1 (bitOr (s .ended) (2 ^ e .transaction)))
-    (cond (isAbort e) (settled s (e .transaction) 0 (bitOr (s .ended) (2 ^ e .transaction)))
-    s)))))
+    record {
+      ended = endedWith (s .ended) e;
+      predecessors = predecessorsWith (s .ended) (s .predecessors) e;
+      allowed = allowedWith (s .allowed) e;
+      reads = readsWith (s .written) (s .reads) e;
+      required = requiredWith (s .written) (s .required) e;
+      written = writtenWith (s .written) e;
+      contradictory = s .contradictory or contradicts (s .written) (s .required) e;
+    }
 
 unfoldable pub empty : Tables
 empty =
@@ -112,11 +120,7 @@ goThrough s (e ∷ h) = goThrough (next s e) h
 unfoldable pub tablesOf : List Event → Tables
 tablesOf h = goThrough empty h
 
--- the columns hold n events, of transactions below 10 at registers below 32
-pub record InTables (c : Columns) (n : ℕ) : Type 0 where
-  pub kinds-long : n ≤ length (c .kinds)
-  pub transactions-long : n ≤ length (c .transactions)
-  pub registers-long : n ≤ length (c .registers)
-  pub values-long : n ≤ length (c .values)
-  pub transaction : (i : ℕ) → i < n → getD (c .transactions) i 0 < 10
-  pub register : (i : ℕ) → i < n → getD (c .registers) i 0 < 32
+-- an event that the tables have room for: its transaction is below 10, its register below 32
+pub record Tabled (e : Event) : Type 0 where
+  pub transaction : e .transaction < 10
+  pub register : e .register < 32

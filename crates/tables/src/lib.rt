@@ -2,18 +2,25 @@
 ghost use mathlib.Core.Path.{_≡_};
 ghost use mathlib.Core.Bool.{cond};
 ghost use mathlib.Core.Option.{none};
-ghost use Prim.Native.Nat.{_+_, _*_, _^_, _≤_, _<_};
-ghost use lib.Bits.{bitOr};
-ghost use lib.ListN.{replicate, set};
+ghost use Prim.Native.Nat.{_+_, _*_, _≤_, _<_};
+ghost use lib.ListN.{replicate};
 ghost use Rattle.lists.specs.Lists.{_or_};
-ghost use Rattle.events.specs.Events.{isWrite};
-ghost use Rattle.log.specs.Columns.{columns, history};
+ghost use Rattle.log.specs.Rows.{logged};
 ghost use Rattle.log.specs.Starts.{startOf};
 ghost use Rattle.opacity.specs.Lowest.{lowestOf};
 ghost use Rattle.places.specs.Tree.{firstCompletion, Answers};
 ghost use Rattle.tables.specs.Order.{constraintsOf, Judged, orderOf};
-ghost use Rattle.tables.specs.Tables.{tablesBy, Becomes, event, clashes, readAt, next, empty};
-use records::record::Record;
+ghost use Rattle.tables.specs.Tables.{tablesBy, Tabled, clashes, contradicts, next, empty};
+ghost use Rattle.tables.specs.Tables.{endedWith, predecessorsWith, allowedWith, readsWith, requiredWith, writtenWith};
+use events::event::Event;
+use events::event::asks_commit;
+use events::event::is_abort;
+use events::event::is_begin;
+use events::event::is_commit;
+use events::event::is_end;
+use events::event::is_read;
+use events::event::is_write;
+use log::rows::Row;
 
 const REGISTERS: usize = 32;
 
@@ -62,58 +69,92 @@ fn differs(old: u64, v: u64) -> bool
     old != v
 }
 
-// The table of last writes with one event more.
-pub fn note_write(written: &mut [u64; 320], kind: u16, t: u16, r: u16, value: u32)
-    requires { ⌜ t < 10 ⌝ }
-    requires { ⌜ r < 32 ⌝ }
-    ensures { λ _. ⌜ now (written .exit) ≡ cond (isWrite (event kind t r value)) (set (now (written .entry)) (t * 32 + r) (value + 1)) (now (written .entry)) ⌝ }
+// Those that have ended, with one event more.
+fn ended_with(ended: u64, e: Event) -> u64
+    requires { ⌜ Tabled e ⌝ }
+    ensures { λ r. ⌜ r ≡ endedWith ended e ⌝ }
 {
-    if kind == Record::WRITE {
-        written[slot(t, r)] = stored(value);
+    if is_end(e) {
+        return places::sets::with(ended, e.transaction as usize);
+    }
+    ended
+}
+
+// Those that have ended come before one that begins.
+fn note_begin(predecessors: &mut [u64; 10], ended: u64, e: Event)
+    requires { ⌜ Tabled e ⌝ }
+    ensures { λ _. ⌜ now (predecessors .exit) ≡ predecessorsWith ended (now (predecessors .entry)) e ⌝ }
+{
+    if is_begin(e) {
+        predecessors[e.transaction as usize] = ended;
     }
 }
 
+// The outcome is the recorded one, and free after a commit called and unanswered.
+fn note_outcome(allowed: &mut [u8; 10], e: Event)
+    requires { ⌜ Tabled e ⌝ }
+    ensures { λ _. ⌜ now (allowed .exit) ≡ allowedWith (now (allowed .entry)) e ⌝ }
+{
+    let at = e.transaction as usize;
+    if is_commit(e) {
+        allowed[at] = 1;
+        return;
+    }
+    if is_abort(e) {
+        allowed[at] = 0;
+        return;
+    }
+    if asks_commit(e) {
+        allowed[at] = 2;
+    }
+}
+
+// A read of the store joins the registers that its transaction reads, and requires what it returns.
+fn note_read(reads: &mut [u32; 10], required: &mut [u64; 320], written: &[u64; 320], e: Event)
+    requires { ⌜ Tabled e ⌝ }
+    ensures { λ _. ⌜ now (reads .exit) ≡ readsWith (now (written .entry)) (now (reads .entry)) e ⌝ }
+    ensures { λ _. ⌜ now (required .exit) ≡ requiredWith (now (written .entry)) (now (required .entry)) e ⌝ }
+{
+    if !is_read(e) {
+        return;
+    }
+    let at = slot(e.transaction, e.register);
+    if written[at] != 0 {
+        return;
+    }
+    let t = e.transaction as usize;
+    reads[t] = places::sets::with_register(reads[t], e.register as usize);
+    required[at] = stored(e.value);
+}
+
+// The last write of a transaction to a register.
+fn note_write(written: &mut [u64; 320], e: Event)
+    requires { ⌜ Tabled e ⌝ }
+    ensures { λ _. ⌜ now (written .exit) ≡ writtenWith (now (written .entry)) e ⌝ }
+{
+    if is_write(e) {
+        written[slot(e.transaction, e.register)] = stored(e.value);
+    }
+}
+
+// Is the event a read that is wrong wherever its transaction is placed? It returns another value than its own write, or than a store
+// read of the register before it.
+fn read_contradicts(written: &[u64; 320], required: &[u64; 320], e: Event) -> bool
+    requires { ⌜ Tabled e ⌝ }
+    ensures { λ r. ⌜ r ≡ contradicts (now (written .entry)) (now (required .entry)) e ⌝ }
+{
+    if !is_read(e) {
+        return false;
+    }
+    let at = slot(e.transaction, e.register);
+    let own = written[at];
+    if own != 0 {
+        return differs(own, stored(e.value));
+    }
+    differs(required[at], stored(e.value))
+}
+
 impl Standing {
-    // A read returns: of an own write, or of the store.
-    fn read(
-        self,
-        reads: &mut [u32; 10],
-        required: &mut [u64; 320],
-        written: &[u64; 320],
-        at: usize,
-        v: u64,
-    ) -> Standing
-        requires { ⌜ at < 320 ⌝ }
-        ensures { λ s. ⌜ Becomes (λ b a. tablesBy s b a (now (reads .exit)) (now (required .exit)) (now (written .entry))) (λ b a. readAt (tablesBy self b a (now (reads .entry)) (now (required .entry)) (now (written .entry))) at v) ⌝ }
-    {
-        let own = written[at];
-        let old = required[at];
-        if own != 0 {
-            return Standing {
-                ended: self.ended,
-                contradictory: either(self.contradictory, differs(own, v)),
-            };
-        }
-        let t = at / REGISTERS;
-        reads[t] = places::sets::with_register(reads[t], at % REGISTERS);
-        required[at] = v;
-        Standing {
-            ended: self.ended,
-            contradictory: either(self.contradictory, differs(old, v)),
-        }
-    }
-
-    // The standing once t has ended.
-    fn end(self, t: u16) -> Standing
-        requires { ⌜ t < 10 ⌝ }
-        ensures { λ s. ⌜ (s .ended ≡ bitOr (self .ended) (2 ^ t)) × (s .contradictory ≡ self .contradictory) ⌝ }
-    {
-        Standing {
-            ended: places::sets::with(self.ended, t as usize),
-            contradictory: self.contradictory,
-        }
-    }
-
     // The standing and the tables with one event more.
     pub fn step(
         self,
@@ -122,40 +163,23 @@ impl Standing {
         reads: &mut [u32; 10],
         required: &mut [u64; 320],
         written: &mut [u64; 320],
-        kind: u16,
-        t: u16,
-        r: u16,
-        value: u32,
+        e: Event,
     ) -> Standing
-        requires { ⌜ t < 10 ⌝ }
-        requires { ⌜ r < 32 ⌝ }
-        ensures { λ s. ⌜ tablesBy s (now (predecessors .exit)) (now (allowed .exit)) (now (reads .exit)) (now (required .exit)) (now (written .exit)) ≡ next (tablesBy self (now (predecessors .entry)) (now (allowed .entry)) (now (reads .entry)) (now (required .entry)) (now (written .entry))) (event kind t r value) ⌝ }
+        requires { ⌜ Tabled e ⌝ }
+        ensures { λ s. ⌜
+            tablesBy s (now (predecessors .exit)) (now (allowed .exit)) (now (reads .exit)) (now (required .exit)) (now (written .exit))
+            ≡ next (tablesBy self (now (predecessors .entry)) (now (allowed .entry)) (now (reads .entry)) (now (required .entry))
+            (now (written .entry))) e ⌝ }
     {
-        let at = t as usize;
-        if kind == Record::BEGIN {
-            predecessors[at] = self.ended;
-            return self;
+        let contradictory = either(self.contradictory, read_contradicts(written, required, e));
+        note_begin(predecessors, self.ended, e);
+        note_outcome(allowed, e);
+        note_read(reads, required, written, e);
+        note_write(written, e);
+        Standing {
+            ended: ended_with(self.ended, e),
+            contradictory,
         }
-        if kind == Record::READ_RETURNED {
-            return self.read(reads, required, written, slot(t, r), stored(value));
-        }
-        if kind == Record::WRITE {
-            note_write(written, kind, t, r, value);
-            return self;
-        }
-        if kind == Record::COMMIT {
-            allowed[at] = 2;
-            return self;
-        }
-        if kind == Record::COMMITTED {
-            allowed[at] = 1;
-            return self.end(t);
-        }
-        if kind == Record::ABORTED {
-            allowed[at] = 0;
-            return self.end(t);
-        }
-        self
     }
 }
 
@@ -181,7 +205,10 @@ pub fn complete(
     transactions: usize,
 ) -> u64
     requires { ⌜ transactions ≤ 10 ⌝ }
-    ensures { λ r. ⌜ Answers transactions r (cond (s .contradictory) none (firstCompletion (constraintsOf (now (starts .entry)) (tablesBy s (now (predecessors .entry)) (now (allowed .entry)) (now (reads .entry)) (now (required .entry)) (now (written .entry)))) transactions)) ⌝ }
+    ensures { λ r. ⌜
+        Answers transactions r (cond (s .contradictory) none (firstCompletion (constraintsOf (now (starts .entry))
+        (tablesBy s (now (predecessors .entry)) (now (allowed .entry)) (now (reads .entry)) (now (required .entry)) (now (written .entry))))
+        transactions)) ⌝ }
 {
     if s.contradictory {
         return 0;
@@ -197,17 +224,10 @@ pub fn complete(
     )
 }
 
-// The lowest justification of the first n events, as the search answers it.
-pub fn find_order(
-    starts: &[u32; 32],
-    kinds: &[u16],
-    transactions: &[u16],
-    registers: &[u16],
-    values: &[u32],
-    n: usize,
-) -> u64
-    requires { ⌜ Judged (columns (now kinds) (now transactions) (now registers) (now values)) n ⌝ }
-    ensures { λ r. ⌜ orderOf (history (columns (now (kinds .entry)) (now (transactions .entry)) (now (registers .entry)) (now (values .entry))) n) r ≡ lowestOf (startOf (now (starts .entry))) (history (columns (now (kinds .entry)) (now (transactions .entry)) (now (registers .entry)) (now (values .entry))) n) ⌝ }
+// The lowest justification of a log, as the search answers it.
+pub fn find_order(starts: &[u32; 32], log: &[Row]) -> u64
+    requires { ⌜ Judged (logged (now log)) ⌝ }
+    ensures { λ r. ⌜ orderOf (logged (now (log .entry))) r ≡ lowestOf (startOf (now (starts .entry))) (logged (now (log .entry))) ⌝ }
 {
     let mut predecessors = [0u64; 10];
     let mut allowed = [0u8; 10];
@@ -215,22 +235,20 @@ pub fn find_order(
     let mut required = [0u64; 320];
     let mut written = [0u64; 320];
     let mut s = no_events();
-    let mut i = 0;
-    while i < n {
+    let mut i: usize = 0;
+    while i < log.len() {
+        let e = log::rows::event_at(log, i);
         s = s.step(
             &mut predecessors,
             &mut allowed,
             &mut reads,
             &mut required,
             &mut written,
-            kinds[i],
-            transactions[i],
-            registers[i],
-            values[i],
+            e,
         );
         i += 1;
     }
-    let begun = opacity::counts::transactions_begun(kinds, transactions, registers, values, n);
+    let begun = log::rows::transactions_begun(log);
     complete(
         starts,
         s,

@@ -1,44 +1,142 @@
--- `finder::find_marking` meets its contract: the questions of the call and of its events, and then the search over the prefix.
--- Assumes nothing.
-use mathlib.Core.Path.{sym, _∙_}
-use denote.Ref.{now}
+-- `finder::find_marking` meets its contract: a longer prefix is refused; else the columns are taken in, and their rows answered. Assumes nothing.
+use Prim.Native.Nat.{ℕ, _≤_}
+use mathlib.Core.Path.{_≡_, sym, ap, ap₂, _∙_}
+use mathlib.Core.Bool.{Bool, cond}
+use mathlib.Core.List.{List}
+use native.Mathlib.Omega.{arith}
+use lib.ListN.{take}
+use Rattle.events.specs.declared.event.Event.{Event}
+use Rattle.events.specs.declared.refusal.Refusal.{Refusal}
+use Rattle.events.specs.Said.{refuse}
+use Rattle.log.specs.Columns.{Columns, columns, history}
+use Rattle.log.proofs.DoorLaws.{entered as let-in, in-rows, prefix-logged}
+use Rattle.finder.specs.declared.Finding.{Finding}
+use Rattle.finder.specs.Answer.{gives}
+use Rattle.finder.proofs.AnswerLaws.{call-refuses, call-refused, find-after}
 use borrow.Author.Needs.{needs}
-use Rattle.log.specs.Columns.{columns}
-use Rattle.finder.proofs.AnswerLaws.{call-refused, called-readable, prefix-decides}
 use Rattle.finder.proofs.find_marking.Statement.{statement}
 use Rattle.finder.proofs.find_marking.Tie as tie
 
-check-call-requires : tie.Need-check-call-requires
-check-call-requires c κs = search needs
+-- the function's entry, and the columns given
+abbrev entered : tie.After-slice-known → tie.Start
+entered a = a .before .before .before .before .before
 
-enum-known-checked : tie.Need-enum-known-checked
-enum-known-checked c = search needs
+abbrev given : tie.Start → Columns
+given s = columns (s .args .kinds .now) (s .args .transactions .now) (s .args .registers .now) (s .args .values .now)
+
+-- the prefix is one of the history, where few and where many rows are taken in
+abbrev inside : tie.After-admit → tie.Else1
+inside a = a .before .before .before
+
+abbrev inside-many : tie.After-admit2 → tie.Else1
+inside-many a = a .before .before .before
+
+abbrev few : tie.After-admit → tie.Start
+few a = entered (inside a .before)
+
+abbrev many : tie.After-admit2 → tie.Start
+many a = entered (inside-many a .before)
+
+columns-hold-requires : tie.Need-columns-hold-requires
+columns-hold-requires c κs = search needs
+
+is-admitted-requires : tie.Need-is-admitted-requires
+is-admitted-requires c κs = search needs
+
+prefix-refused-requires : tie.Need-prefix-refused-requires
+prefix-refused-requires c κs = search needs
 
 returns : tie.Need-returns
 returns c =
-    let start = c .before .before .before .before .before .before .before .before .before in
-    let cs = columns (now (start .args .kinds)) (now (start .args .transactions)) (now (start .args .registers)) (now (start .args .values)) in
-    call-refused (start .args .edition) (now (start .args .starts)) cs (start .args .count) (start .args .prefix) (now (start .args .output)) (sym (c .before .before .before .check-call .ensures) ∙ c .before .checked .given .1)
+    let told = c .before .before in
+    let s = entered (told .before .before) in
+    let r : c .prefix-refused .result ≡ refuse _ (s .args .count) =
+    c .prefix-refused .ensures ∙ ap₂ (λ (x y : Bool). refuse (cond x (cond y 18 3) 17) (s .args .count)) (told .columns-hold .ensures) (c .before .is-admitted .ensures) in
+    ap (λ (x : Refusal). gives (Finding.Refused x) (s .args .output .now)) r
+    ∙ call-refused (s .args .edition) (s .args .starts .now) (given s) (s .args .count) (s .args .prefix) (s .args .output .now)
+    (call-refuses (s .args .edition) (s .args .starts .now) (given s) (s .args .count) (s .args .prefix) (told .before .if1 .taken))
 
-enum-told : tie.Need-enum-told
-enum-told c = search needs
+slice-aggregate-admit : tie.Need-slice-aggregate-admit
+slice-aggregate-admit c = search needs
 
-find-readable-requires : tie.Need-find-readable-requires
-find-readable-requires c κs =
-    let start = c .before .before .before .before .before .before .before .before .before in
-    let cs = columns (now (start .args .kinds)) (now (start .args .transactions)) (now (start .args .registers)) (now (start .args .values)) in
-    called-readable (start .args .edition) (now (start .args .starts)) cs (start .args .count) (start .args .prefix) (sym (c .before .before .before .check-call .ensures) ∙ c .before .enum-told .given .1)
+admit-requires : tie.Need-admit-requires
+admit-requires c κs = search needs
+
+slice-aggregate-find-admitted : tie.Need-slice-aggregate-find-admitted
+slice-aggregate-find-admitted c = search needs
+
+find-admitted-requires : tie.Need-find-admitted-requires
+find-admitted-requires c κs =
+    let a = c .before .before .before in
+    let s = few a in (
+      let-in (s .args .edition) (s .args .starts .now) (given s) (s .args .count) (a .admit .result) _ _ (a .admit .ensures .0) (a .admit .ensures .1)
+          (λ m. omega (arith, a .before .before .if2 .taken)),
+      inside a .if1 .left,
+    )
 
 same-length : tie.Need-same-length
 same-length c = search needs
 
 returns-2 : tie.Need-returns-2
 returns-2 c =
-    let start = c .before .before .before .before .before .before .before .before .before .before .before .before in
-    let cs = columns (now (start .args .kinds)) (now (start .args .transactions)) (now (start .args .registers)) (now (start .args .values)) in
-    c .before .before .find-readable .ensures
-    ∙ prefix-decides (start .args .edition) (now (start .args .starts)) cs (start .args .count) (start .args .prefix) (now (start .args .output)) (sym (c .before .before .before .before .before .before .check-call .ensures) ∙ c .before .before .before .before .enum-told .given .1)
+    let found = c .before .before in
+    let a = found .before .before .before .before in
+    let s = few a in
+    found .find-admitted .ensures
+    ∙ find-after (s .args .edition) (s .args .starts .now) (given s) (s .args .count) (s .args .prefix) (s .args .output .now) _ _ (inside a .if1 .left) (a .admit .ensures .0)
+    (λ e. prefix-logged (s .args .count) (s .args .prefix) _ (inside a .if1 .left) ∙ ap (take (s .args .prefix))
+    (in-rows (s .args .edition) (s .args .starts .now) (given s) (s .args .count) (a .admit .result) _ _ (a .admit .ensures .0) (a .admit .ensures .1)
+    (λ m. omega (arith, a .before .before .if2 .taken)) e .same))
+
+slice-aggregate-admit-2 : tie.Need-slice-aggregate-admit-2
+slice-aggregate-admit-2 c = search needs
+
+admit-requires-2 : tie.Need-admit-requires-2
+admit-requires-2 c κs = search needs
+
+slice-aggregate-find-admitted-2 : tie.Need-slice-aggregate-find-admitted-2
+slice-aggregate-find-admitted-2 c = search needs
+
+find-admitted-requires-2 : tie.Need-find-admitted-requires-2
+find-admitted-requires-2 c κs =
+    let a = c .before .before .before in
+    let s = many a in (
+      let-in (s .args .edition) (s .args .starts .now) (given s) (s .args .count) (a .admit2 .result) _ _ (a .admit2 .ensures .0) (a .admit2 .ensures .1)
+          (λ m. m),
+      inside-many a .if1 .left,
+    )
+
+same-length-2 : tie.Need-same-length-2
+same-length-2 c = search needs
+
+returns-3 : tie.Need-returns-3
+returns-3 c =
+    let found = c .before .before in
+    let a = found .before .before .before .before in
+    let s = many a in
+    found .find-admitted2 .ensures
+    ∙ find-after (s .args .edition) (s .args .starts .now) (given s) (s .args .count) (s .args .prefix) (s .args .output .now) _ _ (inside-many a .if1 .left) (a .admit2 .ensures .0)
+    (λ e. prefix-logged (s .args .count) (s .args .prefix) _ (inside-many a .if1 .left) ∙ ap (take (s .args .prefix))
+    (in-rows (s .args .edition) (s .args .starts .now) (given s) (s .args .count) (a .admit2 .result) _ _ (a .admit2 .ensures .0) (a .admit2 .ensures .1)
+    (λ m. m) e .same))
 
 pub find-marking-spec : {M : Type 1} → statement M
 find-marking-spec =
-    tie.close (tie.spec check-call-requires enum-known-checked returns enum-told find-readable-requires same-length returns-2)
+    tie.close
+    (tie.spec
+    columns-hold-requires
+    is-admitted-requires
+    prefix-refused-requires
+    returns
+    slice-aggregate-admit
+    admit-requires
+    slice-aggregate-find-admitted
+    find-admitted-requires
+    same-length
+    returns-2
+    slice-aggregate-admit-2
+    admit-requires-2
+    slice-aggregate-find-admitted-2
+    find-admitted-requires-2
+    same-length-2
+    returns-3)

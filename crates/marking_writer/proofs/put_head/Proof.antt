@@ -3,7 +3,6 @@
 use mathlib.Core.Path.{refl}
 use mathlib.Core.List.{_++_}
 use native.Mathlib.Omega.{arith}
-use denote.Ref.{now}
 use Rattle.records.specs.Bytes.{u16Bytes}
 use Rattle.marking_writer.proofs.RunLaws.{placed-then}
 use borrow.Author.Needs.{needs}
@@ -22,11 +21,23 @@ put-u16-requires-3 c κs = search needs
 same-length : tie.Need-same-length
 same-length c = search needs
 
+-- where the first and the second field stand
+abbrev second : tie.After-put-u163 → tie.After-put-u162
+second a = a .before .before .before .before
+
+abbrev first : tie.After-put-u162 → tie.After-put-u16
+first a = a .before .before .before .before
+
 returns : tie.Need-returns
 returns c =
-    let start = c .before .before .before .before .before .before .before .before .before .before .before .before .before in
+    let three = c .before .before in
+    let two = second three in
+    let one = first two in
+    let start = one .before .before .before in
+    let out = start .args .out .now in
     let room = start .pre in
-    (placed-then (now (start .args .out)) _ _ 0 (u16Bytes 4 ++ u16Bytes 2) (u16Bytes 1) (4) (placed-then (now (start .args .out)) _ _ 0 (u16Bytes 4) (u16Bytes 2) (2) (c .before .before .before .before .before .before .before .before .before .before .put-u16 .ensures) (c .before .before .before .before .before .before .put-u162 .ensures) refl (omega arith)) (c .before .before .put-u163 .ensures) refl (omega arith))
+    let both = placed-then out _ _ 0 (u16Bytes 4) (u16Bytes 2) 2 (one .put-u16 .ensures) (two .put-u162 .ensures) refl (omega arith) in
+    placed-then out _ _ 0 (u16Bytes 4 ++ u16Bytes 2) (u16Bytes 1) 4 both (three .put-u163 .ensures) refl (omega arith)
 
 pub put-head-spec : {M : Type 1} → statement M
 put-head-spec =

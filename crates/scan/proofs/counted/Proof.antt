@@ -1,21 +1,20 @@
--- `scan::counted` meets its contract.
--- Assumes nothing.
-use borrow.Author.Tests.{eq-eqb, ne-eqb}
-use Rattle.events.specs.Events.{isBegin}
+-- `scan::counted` meets its contract: by the test. Assumes nothing.
+use mathlib.Core.Path.{sym, _∙_}
 use borrow.Author.Needs.{needs}
 use Rattle.scan.proofs.counted.Statement.{statement}
 use Rattle.scan.proofs.counted.Tie as tie
+
+is-begin-requires : tie.Need-is-begin-requires
+is-begin-requires c κs = search needs
 
 add-result : tie.Need-add-result
 add-result c = search needs
 
 returns : tie.Need-returns
-unfolding isBegin
-returns c = simp (eq-eqb _ _ (c .if1 .taken))
+returns c = rw (sym (c .before .is-begin .ensures) ∙ c .if1 .taken)
 
 returns-2 : tie.Need-returns-2
-unfolding isBegin
-returns-2 c = simp (ne-eqb _ _ (c .if1 .left))
+returns-2 c = rw (sym (c .before .is-begin .ensures) ∙ c .if1 .left)
 
 pub counted-spec : {M : Type 1} → statement M
-counted-spec = tie.close (tie.spec add-result returns returns-2)
+counted-spec = tie.close (tie.spec is-begin-requires add-result returns returns-2)

@@ -1,145 +1,132 @@
--- `scan::scan_prefixes` meets its contract.
--- Assumes nothing.
+-- `scan::scan_prefixes` meets its contract: the prefixes passed have a justification. Assumes nothing.
 use borrow.Author.Needs.{needs}
+use Prim.Native.Nat.{_<_, _-_}
 use mathlib.Core.Path.{_∙_}
-use Prim.Native.Nat.{_-_}
+use mathlib.Core.Logic.{⊎-elim}
+use mathlib.Core.List.{List}
 use native.Mathlib.Omega.{arith}
-use denote.Ref.{now}
-use Rattle.log.specs.Columns.{columns, history}
-use Rattle.tables.specs.Tables.{tablesBy}
-use Rattle.tables.proofs.GoodHistory.{in-tables}
-use Rattle.log.proofs.ColumnLaws.{history-length}
-use Rattle.events.proofs.ReadableLaws.{readable-most}
+use lib.ListN.{length}
+use Rattle.events.specs.declared.event.Event.{Event}
+use Rattle.log.specs.Rows.{logged}
+use Rattle.log.proofs.RowLaws.{logged-length}
+use Rattle.tables.specs.Tables.{Tables, tablesBy}
+use Rattle.tables.proofs.GoodHistory.{tabled}
+use Rattle.scan.proofs.WitnessLaws.{judged-kept, judged-anew}
 use Rattle.scan.proofs.ScanLaws.{Scanning, scanning-none, few-before, may-carry, few-begun, scanning-more, scanning-fault, scanning-end}
 use Rattle.scan.proofs.scan_prefixes.Statement.{statement}
 use Rattle.scan.proofs.scan_prefixes.Tie as tie
 
 abbrev Inv-loop : tie.InvT-loop
-Inv-loop starts kinds transactions registers values n predecessors₀ allowed₀ reads₀ required₀ written₀ s₀ begun₀ order₀ i₀ predecessors allowed reads required written s begun order i =
-    Scanning starts (columns kinds transactions registers values) n i (tablesBy s predecessors allowed reads required written) begun order
+Inv-loop starts log before₀ allowed₀ reads₀ required₀ written₀ s₀ n₀ order₀ i₀ before allowed reads required written s n order i =
+    Scanning starts (logged log) i (tablesBy s before allowed reads required written) n order
 
 abbrev μ-loop : tie.MeasureT-loop
-μ-loop starts kinds transactions registers values n predecessors₀ allowed₀ reads₀ required₀ written₀ s₀ begun₀ order₀ i₀ predecessors allowed reads required written s begun order i =
-    n - i
+μ-loop starts log before₀ allowed₀ reads₀ required₀ written₀ s₀ n₀ order₀ i₀ before allowed reads required written s n order i =
+    length log - i
+
+-- the function's entry, the history given, and the tables where a turn begins
+abbrev entered : tie.At-loop Inv-loop μ-loop → tie.Start Inv-loop μ-loop
+entered l = l .before .before
+
+abbrev given : tie.Start Inv-loop μ-loop → List Event
+given s = logged (s .args .log .now)
+
+abbrev tables-at : tie.At-loop Inv-loop μ-loop → Tables
+tables-at l = tablesBy (l .loop .s) (l .loop .before) (l .loop .allowed) (l .loop .reads) (l .loop .required) (l .loop .written)
+
+-- in a turn: the event is read, the order carried on, the tables take the event, and the begins are counted
+abbrev turn : tie.After-event-at Inv-loop μ-loop → tie.At-loop Inv-loop μ-loop
+turn a = a .before .before
+
+abbrev event-read : tie.After-carry Inv-loop μ-loop → tie.After-event-at Inv-loop μ-loop
+event-read a = a .before .before
+
+abbrev carried : tie.After-step Inv-loop μ-loop → tie.After-carry Inv-loop μ-loop
+carried a = a .before .before .before .before .before .before
+
+-- the event is one of the history
+inside : (a : tie.After-event-at Inv-loop μ-loop) → turn a .loop .i < length (given (entered (turn a)))
+inside a = omega (arith, a .before .loop-test .taken, logged-length (entered (turn a) .args .log .now))
 
 no-events-requires : tie.Need-no-events-requires Inv-loop μ-loop
 no-events-requires c κs = search needs
 
 loop-holds : tie.Need-loop-holds Inv-loop μ-loop
-loop-holds c =
-    let start = c .before .before .before .before .before in
-    let o = now (start .args .starts) in
-    let cs = columns (now (start .args .kinds)) (now (start .args .transactions)) (now (start .args .registers)) (now (start .args .values)) in
-    scanning-none o cs (start .args .n) _ (c .no-events .ensures)
+loop-holds c = scanning-none (c .before .args .starts .now) (given (c .before)) _ (c .no-events .ensures)
 
-mul-kind : tie.Need-mul-kind Inv-loop μ-loop
-mul-kind c = search needs
-
-shared-slice-read-kind : tie.Need-shared-slice-read-kind Inv-loop μ-loop
-shared-slice-read-kind c = search needs
-
-mul-t : tie.Need-mul-t Inv-loop μ-loop
-mul-t c = search needs
-
-shared-slice-read-t : tie.Need-shared-slice-read-t Inv-loop μ-loop
-shared-slice-read-t c = search needs
-
-mul-r : tie.Need-mul-r Inv-loop μ-loop
-mul-r c = search needs
-
-shared-slice-read-r : tie.Need-shared-slice-read-r Inv-loop μ-loop
-shared-slice-read-r c = search needs
-
-mul-value : tie.Need-mul-value Inv-loop μ-loop
-mul-value c = search needs
-
-shared-slice-read-value : tie.Need-shared-slice-read-value Inv-loop μ-loop
-shared-slice-read-value c = search needs
+event-at-requires : tie.Need-event-at-requires Inv-loop μ-loop
+event-at-requires c κs = search needs
 
 carry-requires : tie.Need-carry-requires Inv-loop μ-loop
 carry-requires c κs =
-    let start = c .before .before .before .before .before .before .before .before .before .before .before .before in
-    let at = c .before .before .before .before .before .before .loop in
-    let l = c .before .before .before .before .before .loop-test .taken in
-    let o = now (start .args .starts) in
-    let cs = columns (now (start .args .kinds)) (now (start .args .transactions)) (now (start .args .registers)) (now (start .args .values)) in
-    let s = tablesBy (at .s) (at .predecessors) (at .allowed) (at .reads) (at .required) (at .written) in
-    may-carry o cs (start .args .n) (start .pre) (at .i) l s (at .begun) (at .order) (at .inv)
+    let a = c .before in
+    let l = turn a in
+    let s = entered l in
+    may-carry (s .args .starts .now) (given s) (s .pre) (l .loop .i) (inside a) (a .event-at .result) (a .event-at .ensures) (tables-at l) (l .loop .n) (l .loop .order) (l .loop .inv)
 
 step-requires : tie.Need-step-requires Inv-loop μ-loop
 step-requires c κs =
-    let start = c .before .before .before .before .before .before .before .before .before .before .before .before .before .before .before .before .before .before in
-    let at = c .before .before .before .before .before .before .before .before .before .before .before .before .loop in
-    let l = c .before .before .before .before .before .before .before .before .before .before .before .loop-test .taken in
-    let cs = columns (now (start .args .kinds)) (now (start .args .transactions)) (now (start .args .registers)) (now (start .args .values)) in
-    let q = in-tables cs (start .args .n) (start .pre) in
-    (q .transaction (at .i) l, q .register (at .i) l)
+    let a = event-read (c .before .before .before .before .before) in
+    let s = entered (turn a) in
+    tabled (given s) (s .pre) (turn a .loop .i) (inside a) (a .event-at .result) (a .event-at .ensures)
 
 counted-requires : tie.Need-counted-requires Inv-loop μ-loop
 counted-requires c κs =
-    let start = c .before .before .before .before .before .before .before .before .before .before .before .before .before .before .before .before .before .before .before in
-    let at = c .before .before .before .before .before .before .before .before .before .before .before .before .before .loop in
-    let l = c .before .before .before .before .before .before .before .before .before .before .before .before .loop-test .taken in
-    let o = now (start .args .starts) in
-    let cs = columns (now (start .args .kinds)) (now (start .args .transactions)) (now (start .args .registers)) (now (start .args .values)) in
-    let s = tablesBy (at .s) (at .predecessors) (at .allowed) (at .reads) (at .required) (at .written) in
-    let q = few-before o cs (start .args .n) (start .pre) (at .i) l s (at .begun) (at .order) (at .inv) in
+    let a = event-read (carried c) in
+    let l = turn a in
+    let s = entered l in
+    let few =
+    few-before (s .args .starts .now) (given s) (s .pre) (l .loop .i) (inside a) (a .event-at .result) (a .event-at .ensures) (tables-at l) (l .loop .n) (l .loop .order) (l .loop .inv) in
     omega arith
 
-judge-requires : tie.Need-judge-requires Inv-loop μ-loop
-judge-requires c κs =
-    let start = c .before .before .before .before .before .before .before .before .before .before .before .before .before .before .before .before .before .before .before .before .before .before .before .before .before in
-    let at = c .before .before .before .before .before .before .before .before .before .before .before .before .before .before .before .before .before .before .before .loop in
-    let l = c .before .before .before .before .before .before .before .before .before .before .before .before .before .before .before .before .before .before .loop-test .taken in
-    let o = now (start .args .starts) in
-    let cs = columns (now (start .args .kinds)) (now (start .args .transactions)) (now (start .args .registers)) (now (start .args .values)) in
-    let s = tablesBy (at .s) (at .predecessors) (at .allowed) (at .reads) (at .required) (at .written) in
-    let few = few-begun o cs (start .args .n) (start .pre) (at .i) l s (at .begun) (at .order) (at .inv) _ (c .before .before .before .before .before .counted .result) (c .before .before .before .before .before .before .step .ensures) (c .before .before .before .before .before .counted .ensures) in
-    omega arith
+complete-requires : tie.Need-complete-requires Inv-loop μ-loop
+complete-requires c κs =
+    let n = c .before .before .before .before .before .before in
+    let a = event-read (carried (n .before)) in
+    let l = turn a in
+    let s = entered l in
+    few-begun (s .args .starts .now) (given s) (s .pre) (l .loop .i) (inside a) (a .event-at .result) (a .event-at .ensures) (tables-at l) (l .loop .n) (l .loop .order) (l .loop .inv)
+    _ (n .counted .result) (n .before .step .ensures) (n .counted .ensures)
 
 faulted-requires : tie.Need-faulted-requires Inv-loop μ-loop
 faulted-requires c κs = search needs
 
 returns : tie.Need-returns Inv-loop μ-loop
 returns c =
-    let start = c .before .before .before .before .before .before .before .before .before .before .before .before .before .before .before .before .before .before .before .before .before .before .before .before .before .before .before .before in
-    let at = c .before .before .before .before .before .before .before .before .before .before .before .before .before .before .before .before .before .before .before .before .before .before .loop in
-    let l = c .before .before .before .before .before .before .before .before .before .before .before .before .before .before .before .before .before .before .before .before .before .loop-test .taken in
-    let o = now (start .args .starts) in
-    let cs = columns (now (start .args .kinds)) (now (start .args .transactions)) (now (start .args .registers)) (now (start .args .values)) in
-    let s = tablesBy (at .s) (at .predecessors) (at .allowed) (at .reads) (at .required) (at .written) in
-    c .faulted .ensures ∙ scanning-fault o cs (start .args .n) (start .pre) (at .i) l s (at .begun) (at .order) (at .inv) _ (c .before .before .before .before .before .before .before .before .counted .result) (c .before .before .before .before .before .before .before .before .before .step .ensures) (c .before .before .before .before .before .before .before .before .counted .ensures) (c .before .before .before .before .before .before .before .before .before .before .before .before .before .before .before .carry .result) (c .before .before .judge .result) (c .before .before .before .before .before .before .before .before .before .before .before .before .before .before .before .carry .ensures) (c .before .before .judge .ensures) (c .before .if1 .taken)
+    let q = c .before .before in
+    let n = q .before in
+    let k = carried (n .before) in
+    let a = event-read k in
+    let l = turn a in
+    let s = entered l in
+    c .faulted .ensures
+    ∙ scanning-fault (s .args .starts .now) (given s) (s .pre) (l .loop .i) (inside a) (a .event-at .result) (a .event-at .ensures) (tables-at l) (l .loop .n) (l .loop .order) (l .loop .inv)
+    _ (n .counted .result) (n .before .step .ensures) (n .counted .ensures) (k .carry .result) (q .if1 .order) (k .carry .ensures)
+    (⊎-elim (λ w. judged-anew _ _ _ _ _ (w .0 .taken) (w .7) (w .6 .ensures)) (λ w. judged-kept _ _ _ _ (w .0 .left) (w .1)) (q .if1 .came)) (c .before .if2 .taken)
 
 add-i : tie.Need-add-i Inv-loop μ-loop
-add-i c =
-    let start = c .before .before .before .before .before .before .before .before .before .before .before .before .before .before .before .before .before .before .before .before .before .before .before .before .before .before .before in
-    let at = c .before .before .before .before .before .before .before .before .before .before .before .before .before .before .before .before .before .before .before .before .before .loop in
-    let l = c .before .before .before .before .before .before .before .before .before .before .before .before .before .before .before .before .before .before .before .before .loop-test .taken in
-    let cs = columns (now (start .args .kinds)) (now (start .args .transactions)) (now (start .args .registers)) (now (start .args .values)) in
-    omega (arith, readable-most (history cs (start .args .n)) (start .pre .readable), history-length cs (start .args .n))
+add-i c = search needs
 
 loop-less : tie.Need-loop-less Inv-loop μ-loop
 loop-less c = search needs
 
 loop-again : tie.Need-loop-again Inv-loop μ-loop
 loop-again c =
-    let start = c .before .before .before .before .before .before .before .before .before .before .before .before .before .before .before .before .before .before .before .before .before .before .before .before .before .before .before in
-    let at = c .before .before .before .before .before .before .before .before .before .before .before .before .before .before .before .before .before .before .before .before .before .loop in
-    let l = c .before .before .before .before .before .before .before .before .before .before .before .before .before .before .before .before .before .before .before .before .loop-test .taken in
-    let o = now (start .args .starts) in
-    let cs = columns (now (start .args .kinds)) (now (start .args .transactions)) (now (start .args .registers)) (now (start .args .values)) in
-    let s = tablesBy (at .s) (at .predecessors) (at .allowed) (at .reads) (at .required) (at .written) in
-    scanning-more o cs (start .args .n) (start .pre) (at .i) l s (at .begun) (at .order) (at .inv) _ (c .before .before .before .before .before .before .before .counted .result) (c .before .before .before .before .before .before .before .before .step .ensures) (c .before .before .before .before .before .before .before .counted .ensures) (c .before .before .before .before .before .before .before .before .before .before .before .before .before .before .carry .result) (c .before .judge .result) (c .before .before .before .before .before .before .before .before .before .before .before .before .before .before .carry .ensures) (c .before .judge .ensures) (c .if1 .left)
+    let q = c .before in
+    let n = q .before in
+    let k = carried (n .before) in
+    let a = event-read k in
+    let l = turn a in
+    let s = entered l in
+    scanning-more (s .args .starts .now) (given s) (s .pre) (l .loop .i) (inside a) (a .event-at .result) (a .event-at .ensures) (tables-at l) (l .loop .n) (l .loop .order) (l .loop .inv)
+    _ (n .counted .result) (n .before .step .ensures) (n .counted .ensures) (k .carry .result) (q .if1 .order) (k .carry .ensures)
+    (⊎-elim (λ w. judged-anew _ _ _ _ _ (w .0 .taken) (w .7) (w .6 .ensures)) (λ w. judged-kept _ _ _ _ (w .0 .left) (w .1)) (q .if1 .came)) (c .if2 .left)
 
 returns-2 : tie.Need-returns-2 Inv-loop μ-loop
 returns-2 c =
-    let start = c .before .before .before .before .before .before .before in
-    let at = c .before .loop in
-    let o = now (start .args .starts) in
-    let cs = columns (now (start .args .kinds)) (now (start .args .transactions)) (now (start .args .registers)) (now (start .args .values)) in
-    let s = tablesBy (at .s) (at .predecessors) (at .allowed) (at .reads) (at .required) (at .written) in
-    let q = at .inv .passed in
-    scanning-end o cs (start .args .n) (at .i) s (at .begun) (at .order) (omega arith) (at .inv)
+    let l = c .before in
+    let s = entered l in
+    scanning-end (s .args .starts .now) (given s) (l .loop .i) (tables-at l) (l .loop .n) (l .loop .order) (omega (arith, c .loop-test .left, logged-length (s .args .log .now))) (l .loop .inv)
 
 pub scan-prefixes-spec : {M : Type 1} → statement M
 scan-prefixes-spec =
@@ -149,18 +136,11 @@ scan-prefixes-spec =
     μ-loop
     no-events-requires
     loop-holds
-    mul-kind
-    shared-slice-read-kind
-    mul-t
-    shared-slice-read-t
-    mul-r
-    shared-slice-read-r
-    mul-value
-    shared-slice-read-value
+    event-at-requires
     carry-requires
     step-requires
     counted-requires
-    judge-requires
+    complete-requires
     faulted-requires
     returns
     add-i

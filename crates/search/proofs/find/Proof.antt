@@ -1,100 +1,96 @@
 -- `search::find` meets its contract: the search starts with all transactions unplaced, as both the unplaced and the candidates.
 -- Assumes nothing.
-use borrow.Author.Needs.{needs}
-use mathlib.Core.Path.{refl, sym, ap}
-use Prim.Native.Nat.{ℕ, _-_}
+use mathlib.Core.Path.{_≡_, refl, sym, ap}
+use Prim.Native.Nat.{ℕ, _-_, _^_}
 use native.Mathlib.Omega.{arith}
+use lib.Bits.{and-le-l}
 use lib.Pow.{pow-pos}
+use Rattle.places.specs.declared.state.Search.{Search}
+use Rattle.places.specs.Facts.{afterOf}
 use Rattle.places.specs.Places.{codesOf}
-use Rattle.places.specs.Tree.{constraints}
-use Rattle.search.proofs.TreeLaws.{start-sound, start-answers, answers-as, answers-none}
+use Rattle.places.specs.State.{Sound}
+use Rattle.places.specs.Tree.{asking, constraints}
+use Rattle.search.proofs.TreeLaws.{start-sound, start-answers, answered-as, answered-none}
 use Rattle.places.proofs.SetLaws.{within-self}
 use Rattle.pruning.proofs.EffectLaws.{nothing-known}
 use Rattle.pruning.proofs.UnwrittenLaws.{asked-completion}
+use Rattle.pruning.proofs.HopeLaws.{needs-of}
 use Rattle.pruning.proofs.OrphanLaws.{orphaned-none}
+use borrow.Author.Needs.{needs}
 use Rattle.search.proofs.find.Statement.{statement}
 use Rattle.search.proofs.find.Tie as tie
+
+-- the set of all transactions, the state in which they are unplaced, and that point where the registers asked about are known
+all : (b : tie.After-bit) → b .bit .result - 1 ≡ 2 ^ (b .before .args .n) - 1
+all b = ap (λ (k : ℕ). k - 1) (b .bit .ensures)
+
+sound : (b : tie.After-bit) → Sound (record { unplaced = b .bit .result - 1; filled = 0; placed = 1 })
+sound b = start-sound (b .before .args .n) (b .bit .result - 1) (b .before .pre) (all b)
+
+abbrev chosen : tie.After-registers-asked → tie.After-bit
+chosen a = a .before .before .before .before .before .before .before
 
 bit-requires : tie.Need-bit-requires
 bit-requires c κs = search needs
 
-sub-t14 : tie.Need-sub-t14
-sub-t14 c = omega (arith, c .bit .ensures, pow-pos (c .before .args .n))
+sub-t10 : tie.Need-sub-t10
+sub-t10 c = omega (arith, c .bit .ensures, pow-pos (c .before .args .n))
 
 choose-transaction-requires : tie.Need-choose-transaction-requires
-choose-transaction-requires c κs =
-    let start = c .before .before .before in
-    let all = c .before .before .bit in
-    (start-sound (start .args .n) (all .result - 1) (start .pre) (ap (λ (k : ℕ). k - 1) (all .ensures)), (within-self _, nothing-known (start .args .reads .now) (start .args .required .now) (start .args .written .now)))
+choose-transaction-requires c κs = let b = c .before .before in (sound b, (within-self _, nothing-known (b .before .args .facts .now) 4294967295))
 
 returns : tie.Need-returns
 unfolding codesOf
-returns c =
-    let start = c .before .before .before .before in
-    let all = c .before .before .before .bit in
-    let a = start .args in
-    let D = constraints (a .starts .now) (a .predecessors .now) (a .allowed .now) (a .reads .now) (a .required .now) (a .written .now) in
-    start-answers D (a .n) (all .result - 1) (c .choose-transaction .result) (start .pre) (ap (λ (k : ℕ). k - 1) (all .ensures)) (c .choose-transaction .ensures)
+returns c = let b = c .before .before .before in let a = b .before .args in start-answers (constraints (a .starts .now) (a .facts .now)) (a .n) _ (c .choose-transaction .result) (b .before .pre) (all b) (c .choose-transaction .ensures)
+
+before-end-requires : tie.Need-before-end-requires
+before-end-requires c κs = search needs
 
 stranded-requires : tie.Need-stranded-requires
 stranded-requires c κs =
-    let start = c .before .before in
-    let all = c .before .bit in
-    let sound = start-sound (start .args .n) (all .result - 1) (start .pre) (ap (λ (k : ℕ). k - 1) (all .ensures)) in
-    (sound, sound .few)
+    let b = c .before .before in
+    (sound b, omega (arith, sound b .few, c .before-end .ensures, and-le-l (b .bit .result - 1) (afterOf (b .before .args .facts .now) 10)))
 
 returns-2 : tie.Need-returns-2
 unfolding codesOf
 returns-2 c =
-    let start = c .before .before .before .before in
-    let all = c .before .before .before .bit in
-    let a = start .args in
-    let D = constraints (a .starts .now) (a .predecessors .now) (a .allowed .now) (a .reads .now) (a .required .now) (a .written .now) in
-    let sound = start-sound (a .n) (all .result - 1) (start .pre) (ap (λ (k : ℕ). k - 1) (all .ensures)) in
-    start-answers D (a .n) (all .result - 1) 0 (start .pre) (ap (λ (k : ℕ). k - 1) (all .ensures))
-    (answers-none _ (sym (orphaned-none (a .starts .now) (a .predecessors .now) (a .allowed .now) (a .reads .now) (a .required .now) (a .written .now) _ _ _ sound refl (λ k h. h)
-    (c .before .stranded .ensures (c .if2 .taken)))))
+    let b = c .before .before .before .before in
+    let a = b .before .args in
+    let D = constraints (a .starts .now) (a .facts .now) in
+    let u = b .bit .result - 1 in
+    let s : Search = record { unplaced = u; filled = 0; placed = 1 } in
+    start-answers D (a .n) u 0 (b .before .pre) (all b)
+    (answered-none _ (sym (orphaned-none D s u _ (sound b) refl (needs-of D s u _ (c .before .before .before-end .ensures) (λ k h. h)) (c .before .stranded .ensures (c .if2 .taken)))))
 
 registers-written-requires : tie.Need-registers-written-requires
 registers-written-requires c κs = search needs
 
-reads-asked-requires : tie.Need-reads-asked-requires
-reads-asked-requires c κs = search needs
+registers-asked-requires : tie.Need-registers-asked-requires
+registers-asked-requires c κs = search needs
 
 effects-among-requires : tie.Need-effects-among-requires
 effects-among-requires c κs = search needs
 
 choose-transaction-requires-2 : tie.Need-choose-transaction-requires-2
-choose-transaction-requires-2 c κs =
-    let start = c .before .before .before .before .before .before .before .before .before .before .before .before in
-    let all = c .before .before .before .before .before .before .before .before .before .before .before .bit in
-    (start-sound (start .args .n) (all .result - 1) (start .pre) (ap (λ (k : ℕ). k - 1) (all .ensures)), (within-self _, c .before .before .effects-among .ensures))
+choose-transaction-requires-2 c κs = (sound (chosen (c .before .before .before)), (within-self _, c .before .effects-among .ensures))
 
--- the tree in which fewer registers are asked about is the same
 returns-3 : tie.Need-returns-3
 unfolding codesOf
-returns-3 c =
-    let start = c .before .before .before .before .before .before .before .before .before .before .before .before .before in
-    let all = c .before .before .before .before .before .before .before .before .before .before .before .before .bit in
-    let asked = c .before .before .before .before .before .before .reads-asked in
-    let a = start .args in
-    let D = constraints (a .starts .now) (a .predecessors .now) (a .allowed .now) (asked .result) (a .required .now) (a .written .now) in
-    answers-as (a .n) (c .choose-transaction2 .result)
-    (start-answers D (a .n) (all .result - 1) (c .choose-transaction2 .result) (start .pre) (ap (λ (k : ℕ). k - 1) (all .ensures)) (c .choose-transaction2 .ensures))
-    (asked-completion (a .starts .now) (a .predecessors .now) (a .allowed .now) (a .reads .now) (asked .result) (a .required .now) (a .written .now) (asked .ensures) (a .n) (start .pre))
+returns-3 c = let told = c .before .before .before .before in let b = chosen told in let a = b .before .args in let m = told .registers-asked .result in answered-as (a .n) (c .choose-transaction2 .result) (start-answers (asking (a .starts .now) (a .facts .now) m) (a .n) _ (c .choose-transaction2 .result) (b .before .pre) (all b) (c .choose-transaction2 .ensures)) (asked-completion (a .starts .now) (a .facts .now) m (told .registers-asked .ensures) (a .n) (b .before .pre))
 
 pub find-spec : {M : Type 1} → statement M
 find-spec =
     tie.close
     (tie.spec
     bit-requires
-    sub-t14
+    sub-t10
     choose-transaction-requires
     returns
+    before-end-requires
     stranded-requires
     returns-2
     registers-written-requires
-    reads-asked-requires
+    registers-asked-requires
     effects-among-requires
     choose-transaction-requires-2
     returns-3)

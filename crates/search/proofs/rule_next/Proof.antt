@@ -1,74 +1,67 @@
 -- `search::rule_next` meets its contract.
 -- Assumes nothing.
-use borrow.Author.Needs.{needs}
 use borrow.Author.Tests.{eq-eqb, ne-eqb, not-true, not-false}
 use mathlib.Core.Path.{_≡_, sym, _∙_}
 use mathlib.Core.Bool.{true, false}
 use native.Mathlib.Omega.{arith}
-use lib.ListN.{getD}
+use lib.Bits.{bitAnd}
+use lib.Dec.{eqb}
 use Rattle.places.specs.Bits.{members}
-use Rattle.places.specs.Tree.{ruleNext, legalReads, noneIn}
+use Rattle.places.specs.Facts.{afterOf}
+use Rattle.places.specs.Tree.{ruleNext, noneIn}
 use Rattle.places.proofs.BitLaws.{none-in-members}
+use borrow.Author.Needs.{needs}
 use Rattle.search.proofs.rule_next.Statement.{statement}
 use Rattle.search.proofs.rule_next.Tie as tie
+
+-- none of the unplaced must come before t exactly if the sets have no common member
+unplaced-before : (c : tie.Start) → let set = afterOf (c .args .facts .now) (c .args .t) in noneIn set (members (c .args .s .unplaced)) ≡ eqb (bitAnd set (c .args .s .unplaced)) 0
+unplaced-before c = none-in-members (afterOf (c .args .facts .now) (c .args .t)) (c .args .s .unplaced) (omega (arith, c .pre .0 .few))
 
 mul-if1 : tie.Need-mul-if1
 mul-if1 c = search needs
 
-element-copy-out-if1 : tie.Need-element-copy-out-if1
-element-copy-out-if1 c = search needs
+index-1-if1 : tie.Need-index-1-if1
+index-1-if1 c = search needs
+
+index-2-if1 : tie.Need-index-2-if1
+index-2-if1 c = search needs
 
 returns : tie.Need-returns
 unfolding ruleNext
-returns c =
-    let start = c .before .before .before in
-    let n = start .args .s .unplaced in
-    let set = getD (start .args .predecessors .now) (start .args .t) 0 in
-    let some : noneIn set (members n) ≡ false = none-in-members set n (omega (arith, start .pre .0 .few)) ∙ ne-eqb _ _ (c .if1 .taken) in
-    simp some
+returns c = simp (unplaced-before (c .before .before .before) ∙ ne-eqb _ _ (c .if1 .taken))
 
-mul-legal : tie.Need-mul-legal
-mul-legal c = search needs
-
-element-copy-out-legal : tie.Need-element-copy-out-legal
-element-copy-out-legal c = search needs
-
-legal-requires : tie.Need-legal-requires
-legal-requires c κs =
-    let start = c .before .before .before .before in
-    (start .pre .0 .coded, start .pre .1)
+legal-reads-requires : tie.Need-legal-reads-requires
+legal-reads-requires c κs = search needs
 
 returns-2 : tie.Need-returns-2
-unfolding ruleNext legalReads
-returns-2 c =
-    let start = c .before .before .before .before .before .before in
-    let n = start .args .s .unplaced in
-    let set = getD (start .args .predecessors .now) (start .args .t) 0 in
-    let none : noneIn set (members n) ≡ true = none-in-members set n (omega (arith, start .pre .0 .few)) ∙ eq-eqb _ _ (c .before .before .before .if1 .left) in
-    simp (none, sym (c .before .legal .ensures) ∙ not-true _ (c .if2 .taken))
+unfolding ruleNext
+returns-2 c = simp (unplaced-before (c .before .before .before .before .before) ∙ eq-eqb _ _ (c .before .before .if1 .left), sym (c .before .legal-reads .ensures) ∙ not-true _ (c .if2 .taken))
 
-element-copy-out-result : tie.Need-element-copy-out-result
-element-copy-out-result c = search needs
+mul-result : tie.Need-mul-result
+mul-result c = search needs
+
+index-1-result : tie.Need-index-1-result
+index-1-result c = search needs
+
+index-2-result : tie.Need-index-2-result
+index-2-result c = search needs
 
 returns-3 : tie.Need-returns-3
-unfolding ruleNext legalReads
-returns-3 c =
-    let start = c .before .before .before .before .before .before .before in
-    let n = start .args .s .unplaced in
-    let set = getD (start .args .predecessors .now) (start .args .t) 0 in
-    let none : noneIn set (members n) ≡ true = none-in-members set n (omega (arith, start .pre .0 .few)) ∙ eq-eqb _ _ (c .before .before .before .before .if1 .left) in
-    simp (none, sym (c .before .before .legal .ensures) ∙ not-false _ (c .before .if2 .left))
+unfolding ruleNext
+returns-3 c = simp (unplaced-before (c .before .before .before .before .before .before) ∙ eq-eqb _ _ (c .before .before .before .if1 .left), sym (c .before .before .legal-reads .ensures) ∙ not-false _ (c .before .if2 .left))
 
 pub rule-next-spec : {M : Type 1} → statement M
 rule-next-spec =
     tie.close
     (tie.spec
     mul-if1
-    element-copy-out-if1
+    index-1-if1
+    index-2-if1
     returns
-    mul-legal
-    element-copy-out-legal
-    legal-requires
+    legal-reads-requires
     returns-2
-    element-copy-out-result
+    mul-result
+    index-1-result
+    index-2-result
     returns-3)

@@ -1,10 +1,15 @@
 -- `straighten` meets its contract: what is taken in is what the columns hold.
 -- Assumes nothing.
-use mathlib.Core.Path.{_∙_}
+use mathlib.Core.Path.{refl, _∙_}
 use denote.Ref.{now}
 use Rattle.log.specs.Columns.{Columns, columns}
-use Rattle.marking.proofs.CheckLaws.{admitted-log}
-use Rattle.straighten.proofs.SettleLaws.{door}
+use native.Mathlib.Omega.{arith}
+use mathlib.Core.List.{List}
+use Rattle.events.specs.declared.event.Event.{Event}
+use Rattle.log.specs.declared.admit.Checked.{Checked}
+use Rattle.log.specs.Starts.{startOf}
+use Rattle.log.proofs.DoorLaws.{entered as let-in, behind}
+use Rattle.straighten.specs.Answer.{Given, afterColumns, straightenedAnswer}
 use borrow.Author.Needs.{needs}
 use Rattle.straighten.proofs.straighten.Statement.{statement}
 use Rattle.straighten.proofs.straighten.Tie as tie
@@ -19,6 +24,10 @@ entered a = a .before .before .before .before .before .before .before .before .b
 abbrev entered-2 : tie.After-admit2 → tie.Start
 entered-2 a = a .before .before .before .before .before .before .before .before .before .before
 
+-- the answer of what was taken in
+abbrev answer : tie.Start → Checked → List Event → Given
+answer s x h = afterColumns (startOf (s .args .starts .now)) h (s .args .count) (s .args .file .now) (now (s .args .output)) (now (s .args .moved)) x
+
 slice-aggregate-admit : tie.Need-slice-aggregate-admit
 slice-aggregate-admit c = search needs
 
@@ -29,7 +38,11 @@ slice-aggregate-straighten-admitted : tie.Need-slice-aggregate-straighten-admitt
 slice-aggregate-straighten-admitted c = search needs
 
 straighten-admitted-requires : tie.Need-straighten-admitted-requires
-straighten-admitted-requires c κs = λ e. admitted-log (c .before .before .before .before .admit .ensures .1 e)
+straighten-admitted-requires c κs =
+    let a = c .before .before .before .before in
+    let s = entered a in
+    let-in (s .args .edition) (s .args .starts .now) (given s) (s .args .count) (a .admit .result) _ _ (a .admit .ensures .0) (a .admit .ensures .1)
+    (λ m. omega (arith, a .before .before .if1 .taken))
 
 same-length : tie.Need-same-length
 same-length c = search needs
@@ -38,12 +51,14 @@ same-length-2 : tie.Need-same-length-2
 same-length-2 c = search needs
 
 returns : tie.Need-returns
+unfolding straightenedAnswer
 returns c =
     let q = c .before .before .before .before in
     let a = q .before .before .before .before .before in
     let s = entered a in
     q .straighten-admitted .ensures
-    ∙ door (s .args .edition) (s .args .starts .now) (given s) (s .args .count) (s .args .file .now) (now (s .args .output)) (now (s .args .moved)) _ (a .admit .ensures .0) (a .admit .ensures .1)
+    ∙ behind (s .args .edition) (s .args .starts .now) (given s) (s .args .count) (a .admit .result) _ _ (a .admit .ensures .0) (a .admit .ensures .1)
+    (λ m. omega (arith, a .before .before .if1 .taken)) (answer s) (λ r g h. refl)
 
 slice-aggregate-admit-2 : tie.Need-slice-aggregate-admit-2
 slice-aggregate-admit-2 c = search needs
@@ -55,7 +70,11 @@ slice-aggregate-straighten-admitted-2 : tie.Need-slice-aggregate-straighten-admi
 slice-aggregate-straighten-admitted-2 c = search needs
 
 straighten-admitted-requires-2 : tie.Need-straighten-admitted-requires-2
-straighten-admitted-requires-2 c κs = λ e. admitted-log (c .before .before .before .before .admit2 .ensures .1 e)
+straighten-admitted-requires-2 c κs =
+    let a = c .before .before .before .before in
+    let s = entered-2 a in
+    let-in (s .args .edition) (s .args .starts .now) (given s) (s .args .count) (a .admit2 .result) _ _ (a .admit2 .ensures .0) (a .admit2 .ensures .1)
+    (λ m. m)
 
 same-length-3 : tie.Need-same-length-3
 same-length-3 c = search needs
@@ -64,12 +83,14 @@ same-length-4 : tie.Need-same-length-4
 same-length-4 c = search needs
 
 returns-2 : tie.Need-returns-2
+unfolding straightenedAnswer
 returns-2 c =
     let q = c .before .before .before .before in
     let a = q .before .before .before .before .before in
     let s = entered-2 a in
     q .straighten-admitted2 .ensures
-    ∙ door (s .args .edition) (s .args .starts .now) (given s) (s .args .count) (s .args .file .now) (now (s .args .output)) (now (s .args .moved)) _ (a .admit2 .ensures .0) (a .admit2 .ensures .1)
+    ∙ behind (s .args .edition) (s .args .starts .now) (given s) (s .args .count) (a .admit2 .result) _ _ (a .admit2 .ensures .0) (a .admit2 .ensures .1)
+    (λ m. m) (answer s) (λ r g h. refl)
 
 pub straighten-spec : {M : Type 1} → statement M
 straighten-spec =

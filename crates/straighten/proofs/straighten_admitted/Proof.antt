@@ -5,7 +5,7 @@ use mathlib.Core.Path.{_≡_, sym, ap, _∙_}
 use denote.Ref.{now}
 use lib.ListN.{length, take}
 use lib.Seq.{length-take-le}
-use Rattle.log.specs.Rows.{logged, Admitted}
+use Rattle.log.specs.Rows.{logged}
 use Rattle.log.specs.Starts.{startOf}
 use Rattle.marking.specs.File.{known, fileRead}
 use Rattle.straighten.specs.Answer.{afterFile}
@@ -17,10 +17,6 @@ use Rattle.straighten.proofs.straighten_admitted.Tie as tie
 abbrev entered : tie.After-enum-told → tie.Start
 entered t = t .before .before .before .before .before
 
--- the first rows hold a readable history
-admitted : (t : tie.After-enum-told) → Admitted (logged (take (entered t .args .count) (entered t .args .rows .now))) (entered t .args .count) (entered t .args .rows .now)
-admitted t = entered t .pre (t .enum-told .given .1)
-
 enum-known-checked : tie.Need-enum-known-checked
 enum-known-checked c = search needs
 
@@ -28,10 +24,10 @@ enum-told : tie.Need-enum-told
 enum-told c = search needs
 
 slice-aggregate-straighten-log : tie.Need-slice-aggregate-straighten-log
-slice-aggregate-straighten-log c = sym (length-take-le _ _ (admitted (c .before) .room))
+slice-aggregate-straighten-log c = sym (length-take-le _ _ (entered (c .before) .pre .room (c .before .enum-told .given .1)))
 
 straighten-log-requires : tie.Need-straighten-log-requires
-straighten-log-requires c κs = admitted (c .before .before .before) .readable
+straighten-log-requires c κs = entered (c .before .before .before) .pre .readable (c .before .before .before .enum-told .given .1)
 
 returns : tie.Need-returns
 returns c = rw (c .before .checked .given .1)
@@ -51,7 +47,7 @@ returns-2 c =
     rw (t .enum-told .given .1)
     (l .straighten-log .ensures
     ∙ ap (λ (n : ℕ). afterFile (startOf (s .args .starts .now)) h n (s .args .file .now) (now (s .args .output)) (now (s .args .moved)) (fileRead (known h) (s .args .file .now)))
-    (length-take-le _ _ (admitted t .room)))
+    (length-take-le _ _ (s .pre .room (t .enum-told .given .1))))
 
 pub straighten-admitted-spec : {M : Type 1} → statement M
 straighten-admitted-spec =

@@ -1,66 +1,60 @@
--- `tables::find_order` meets its contract: the loop's standing and its two tables are those of the events passed.
--- Assumes nothing.
+-- `tables::find_order` meets its contract: the standing and the tables are those of the events passed. Assumes nothing.
+use borrow.Author.Needs.{needs}
 use mathlib.Core.Path.{_≡_, sym, ap, _∙_}
-use Prim.Native.Nat.{ℕ, _≤_, _-_}
+use Prim.Native.Nat.{ℕ, _≤_, _<_, _-_}
 use native.Mathlib.Omega.{arith}
-use denote.Ref.{now}
-use Rattle.log.specs.Columns.{columns, history}
+use mathlib.Core.List.{List}
+use lib.ListN.{length, take}
+use lib.Seq.{take-all}
+use Rattle.events.specs.declared.event.Event.{Event}
+use Rattle.log.specs.Rows.{logged}
+use Rattle.log.proofs.RowLaws.{logged-length}
 use Rattle.places.specs.Tree.{readAnswer}
 use Rattle.tables.specs.Order.{decoded}
-use Rattle.tables.specs.Tables.{tablesBy, tablesOf, goThrough}
+use Rattle.tables.specs.Tables.{Tables, tablesBy, tablesOf, goThrough}
 use Rattle.tables.proofs.TableLaws.{tables-more}
-use Rattle.tables.proofs.GoodHistory.{in-tables}
+use Rattle.tables.proofs.GoodHistory.{tabled}
 use Rattle.tables.proofs.Link.{found-by}
-use borrow.Author.Needs.{needs}
 use Rattle.tables.proofs.find_order.Statement.{statement}
 use Rattle.tables.proofs.find_order.Tie as tie
 
 abbrev Inv-loop : tie.InvT-loop
-Inv-loop starts kinds transactions registers values n predecessors₀ allowed₀ reads₀ required₀ written₀ s₀ i₀ predecessors allowed reads required written s i =
-    (i ≤ n) × (tablesBy s predecessors allowed reads required written ≡ tablesOf (history (columns kinds transactions registers values) i))
+Inv-loop starts log predecessors₀ allowed₀ reads₀ required₀ written₀ s₀ i₀ predecessors allowed reads required written s i =
+    (i ≤ length log) × (tablesBy s predecessors allowed reads required written ≡ tablesOf (take i (logged log)))
 
 abbrev μ-loop : tie.MeasureT-loop
-μ-loop starts kinds transactions registers values n predecessors₀ allowed₀ reads₀ required₀ written₀ s₀ i₀ predecessors allowed reads required written s i =
-    n - i
+μ-loop starts log predecessors₀ allowed₀ reads₀ required₀ written₀ s₀ i₀ predecessors allowed reads required written s i = length log - i
+
+-- the history, and the tables where a turn begins
+abbrev given : tie.Start Inv-loop μ-loop → List Event
+given s = logged (s .args .log .now)
+
+abbrev tabled-at : tie.At-loop Inv-loop μ-loop → Tables
+tabled-at l = tablesBy (l .loop .s) (l .loop .predecessors) (l .loop .allowed) (l .loop .reads) (l .loop .required) (l .loop .written)
+
+-- the turn in which an event is read
+abbrev turn : tie.After-written Inv-loop μ-loop → tie.After-event-at Inv-loop μ-loop
+turn a = a .before .before .before .before .before
+
+-- an event of the log is one of the history
+inside : (a : tie.After-event-at Inv-loop μ-loop) → a .before .before .loop .i < length (given (a .before .before .before .before))
+inside a = omega (arith, a .before .loop-test .taken, logged-length (a .before .before .before .before .args .log .now))
 
 no-events-requires : tie.Need-no-events-requires Inv-loop μ-loop
 no-events-requires c κs = search needs
 
 loop-holds : tie.Need-loop-holds Inv-loop μ-loop
-unfolding tablesOf goThrough history
+unfolding tablesOf goThrough
 loop-holds c = (omega arith, c .no-events .ensures)
 
-mul-step : tie.Need-mul-step Inv-loop μ-loop
-mul-step c = search needs
-
-shared-slice-read-step : tie.Need-shared-slice-read-step Inv-loop μ-loop
-shared-slice-read-step c = search needs
-
-mul-step-2 : tie.Need-mul-step-2 Inv-loop μ-loop
-mul-step-2 c = search needs
-
-shared-slice-read-step-2 : tie.Need-shared-slice-read-step-2 Inv-loop μ-loop
-shared-slice-read-step-2 c = search needs
-
-mul-step-3 : tie.Need-mul-step-3 Inv-loop μ-loop
-mul-step-3 c = search needs
-
-shared-slice-read-step-3 : tie.Need-shared-slice-read-step-3 Inv-loop μ-loop
-shared-slice-read-step-3 c = search needs
-
-mul-step-4 : tie.Need-mul-step-4 Inv-loop μ-loop
-mul-step-4 c = search needs
-
-shared-slice-read-step-4 : tie.Need-shared-slice-read-step-4 Inv-loop μ-loop
-shared-slice-read-step-4 c = search needs
+event-at-requires : tie.Need-event-at-requires Inv-loop μ-loop
+event-at-requires c κs = search needs
 
 step-requires : tie.Need-step-requires Inv-loop μ-loop
 step-requires c κs =
-    let start = c .before .before .before .before .before .before .before .before .before .before .before .before .before .before .before .before in
-    let cs = columns (now (start .args .kinds)) (now (start .args .transactions)) (now (start .args .registers)) (now (start .args .values)) in
-    let i = c .before .before .before .before .before .before .before .before .before .before .loop .i in
-    let q = in-tables cs (start .args .n) (start .pre) in
-    (q .transaction i (omega arith), q .register i (omega arith))
+    let a = turn c in
+    let start = a .before .before .before .before in
+    tabled (given start) (start .pre) (a .before .before .loop .i) (inside a) (a .event-at .result) (a .event-at .ensures)
 
 add-i : tie.Need-add-i Inv-loop μ-loop
 add-i c = search needs
@@ -70,10 +64,10 @@ loop-less c = search needs
 
 loop-again : tie.Need-loop-again Inv-loop μ-loop
 loop-again c =
-    let start = c .before .before .before .before .before .before .before .before .before .before .before .before .before .before .before .before .before in
-    let cs = columns (now (start .args .kinds)) (now (start .args .transactions)) (now (start .args .registers)) (now (start .args .values)) in
-    let at = c .before .before .before .before .before .before .before .before .before .before .before .loop in
-    (omega arith, tables-more cs (at .i) (tablesBy (at .s) (at .predecessors) (at .allowed) (at .reads) (at .required) (at .written)) _ (at .inv .1) (c .step .ensures))
+    let a = turn (c .before) in
+    let l = a .before .before in
+    let h = given (l .before .before) in
+    (omega (arith, a .before .loop-test .taken), tables-more h (l .loop .i) (inside a) (tabled-at l) _ (a .event-at .result) (l .loop .inv .1) (a .event-at .ensures) (c .step .ensures))
 
 transactions-begun-requires : tie.Need-transactions-begun-requires Inv-loop μ-loop
 transactions-begun-requires c κs = search needs
@@ -83,13 +77,14 @@ complete-requires c κs = search needs
 
 returns : tie.Need-returns Inv-loop μ-loop
 returns c =
-    let start = c .before .before .before .before .before .before .before .before .before .before .before .before .before .before in
-    let cs = columns (now (start .args .kinds)) (now (start .args .transactions)) (now (start .args .registers)) (now (start .args .values)) in
-    let at = c .before .before .before .before .before .before .before .before .loop in
-    let e : at .i ≡ start .args .n = omega arith in
-    let count = c .before .before .before .before .before .before .transactions-begun .ensures in
+    let counted = c .before .before .before .before .before .before in
+    let l = counted .before .before in
+    let start = l .before .before in
+    let h = given start in
+    let all : take (l .loop .i) h ≡ h = take-all (l .loop .i) h (omega (arith, counted .before .loop-test .left, logged-length (start .args .log .now))) in
+    let count = counted .transactions-begun .ensures in
     ap (λ (k : ℕ). decoded (readAnswer k (c .complete .result))) (sym count)
-    ∙ found-by (now (start .args .starts)) cs (start .args .n) _ _ _ (start .pre) (at .inv .1 ∙ ap (λ (k : ℕ). tablesOf (history cs k)) e) count (c .complete .ensures .completion)
+    ∙ found-by (start .args .starts .now) h _ _ _ (start .pre) (l .loop .inv .1 ∙ ap tablesOf all) count (c .complete .ensures .completion)
 
 pub find-order-spec : {M : Type 1} → statement M
 find-order-spec =
@@ -99,14 +94,7 @@ find-order-spec =
     μ-loop
     no-events-requires
     loop-holds
-    mul-step
-    shared-slice-read-step
-    mul-step-2
-    shared-slice-read-step-2
-    mul-step-3
-    shared-slice-read-step-3
-    mul-step-4
-    shared-slice-read-step-4
+    event-at-requires
     step-requires
     add-i
     loop-less

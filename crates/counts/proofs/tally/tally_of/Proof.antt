@@ -1,146 +1,103 @@
--- `counts::tally::tally_of` meets its contract: after i events the counts are those of the transactions begun in them.
--- Assumes nothing.
-use Prim.Native.Nat.{_-_, _<_}
-use mathlib.Core.Path.{_≡_, refl}
+-- `tally_of` meets its contract: after t transactions the counts are of those below t. Assumes nothing.
+use Prim.Native.Nat.{_-_, _<_, _≤_}
 use native.Mathlib.Omega.{arith}
-use lib.ListN.{getD}
+use mathlib.Core.Path.{_≡_, sym, ap, _∙_}
 use borrow.Author.Needs.{needs}
-use Rattle.log.specs.Columns.{columns}
-use Rattle.counts.proofs.TallyLaws.{Counted, tabled, counted-start, room, counted-more, counted-end}
+use Rattle.events.specs.Events.{begins}
+use Rattle.log.specs.Rows.{logged}
+use Rattle.opacity.specs.Transactions.{statusNumber, status}
+use Rattle.opacity.proofs.Bounds.{at-most-64}
+use Rattle.links.proofs.TableLaws.{status-table}
+use Rattle.counts.proofs.TallyLaws.{Counted, counted-first, number-low, counts-few, counted-more, counted-all}
 use Rattle.counts.proofs.tally.tally_of.Statement.{statement}
 use Rattle.counts.proofs.tally.tally_of.Tie as tie
-use Rattle.counts.proofs.tally.tally_of.Reads as reads
-use Rattle.counts.proofs.tally.tally_of.Lts as lts
-use Rattle.links.proofs.tables.slot_at.Reads as slot-at-reads
-use Rattle.links.proofs.tables.wide.Reads as wide-reads
-use Rattle.opacity.proofs.counts.counts_begin.Reads as counts-begin-reads
 
 abbrev Inv-loop : tie.InvT-loop
-Inv-loop kinds transactions registers values count standing₀ many₀ i₀ standing many i = Counted (columns kinds transactions registers values) count standing many i
+Inv-loop log standing begun many₀ t₀ many t = Counted (logged log) many t
 
 abbrev μ-loop : tie.MeasureT-loop
-μ-loop kinds transactions registers values count standing₀ many₀ i₀ standing many i = count - i
+μ-loop log standing begun many₀ t₀ many t = begun - t
+
+-- the history, a transaction that a turn takes, and how it stands
+abbrev told : tie.At-loop Inv-loop μ-loop → tie.Start Inv-loop μ-loop
+told l = l .before .before .before
+
+below : (c : tie.In-loop Inv-loop μ-loop) → c .before .loop .t < begins (logged (told (c .before) .args .log .now))
+below c = omega (arith, c .before .before .transactions-begun .ensures, c .loop-test .taken)
+
+low : (c : tie.In-loop Inv-loop μ-loop) → c .before .loop .t < 64
+low c = omega (arith, below c, at-most-64 _ (told (c .before) .pre))
+
+stood : (c : tie.After-wide Inv-loop μ-loop) → c .wide .result ≡ statusNumber (status (logged (told (c .before .before) .args .log .now)) (c .before .before .loop .t))
+stood c =
+    let l = c .before .before in
+    c .wide .ensures ∙ (l .before .before .table .ensures .holds (l .loop .t) (low (c .before)) ∙ status-table _ (l .loop .t))
+
+its-number : (c : tie.After-wide Inv-loop μ-loop) → c .wide .result < 4
+its-number c =
+    let l = c .before .before in
+    number-low _ (l .loop .many) (l .loop .t) (c .wide .result) (below (c .before)) (l .loop .inv) (stood c)
+
+table-requires : tie.Need-table-requires Inv-loop μ-loop
+table-requires c κs = c .pre
+
+transactions-begun-requires : tie.Need-transactions-begun-requires Inv-loop μ-loop
+transactions-begun-requires c κs = search needs
 
 loop-holds : tie.Need-loop-holds Inv-loop μ-loop
-loop-holds c =
-    let start = c .before .before .before .before in
-    let k = columns (start .args .kinds .now) (start .args .transactions .now) (start .args .registers .now) (start .args .values .now) in
-    counted-start k (start .args .count) (start .pre)
+loop-holds c = counted-first (logged (c .before .before .args .log .now))
 
 mul-wide : tie.Need-mul-wide Inv-loop μ-loop
-mul-wide c = search needs
+mul-wide c = let l = low c in search needs
 
-shared-slice-read-wide : tie.Need-shared-slice-read-wide Inv-loop μ-loop
-shared-slice-read-wide c = search needs
+array-read-wide : tie.Need-array-read-wide Inv-loop μ-loop
+array-read-wide c = low c
 
 wide-requires : tie.Need-wide-requires Inv-loop μ-loop
 wide-requires c κs = search needs
 
-mul-before : tie.Need-mul-before Inv-loop μ-loop
-mul-before c =
-    let start = c .before .before .before .before .before .before .before .before in
-    let at = c .before .before .before .loop in
-    let k = columns (start .args .kinds .now) (start .args .transactions .now) (start .args .registers .now) (start .args .values .now) in
-    let l : c .wide .result < 64 = omega (arith, c .wide .ensures, tabled k (start .args .count) (start .pre) .low (at .i) (omega arith)) in
-    search needs
+mul-many : tie.Need-mul-many Inv-loop μ-loop
+mul-many c = let n = its-number c in search needs
 
-array-read-before : tie.Need-array-read-before Inv-loop μ-loop
-array-read-before c =
-    let start = c .before .before .before .before .before .before .before .before in
-    let at = c .before .before .before .loop in
-    let k = columns (start .args .kinds .now) (start .args .transactions .now) (start .args .registers .now) (start .args .values .now) in
-    omega (arith, c .wide .ensures, tabled k (start .args .count) (start .pre) .low (at .i) (omega arith))
+array-read-many : tie.Need-array-read-many Inv-loop μ-loop
+array-read-many c = its-number c
 
-mul-slot-at : tie.Need-mul-slot-at Inv-loop μ-loop
-mul-slot-at c = search needs
+add-many : tie.Need-add-many Inv-loop μ-loop
+add-many c =
+    let l = c .before .before in
+    let few = counts-few _ (l .loop .many) (l .loop .t) (c .wide .result) (below (c .before)) (l .loop .inv) (stood c) in
+    omega (arith, few, low (c .before))
 
-shared-slice-read-slot-at : tie.Need-shared-slice-read-slot-at Inv-loop μ-loop
-shared-slice-read-slot-at c = search needs
+array-write-many : tie.Need-array-write-many Inv-loop μ-loop
+array-write-many c = its-number c
 
-slot-at-requires : tie.Need-slot-at-requires Inv-loop μ-loop
-slot-at-requires c κs =
-    let start = c .before .before .before .before .before .before .before .before .before in
-    let k = columns (start .args .kinds .now) (start .args .transactions .now) (start .args .registers .now) (start .args .values .now) in
-    omega (arith, tabled k (start .args .count) (start .pre) .few)
-
-mul-counts-begin : tie.Need-mul-counts-begin Inv-loop μ-loop
-mul-counts-begin c = search needs
-
-shared-slice-read-counts-begin : tie.Need-shared-slice-read-counts-begin Inv-loop μ-loop
-shared-slice-read-counts-begin c = search needs
-
-counts-begin-requires : tie.Need-counts-begin-requires Inv-loop μ-loop
-counts-begin-requires c κs = search needs
-
-mul-standing : tie.Need-mul-standing Inv-loop μ-loop
-mul-standing c =
-    let start = c .before .before .before .before .before .before .before .before .before .before .before .before in
-    let at = c .before .before .before .before .before .before .before .loop in
-    let k = columns (start .args .kinds .now) (start .args .transactions .now) (start .args .registers .now) (start .args .values .now) in
-    let l : c .before .before .before .before .wide .result < 64 = omega (arith, c .before .before .before .before .wide .ensures, tabled k (start .args .count) (start .pre) .low (at .i) (omega arith)) in
-    search needs
-
-array-write-standing : tie.Need-array-write-standing Inv-loop μ-loop
-array-write-standing c =
-    let start = c .before .before .before .before .before .before .before .before .before .before .before .before in
-    let at = c .before .before .before .before .before .before .before .loop in
-    let k = columns (start .args .kinds .now) (start .args .transactions .now) (start .args .registers .now) (start .args .values .now) in
-    omega (arith, c .before .before .before .before .wide .ensures, tabled k (start .args .count) (start .pre) .low (at .i) (omega arith))
-
-wide-requires-2 : tie.Need-wide-requires-2 Inv-loop μ-loop
-wide-requires-2 c κs = search needs
-
-wide-requires-3 : tie.Need-wide-requires-3 Inv-loop μ-loop
-wide-requires-3 c κs = search needs
-
-count-event-requires : tie.Need-count-event-requires Inv-loop μ-loop
-count-event-requires c κs =
-    let start = c .before .before .before .before .before .before .before .before .before .before .before .before .before .before .before in
-    let at = c .before .before .before .before .before .before .before .before .before .before .loop in
-    let l = c .before .before .before .before .before .before .before .before .before .loop-test .taken in
-    let k = columns (start .args .kinds .now) (start .args .transactions .now) (start .args .registers .now) (start .args .values .now) in
-    let t = c .before .before .before .before .before .before .before .wide .result in
-    rw (c .before .wide2 .ensures, c .wide3 .ensures)
-    (room k (start .args .count) (start .pre) (at .i) t (getD (at .standing) t 0) (c .before .before .before .before .before .slot-at .result) (c .before .before .before .counts-begin .result) l
-    (at .standing) (at .many) (at .inv) (c .before .before .before .before .before .before .before .wide .ensures) refl (c .before .before .before .before .before .slot-at .ensures) (c .before .before .before .counts-begin .ensures))
-
-add-i : tie.Need-add-i Inv-loop μ-loop
-add-i c = search needs
+add-t : tie.Need-add-t Inv-loop μ-loop
+add-t c = omega (arith, low (c .before))
 
 loop-less : tie.Need-loop-less Inv-loop μ-loop
 loop-less c = search needs
 
 loop-again : tie.Need-loop-again Inv-loop μ-loop
 loop-again c =
-    let start = c .before .before .before .before .before .before .before .before .before .before .before .before .before .before .before .before in
-    let at = c .before .before .before .before .before .before .before .before .before .before .before .loop in
-    let l = c .before .before .before .before .before .before .before .before .before .before .loop-test .taken in
-    let k = columns (start .args .kinds .now) (start .args .transactions .now) (start .args .registers .now) (start .args .values .now) in
-    let t = c .before .before .before .before .before .before .before .before .wide .result in
-    rw (c .count-event .ensures, c .before .before .wide2 .ensures, c .before .wide3 .ensures)
-    (counted-more k (start .args .count) (start .pre) (at .i) t (getD (at .standing) t 0) (c .before .before .before .before .before .before .slot-at .result) (c .before .before .before .before .counts-begin .result) l
-    (at .standing) (at .many) (at .inv) (c .before .before .before .before .before .before .before .before .wide .ensures) refl (c .before .before .before .before .before .before .slot-at .ensures) (c .before .before .before .before .counts-begin .ensures))
+    let l = c .before .before in
+    counted-more _ (l .loop .many) (l .loop .t) (c .wide .result) (below (c .before)) (l .loop .inv) (stood c)
+
+array-read-t20 : tie.Need-array-read-t20 Inv-loop μ-loop
+array-read-t20 c = search needs
+
+array-read-t23 : tie.Need-array-read-t23 Inv-loop μ-loop
+array-read-t23 c = search needs
+
+array-read-t26 : tie.Need-array-read-t26 Inv-loop μ-loop
+array-read-t26 c = search needs
 
 array-read-t29 : tie.Need-array-read-t29 Inv-loop μ-loop
 array-read-t29 c = search needs
 
-array-read-t32 : tie.Need-array-read-t32 Inv-loop μ-loop
-array-read-t32 c = search needs
-
-array-read-t35 : tie.Need-array-read-t35 Inv-loop μ-loop
-array-read-t35 c = search needs
-
-array-read-t38 : tie.Need-array-read-t38 Inv-loop μ-loop
-array-read-t38 c = search needs
-
 returns : tie.Need-returns Inv-loop μ-loop
 returns c =
-    let start = c .before .before .before .before .before .before in
-    let at = c .before .loop in
-    let k = columns (start .args .kinds .now) (start .args .transactions .now) (start .args .registers .now) (start .args .values .now) in
-    let inside = at .inv .inside in
-    let e : at .i ≡ start .args .count = omega arith in
-    counted-end k (start .args .count) (start .pre) (at .standing) (at .many) (rw e at (at .inv))
+    let l = c .before in
+    counted-all _ (l .loop .many) (l .loop .t) (omega (arith, l .before .transactions-begun .ensures, c .loop-test .left)) (l .loop .inv)
 
 pub tally-of-spec : {M : Type 1} → statement M
 tally-of-spec =
@@ -148,28 +105,21 @@ tally-of-spec =
     (tie.spec
     Inv-loop
     μ-loop
+    table-requires
+    transactions-begun-requires
     loop-holds
     mul-wide
-    shared-slice-read-wide
+    array-read-wide
     wide-requires
-    mul-before
-    array-read-before
-    mul-slot-at
-    shared-slice-read-slot-at
-    slot-at-requires
-    mul-counts-begin
-    shared-slice-read-counts-begin
-    counts-begin-requires
-    mul-standing
-    array-write-standing
-    wide-requires-2
-    wide-requires-3
-    count-event-requires
-    add-i
+    mul-many
+    array-read-many
+    add-many
+    array-write-many
+    add-t
     loop-less
     loop-again
+    array-read-t20
+    array-read-t23
+    array-read-t26
     array-read-t29
-    array-read-t32
-    array-read-t35
-    array-read-t38
     returns)

@@ -1,22 +1,11 @@
 -- `check_admitted` meets its contract: by what was taken in.
 -- Assumes nothing.
-use Prim.Native.Nat.{_≤_}
-use mathlib.Core.Path.{_≡_, sym, _∙_}
-use native.Mathlib.Omega.{arith}
-use lib.ListN.{length, take}
+use mathlib.Core.Path.{sym, ap, _∙_}
+use Rattle.marking.specs.Answer.{fromFile}
 use lib.Seq.{length-take-le}
-use Rattle.log.specs.Rows.{logged, Admitted}
 use borrow.Author.Needs.{needs}
 use Rattle.marking.proofs.check.check_admitted.Statement.{statement}
 use Rattle.marking.proofs.check.check_admitted.Tie as tie
-
--- where no question refused, and the function's entry
-abbrev entered : tie.After-enum-told → tie.Start
-entered t = t .before .before .before
-
--- the first rows hold a readable history
-admitted : (t : tie.After-enum-told) → Admitted (logged (take (entered t .args .count) (entered t .args .rows .now))) (entered t .args .count) (entered t .args .rows .now)
-admitted t = entered t .pre (t .enum-told .given .1)
 
 enum-known-checked : tie.Need-enum-known-checked
 enum-known-checked c = search needs
@@ -25,16 +14,19 @@ enum-told : tie.Need-enum-told
 enum-told c = search needs
 
 slice-aggregate-check-log : tie.Need-slice-aggregate-check-log
-slice-aggregate-check-log c = let a = admitted (c .before) in sym (length-take-le _ _ (a .room))
+slice-aggregate-check-log c = sym (length-take-le _ _ (c .before .before .before .before .pre .room (c .before .enum-told .given .1)))
 
 check-log-requires : tie.Need-check-log-requires
-check-log-requires c κs = admitted (c .before) .readable
+check-log-requires c κs = c .before .before .before .before .pre .readable (c .before .enum-told .given .1)
+
+checking-of-requires : tie.Need-checking-of-requires
+checking-of-requires c κs = search needs
 
 returns : tie.Need-returns
 returns c = rw (c .before .checked .given .1)
 
 returns-2 : tie.Need-returns-2
-returns-2 c = rw (c .before .before .enum-told .given .1) (c .check-log .ensures)
+returns-2 c = rw (c .before .before .before .enum-told .given .1) (c .checking-of .ensures ∙ ap fromFile (c .before .check-log .ensures))
 
 pub check-admitted-spec : {M : Type 1} → statement M
 check-admitted-spec =
@@ -44,5 +36,6 @@ check-admitted-spec =
     enum-told
     slice-aggregate-check-log
     check-log-requires
+    checking-of-requires
     returns
     returns-2)

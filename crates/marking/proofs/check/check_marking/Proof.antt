@@ -1,21 +1,32 @@
 -- `check_marking` meets its contract: what is taken in is what the columns hold.
 -- Assumes nothing.
-use mathlib.Core.Path.{_∙_}
+use native.Mathlib.Omega.{arith}
+use mathlib.Core.Path.{refl, _∙_}
+use mathlib.Core.List.{List}
 use Rattle.log.specs.Columns.{Columns, columns}
-use Rattle.marking.proofs.CheckLaws.{admitted-log, door}
+use Rattle.log.specs.declared.admit.Checked.{Checked}
+use Rattle.log.specs.Starts.{startOf}
+use Rattle.log.proofs.DoorLaws.{entered, behind}
+use Rattle.events.specs.declared.event.Event.{Event}
+use Rattle.marking.specs.declared.check.Checking.{Checking}
+use Rattle.marking.specs.Answer.{afterColumns, verdictAnswer}
 use borrow.Author.Needs.{needs}
 use Rattle.marking.proofs.check.check_marking.Statement.{statement}
 use Rattle.marking.proofs.check.check_marking.Tie as tie
 
--- where the columns were taken in, into 64 rows or into 2,048: the function's entry
-abbrev entered : tie.After-admit → tie.Start
-entered a = a .before .before .before .before .before .before .before .before
-
-abbrev entered-2 : tie.After-admit2 → tie.Start
-entered-2 a = a .before .before .before .before .before .before .before .before
-
 abbrev given : tie.Start → Columns
 given s = columns (s .args .kinds .now) (s .args .transactions .now) (s .args .registers .now) (s .args .values .now)
+
+-- where columns of few events, and of more, have been taken in
+abbrev few : tie.After-admit → tie.Start
+few a = a .before .before .before .before .before .before .before .before
+
+abbrev many : tie.After-admit2 → tie.Start
+many a = a .before .before .before .before .before .before .before .before
+
+-- the answer of what was taken in
+abbrev answer : tie.Start → Checked → List Event → Checking
+answer s x h = afterColumns (startOf (s .args .starts .now)) h (s .args .file .now) x
 
 slice-aggregate-admit : tie.Need-slice-aggregate-admit
 slice-aggregate-admit c = search needs
@@ -27,14 +38,20 @@ slice-aggregate-check-admitted : tie.Need-slice-aggregate-check-admitted
 slice-aggregate-check-admitted c = search needs
 
 check-admitted-requires : tie.Need-check-admitted-requires
-check-admitted-requires c κs = λ e. admitted-log (c .before .before .admit .ensures .1 e)
+check-admitted-requires c κs =
+    let a = c .before .before in
+    let s = few a in
+    entered (s .args .edition) (s .args .starts .now) (given s) (s .args .count) (a .admit .result) _ _ (a .admit .ensures .0) (a .admit .ensures .1)
+    (λ m. omega (arith, a .before .before .if1 .taken))
 
 returns : tie.Need-returns
+unfolding verdictAnswer
 returns c =
     let a = c .before .before .before in
-    let s = entered a in
+    let s = few a in
     c .check-admitted .ensures
-    ∙ door (s .args .edition) (s .args .starts .now) (given s) (s .args .count) (s .args .file .now) _ (a .admit .ensures .0) (a .admit .ensures .1)
+    ∙ behind (s .args .edition) (s .args .starts .now) (given s) (s .args .count) (a .admit .result) _ _ (a .admit .ensures .0) (a .admit .ensures .1)
+    (λ m. omega (arith, a .before .before .if1 .taken)) (answer s) (λ r g h. refl)
 
 slice-aggregate-admit-2 : tie.Need-slice-aggregate-admit-2
 slice-aggregate-admit-2 c = search needs
@@ -46,14 +63,19 @@ slice-aggregate-check-admitted-2 : tie.Need-slice-aggregate-check-admitted-2
 slice-aggregate-check-admitted-2 c = search needs
 
 check-admitted-requires-2 : tie.Need-check-admitted-requires-2
-check-admitted-requires-2 c κs = λ e. admitted-log (c .before .before .admit2 .ensures .1 e)
+check-admitted-requires-2 c κs =
+    let a = c .before .before in
+    let s = many a in
+    entered (s .args .edition) (s .args .starts .now) (given s) (s .args .count) (a .admit2 .result) _ _ (a .admit2 .ensures .0) (a .admit2 .ensures .1) (λ m. m)
 
 returns-2 : tie.Need-returns-2
+unfolding verdictAnswer
 returns-2 c =
     let a = c .before .before .before in
-    let s = entered-2 a in
+    let s = many a in
     c .check-admitted2 .ensures
-    ∙ door (s .args .edition) (s .args .starts .now) (given s) (s .args .count) (s .args .file .now) _ (a .admit2 .ensures .0) (a .admit2 .ensures .1)
+    ∙ behind (s .args .edition) (s .args .starts .now) (given s) (s .args .count) (a .admit2 .result) _ _ (a .admit2 .ensures .0) (a .admit2 .ensures .1)
+    (λ m. m) (answer s) (λ r g h. refl)
 
 pub check-marking-spec : {M : Type 1} → statement M
 check-marking-spec =

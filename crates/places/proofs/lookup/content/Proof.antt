@@ -13,16 +13,16 @@ use Rattle.places.proofs.lookup.content.Statement.{statement}
 use Rattle.places.proofs.lookup.content.Tie as tie
 
 abbrev Inv-loop : tie.InvT-loop
-Inv-loop starts written placed filled register left₀ left =
-    (left ≤ filled) × (contents (startOf starts) (writesIn written) (decode (codesOf filled placed)) register ≡ after (startOf starts) written (codesOf filled placed) register left)
+Inv-loop starts facts placed filled register left₀ left =
+    (left ≤ filled) × (contents (startOf starts) (writesIn facts) (decode (codesOf filled placed)) register ≡ after (startOf starts) facts (codesOf filled placed) register left)
 
 abbrev μ-loop : tie.MeasureT-loop
-μ-loop starts written placed filled register left₀ left = left
+μ-loop starts facts placed filled register left₀ left = left
 
 loop-holds : tie.Need-loop-holds Inv-loop μ-loop
 loop-holds c =
     let a = c .args in
-    (omega arith, all-after (startOf (a .starts .now)) (a .written .now) (codesOf (a .filled) (a .placed)) (a .register) (a .filled) (length-codes (a .filled) (a .placed)))
+    (omega arith, all-after (startOf (a .starts .now)) (a .facts .now) (codesOf (a .filled) (a .placed)) (a .register) (a .filled) (length-codes (a .filled) (a .placed)))
 
 sub-code-at : tie.Need-sub-code-at Inv-loop μ-loop
 sub-code-at c = omega arith
@@ -48,8 +48,8 @@ returns c =
     let p = codesOf n (start .args .placed) in
     let long = length-codes n (start .args .placed) in
     let code = c .before .before .code-at .ensures ∙ sym (code-at-place n (start .args .placed) (at .left - 1) (n - at .left) (omega arith)) in
-    let wrote = c .before .write-of .ensures ∙ ap (writeOf (start .args .written .now) (start .args .register)) code in
-    ends-at (startOf (start .args .starts .now)) (start .args .written .now) p (start .args .register) (at .left) (c .before .write-of .result)
+    let wrote = c .before .write-of .ensures ∙ ap (writeOf (start .args .facts .now) (start .args .register)) code in
+    ends-at (startOf (start .args .starts .now)) (start .args .facts .now) p (start .args .register) (at .left) (c .before .write-of .result)
     (omega arith) (omega arith) wrote (c .if1 .taken)
     ∙ sym (at .inv .1)
 
@@ -67,10 +67,10 @@ loop-again c =
     let p = codesOf n (start .args .placed) in
     let long = length-codes n (start .args .placed) in
     let code = c .before .before .code-at .ensures ∙ sym (code-at-place n (start .args .placed) (at .left - 1) (n - at .left) (omega arith)) in
-    let wrote = c .before .write-of .ensures ∙ ap (writeOf (start .args .written .now) (start .args .register)) code in (
+    let wrote = c .before .write-of .ensures ∙ ap (writeOf (start .args .facts .now) (start .args .register)) code in (
       omega arith,
       at .inv .1
-          ∙ passed-over (startOf (start .args .starts .now)) (start .args .written .now) p (start .args .register) (at .left) (c .before .write-of .result)
+          ∙ passed-over (startOf (start .args .starts .now)) (start .args .facts .now) p (start .args .register) (at .left) (c .before .write-of .result)
           (omega arith) (omega arith) wrote (c .if1 .left),
     )
 
@@ -84,7 +84,7 @@ returns-2 c =
     let at = c .before .before .loop in
     let e : at .left ≡ 0 = omega arith in
     let st = startOf (start .args .starts .now) in
-    let w = start .args .written .now in
+    let w = start .args .facts .now in
     let p = codesOf (start .args .filled) (start .args .placed) in
     let r = start .args .register in
     c .start-value .ensures ∙ sym (before-any st w p r) ∙ ap (after st w p r) (sym e) ∙ sym (at .inv .1)

@@ -9,7 +9,7 @@ use Prim.Native.Nat.{ℕ, _^_, _<_}
 use lib.Pow.{pow-pos}
 use Rattle.lists.specs.Lists.{all}
 use Rattle.places.specs.Bits.{bitAt, members}
-use Rattle.places.specs.Places.{codesOf, writesIn}
+use Rattle.places.specs.Places.{codesOf}
 use Rattle.places.specs.Tree.{legalAt}
 use Rattle.places.proofs.BitLaws.{member-lt}
 use Rattle.places.proofs.SetLaws.{lowest-member, none-left, one-passes, one-fails}
@@ -17,24 +17,24 @@ use Rattle.places.proofs.lookup.legal.Statement.{statement}
 use Rattle.places.proofs.lookup.legal.Tie as tie
 
 -- the test of one register, from what the function is told
-abbrev test : List ℕ → List ℕ → List ℕ → ℕ → ℕ → ℕ → ℕ → Bool
-test starts required written placed filled t = legalAt starts required (writesIn written) (codesOf filled placed) t
+abbrev test : List ℕ → List (List ℕ) → ℕ → ℕ → ℕ → ℕ → Bool
+test starts facts placed filled t = legalAt starts facts (codesOf filled placed) t
 
 abbrev Inv-loop : tie.InvT-loop
-Inv-loop starts required written placed filled t registers left₀ left =
-    (all (test starts required written placed filled t) (members registers) ≡ all (test starts required written placed filled t) (members left)) × (left < 2 ^ 32)
+Inv-loop starts facts placed filled t registers left₀ left =
+    (all (test starts facts placed filled t) (members registers) ≡ all (test starts facts placed filled t) (members left)) × (left < 2 ^ 32)
 
 abbrev μ-loop : tie.MeasureT-loop
-μ-loop starts required written placed filled t registers left₀ left = left
+μ-loop starts facts placed filled t registers left₀ left = left
 
-value-of-requires : tie.Need-value-of-requires Inv-loop μ-loop
-value-of-requires c κs = tt
+wide-requires : tie.Need-wide-requires Inv-loop μ-loop
+wide-requires c κs = tt
 
 loop-holds : tie.Need-loop-holds Inv-loop μ-loop
 loop-holds c =
     let a = c .before .args in
-    let p = test (a .starts .now) (a .required .now) (a .written .now) (a .placed) (a .filled) (a .t) in
-    (ap (λ (n : ℕ). all p (members n)) (sym (c .value-of .ensures)), omega (arith, c .value-of .ensures, c .before .fits .registers .fits))
+    let p = test (a .starts .now) (a .facts .now) (a .placed) (a .filled) (a .t) in
+    (ap (λ (n : ℕ). all p (members n)) (sym (c .wide .ensures)), omega (arith, c .wide .ensures, c .before .fits .registers .fits))
 
 lowest-requires : tie.Need-lowest-requires Inv-loop μ-loop
 lowest-requires c κs = tt
@@ -50,7 +50,7 @@ returns : tie.Need-returns Inv-loop μ-loop
 returns c =
     let a = c .before .before .before .before .before .before .args in
     let at = c .before .before .before .before .loop in
-    let p = test (a .starts .now) (a .required .now) (a .written .now) (a .placed) (a .filled) (a .t) in
+    let p = test (a .starts .now) (a .facts .now) (a .placed) (a .filled) (a .t) in
     sym (at .inv .0 ∙ one-fails p (c .before .before .lowest .result) (at .left) (omega (arith, at .inv .1)) (c .before .before .before .loop-test .taken) (c .before .before .lowest .ensures)
     (sym (c .before .legal-at .ensures) ∙ not-true _ (c .if1 .taken)))
 
@@ -69,7 +69,7 @@ loop-again : tie.Need-loop-again Inv-loop μ-loop
 loop-again c =
     let a = c .before .before .before .before .before .before .before .args in
     let at = c .before .before .before .before .before .loop in
-    let p = test (a .starts .now) (a .required .now) (a .written .now) (a .placed) (a .filled) (a .t) in (
+    let p = test (a .starts .now) (a .facts .now) (a .placed) (a .filled) (a .t) in (
       at .inv .0
           ∙ one-passes p (c .before .before .before .lowest .result) (at .left) (c .without .result) (omega (arith, at .inv .1)) (c .before .before .before .before .loop-test .taken)
           (c .before .before .before .lowest .ensures) (c .without .ensures) (sym (c .before .before .legal-at .ensures) ∙ not-false _ (c .before .if1 .left)),
@@ -80,7 +80,7 @@ returns-2 : tie.Need-returns-2 Inv-loop μ-loop
 returns-2 c =
     let a = c .before .before .before .args in
     let at = c .before .loop in
-    let p = test (a .starts .now) (a .required .now) (a .written .now) (a .placed) (a .filled) (a .t) in
+    let p = test (a .starts .now) (a .facts .now) (a .placed) (a .filled) (a .t) in
     sym (at .inv .0 ∙ none-left p (at .left) (c .loop-test .left))
 
 pub legal-spec : {M : Type 1} → statement M
@@ -89,7 +89,7 @@ legal-spec =
     (tie.spec
     Inv-loop
     μ-loop
-    value-of-requires
+    wide-requires
     loop-holds
     lowest-requires
     legal-at-requires

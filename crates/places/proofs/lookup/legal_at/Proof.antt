@@ -1,22 +1,25 @@
 -- `places::lookup::legal_at` meets its contract.
 -- Assumes nothing.
-use borrow.Author.Needs.{needs}
 use borrow.Author.Tests.{eq-eqb, ne-eqb}
 use Rattle.places.specs.Tree.{legalAt}
+use borrow.Author.Needs.{needs}
 use Rattle.places.proofs.lookup.legal_at.Statement.{statement}
 use Rattle.places.proofs.lookup.legal_at.Tie as tie
-
-mul-w : tie.Need-mul-w
-mul-w c = search needs
 
 add-w : tie.Need-add-w
 add-w c = search needs
 
+mul-w : tie.Need-mul-w
+mul-w c = search needs
+
 mul-w-2 : tie.Need-mul-w-2
 mul-w-2 c = search needs
 
-element-copy-out-w : tie.Need-element-copy-out-w
-element-copy-out-w c = search needs
+index-1-w : tie.Need-index-1-w
+index-1-w c = search needs
+
+index-2-w : tie.Need-index-2-w
+index-2-w c = search needs
 
 returns : tie.Need-returns
 unfolding legalAt
@@ -35,4 +38,13 @@ returns-2 c = simp (ne-eqb _ _ (c .before .if1 .left), c .content .ensures)
 pub legal-at-spec : {M : Type 1} → statement M
 legal-at-spec =
     tie.close
-    (tie.spec mul-w add-w mul-w-2 element-copy-out-w returns content-requires sub-result returns-2)
+    (tie.spec
+    add-w
+    mul-w
+    mul-w-2
+    index-1-w
+    index-2-w
+    returns
+    content-requires
+    sub-result
+    returns-2)

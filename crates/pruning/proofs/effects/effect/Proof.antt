@@ -10,7 +10,6 @@ use lib.Dec.{eqb}
 use borrow.Author.Tests.{eqb-true, eqb-false}
 use lib.Pow.{pow-pos}
 use Rattle.places.specs.Bits.{bitAt}
-use Rattle.places.specs.Places.{writesIn}
 use Rattle.places.specs.Tree.{legalAt}
 use Rattle.places.proofs.BitLaws.{member-le, member-lt, member-off, no-member}
 use Rattle.places.proofs.SetLaws.{lowest-member, passed-one, member-passes}
@@ -19,37 +18,37 @@ use Rattle.pruning.proofs.effects.effect.Statement.{statement}
 use Rattle.pruning.proofs.effects.effect.Tie as tie
 
 -- the read of k was legal before, if it is
-abbrev Same : List ℕ → List ℕ → ℕ → ℕ → ℕ → Type 0
-Same required written x t k =
-    (o p : List ℕ) → legalAt o required (writesIn written) (p ++ ((x * 2 + 1) ∷ [])) t k ≡ true → legalAt o required (writesIn written) p t k ≡ true
+abbrev Same : List (List ℕ) → ℕ → ℕ → ℕ → Type 0
+Same facts x t k =
+    (o p : List ℕ) → legalAt o facts (p ++ ((x * 2 + 1) ∷ [])) t k ≡ true → legalAt o facts p t k ≡ true
 
 -- nor is it after the commit of x
-abbrev Never : List ℕ → List ℕ → ℕ → ℕ → ℕ → Type 0
-Never required written x t k = (o p : List ℕ) → legalAt o required (writesIn written) (p ++ ((x * 2 + 1) ∷ [])) t k ≡ true → ⊥
+abbrev Never : List (List ℕ) → ℕ → ℕ → ℕ → Type 0
+Never facts x t k = (o p : List ℕ) → legalAt o facts (p ++ ((x * 2 + 1) ∷ [])) t k ≡ true → ⊥
 
 -- one of the set is not
-pub record Spoilt (required written : List ℕ) (x t set : ℕ) : Type 0 where
+pub record Spoilt (facts : List (List ℕ)) (x t set : ℕ) : Type 0 where
   pub register : ℕ
   pub low : register < 32
   pub isIn : bitAt register set ≡ 1
-  pub never : Never required written x t register
+  pub never : Never facts x t register
 
 abbrev Inv-loop : tie.InvT-loop
-Inv-loop required written x t registers writes done₀ left₀ done left =
+Inv-loop facts x t registers writes done₀ left₀ done left =
     (left < 2 ^ 32) × ((k : ℕ) → bitAt k left ≡ 1 → bitAt k (bitAnd registers writes) ≡ 1)
-    × ((k : ℕ) → (bitAt k left ≡ 1 → ⊥) → bitAt k (bitAnd registers writes) ≡ 1 → done ≡ 0 → Same required written x t k)
-    × ((done % 4294967296 ≡ 0 → ⊥) → Spoilt required written x t (bitAnd registers writes))
+    × ((k : ℕ) → (bitAt k left ≡ 1 → ⊥) → bitAt k (bitAnd registers writes) ≡ 1 → done ≡ 0 → Same facts x t k)
+    × ((done % 4294967296 ≡ 0 → ⊥) → Spoilt facts x t (bitAnd registers writes))
 
 abbrev μ-loop : tie.MeasureT-loop
-μ-loop required written x t registers writes done₀ left₀ done left = left
+μ-loop facts x t registers writes done₀ left₀ done left = left
 
-value-of-requires : tie.Need-value-of-requires Inv-loop μ-loop
-value-of-requires c κs = tt
+wide-requires : tie.Need-wide-requires Inv-loop μ-loop
+wide-requires c κs = tt
 
 loop-holds : tie.Need-loop-holds Inv-loop μ-loop
 loop-holds c =
     let a = c .before .args in
-    let e : c .value-of .result ≡ bitAnd (a .registers) (a .writes) = c .value-of .ensures in (
+    let e : c .wide .result ≡ bitAnd (a .registers) (a .writes) = c .wide .ensures in (
       omega (arith, c .before .fits .registers .fits, and-le-l (a .registers) (a .writes)),
       λ k h. rw e at h,
       λ k out h. absurd (out (rw e h)),
@@ -92,17 +91,17 @@ loop-again c =
     let set = bitAnd (a .registers) (a .writes) in (
       omega (arith, c .without .ensures, at .inv .0),
       λ k h. at .inv .1 k (member-off r k (at .left) isIn (rw (c .without .ensures) at h)),
-      passed-one (λ (k : ℕ). bitAt k set ≡ 1 → bitOr (at .done) (e .result) ≡ 0 → Same (a .required .now) (a .written .now) (a .x) (a .t) k)
+      passed-one (λ (k : ℕ). bitAt k set ≡ 1 → bitOr (at .done) (e .result) ≡ 0 → Same (a .facts .now) (a .x) (a .t) k)
           r (at .left) (c .without .result) isIn (c .without .ensures) (λ h z. e .ensures .untouched (or-none (at .done) (e .result) z .1)) (λ k out h z. at .inv .2 k out h (or-none (at .done) (e .result) z .0)),
-      λ z. from-one (a .required .now) (a .written .now) (a .x) (a .t) set (at .done) (e .result) z (at .inv .3)
+      λ z. from-one (a .facts .now) (a .x) (a .t) set (at .done) (e .result) z (at .inv .3)
           (λ f. record { register = r; low = member-lt r (at .left) 32 isIn (at .inv .0); isIn = at .inv .1 r isIn; never = e .ensures .spoilt f }),
     )
   where
-    from-one : (w v : List ℕ) (x t set d e : ℕ) → (bitOr d e % 4294967296 ≡ 0 → ⊥) → ((d % 4294967296 ≡ 0 → ⊥) → Spoilt w v x t set)
-        → ((e % 4294967296 ≡ 0 → ⊥) → Spoilt w v x t set) → Spoilt w v x t set
-    from-one w v x t set d e z f g = go (eqb (d % 4294967296) 0) refl (eqb (e % 4294967296) 0) refl
+    from-one : (F : List (List ℕ)) (x t set d e : ℕ) → (bitOr d e % 4294967296 ≡ 0 → ⊥) → ((d % 4294967296 ≡ 0 → ⊥) → Spoilt F x t set)
+        → ((e % 4294967296 ≡ 0 → ⊥) → Spoilt F x t set) → Spoilt F x t set
+    from-one F x t set d e z f g = go (eqb (d % 4294967296) 0) refl (eqb (e % 4294967296) 0) refl
       where
-        go : (b : Bool) → eqb (d % 4294967296) 0 ≡ b → (k : Bool) → eqb (e % 4294967296) 0 ≡ k → Spoilt w v x t set
+        go : (b : Bool) → eqb (d % 4294967296) 0 ≡ b → (k : Bool) → eqb (e % 4294967296) 0 ≡ k → Spoilt F x t set
         go false q k s = f (eqb-false _ _ q)
         go true q false s = g (eqb-false _ _ s)
         go true q true s = absurd (z (or-registers d e (eqb-true _ _ q) (eqb-true _ _ s)))
@@ -113,7 +112,7 @@ returns c =
     let at = c .before .loop in
     let a = start .args in
     let set = bitAnd (a .registers) (a .writes) in
-    effect-among (a .required .now) (a .written .now) (a .x) (a .t) (a .registers) (a .writes) (at .done) (start .fits .registers .fits) (start .pre .1 .1)
+    effect-among (a .facts .now) (a .x) (a .t) (a .registers) (a .writes) (at .done) (start .fits .registers .fits) (start .pre .1 .1)
     (record {
       untouched = λ z o p h. all-members _ _ set (omega (arith, start .fits .registers .fits, and-le-l (a .registers) (a .writes)))
           (λ k b q. at .inv .2 k (no-member k (at .left) (c .loop-test .left)) b z o p q) h;
@@ -126,7 +125,7 @@ effect-spec =
     (tie.spec
     Inv-loop
     μ-loop
-    value-of-requires
+    wide-requires
     loop-holds
     lowest-requires
     effect-at-requires

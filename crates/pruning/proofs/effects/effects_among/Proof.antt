@@ -5,19 +5,23 @@ use mathlib.Core.Path.{_≡_, _∙_}
 use Prim.Native.Nat.{_-_, _/_, _≤_, _<_}
 use native.Mathlib.Omega.{arith}
 use lib.ListN.{length, length-set}
+use Rattle.places.specs.Tree.{legalReads}
 use Rattle.pruning.specs.Runs.{Effects}
 use Rattle.pruning.proofs.EffectLaws.{nothing-known, known-on}
 use Rattle.pruning.proofs.effects.effects_among.Statement.{statement}
 use Rattle.pruning.proofs.effects.effects_among.Tie as tie
 
 abbrev Inv-loop : tie.InvT-loop
-Inv-loop reads required written writes effects₀ i₀ effects i = (i ≤ 100) × (length effects ≡ 100) × Effects reads required written effects
+Inv-loop facts asked writes effects₀ i₀ effects i = (i ≤ 100) × (length effects ≡ 100) × Effects facts asked effects
 
 abbrev μ-loop : tie.MeasureT-loop
-μ-loop reads required written writes effects₀ i₀ effects i = 100 - i
+μ-loop facts asked writes effects₀ i₀ effects i = 100 - i
 
 loop-holds : tie.Need-loop-holds Inv-loop μ-loop
-loop-holds c = (omega arith, search needs, nothing-known (c .args .reads .now) (c .args .required .now) (c .args .written .now))
+loop-holds c = (omega arith, search needs, nothing-known (c .args .facts .now) (c .args .asked))
+
+reads-asked-requires : tie.Need-reads-asked-requires Inv-loop μ-loop
+reads-asked-requires c κs = omega arith
 
 mul-effect : tie.Need-mul-effect Inv-loop μ-loop
 mul-effect c = omega arith
@@ -25,17 +29,8 @@ mul-effect c = omega arith
 element-copy-out-effect : tie.Need-element-copy-out-effect Inv-loop μ-loop
 element-copy-out-effect c = omega arith
 
-mul-effect-2 : tie.Need-mul-effect-2 Inv-loop μ-loop
-mul-effect-2 c = omega arith
-
-element-copy-out-effect-2 : tie.Need-element-copy-out-effect-2 Inv-loop μ-loop
-element-copy-out-effect-2 c = omega arith
-
 effect-requires : tie.Need-effect-requires Inv-loop μ-loop
-effect-requires c κs =
-    let at = c .before .before .before .loop in
-    let x : at .i / 10 < 10 = omega arith in
-    (x, (omega arith, c .before .before .before .before .pre .at (at .i / 10) x))
+effect-requires c κs = let at = c .before .before .before .loop in let x : at .i / 10 < 10 = omega arith in (x, (omega arith, c .before .before .before .before .pre .at (at .i / 10) x))
 
 mul-effects : tie.Need-mul-effects Inv-loop μ-loop
 mul-effects c = omega arith
@@ -50,12 +45,14 @@ loop-less : tie.Need-loop-less Inv-loop μ-loop
 loop-less c = omega arith
 
 loop-again : tie.Need-loop-again Inv-loop μ-loop
+unfolding legalReads
 loop-again c =
     let at = c .before .before .before .before .loop in
-    let a = c .before .before .before .before .before .args in (
+    let a = c .before .before .before .before .before .args in
+    let told = c .before .before .reads-asked .ensures in (
       omega arith,
       length-set (at .effects) (at .i) (c .effect .result) ∙ at .inv .1,
-      known-on (a .reads .now) (a .required .now) (a .written .now) (at .effects) (at .i) (c .effect .result) (at .inv .1) (omega arith) (at .inv .2) (c .effect .ensures),
+      known-on (a .facts .now) (a .asked) (at .effects) (at .i) (c .effect .result) (at .inv .1) (omega arith) (at .inv .2) (rw told at (c .effect .ensures)),
     )
 
 returns : tie.Need-returns Inv-loop μ-loop
@@ -68,10 +65,9 @@ effects-among-spec =
     Inv-loop
     μ-loop
     loop-holds
+    reads-asked-requires
     mul-effect
     element-copy-out-effect
-    mul-effect-2
-    element-copy-out-effect-2
     effect-requires
     mul-effects
     array-write-effects

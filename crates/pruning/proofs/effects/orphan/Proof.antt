@@ -12,17 +12,17 @@ use Rattle.pruning.proofs.effects.orphan.Statement.{statement}
 use Rattle.pruning.proofs.effects.orphan.Tie as tie
 
 abbrev Inv-loop : tie.InvT-loop
-Inv-loop starts allowed required written s t registers left₀ left = (left < 2 ^ 32) × ((k : ℕ) → bitAt k left ≡ 1 → bitAt k registers ≡ 1)
+Inv-loop starts facts s t registers left₀ left = (left < 2 ^ 32) × ((k : ℕ) → bitAt k left ≡ 1 → bitAt k registers ≡ 1)
 
 abbrev μ-loop : tie.MeasureT-loop
-μ-loop starts allowed required written s t registers left₀ left = left
+μ-loop starts facts s t registers left₀ left = left
 
-value-of-requires : tie.Need-value-of-requires Inv-loop μ-loop
-value-of-requires c κs = tt
+wide-requires : tie.Need-wide-requires Inv-loop μ-loop
+wide-requires c κs = tt
 
 loop-holds : tie.Need-loop-holds Inv-loop μ-loop
 loop-holds c =
-    let e : c .value-of .result ≡ c .before .args .registers = c .value-of .ensures in
+    let e : c .wide .result ≡ c .before .args .registers = c .wide .ensures in
     (omega (arith, c .before .fits .registers .fits), λ k h. rw e at h)
 
 lowest-requires : tie.Need-lowest-requires Inv-loop μ-loop
@@ -79,7 +79,7 @@ orphan-spec =
     (tie.spec
     Inv-loop
     μ-loop
-    value-of-requires
+    wide-requires
     loop-holds
     lowest-requires
     orphan-at-requires

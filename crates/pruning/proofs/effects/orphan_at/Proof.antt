@@ -1,9 +1,9 @@
 -- `pruning::effects::orphan_at` meets its contract.
 -- Assumes nothing.
-use borrow.Author.Needs.{needs}
 use borrow.Author.Tests.{not-true}
 use mathlib.Core.Path.{sym, _∙_}
 use mathlib.Core.Bool.{false≢true}
+use borrow.Author.Needs.{needs}
 use Rattle.pruning.proofs.effects.orphan_at.Statement.{statement}
 use Rattle.pruning.proofs.effects.orphan_at.Tie as tie
 
@@ -13,17 +13,20 @@ legal-at-requires c κs = search needs
 returns : tie.Need-returns
 returns c = λ e. absurd (false≢true e)
 
-mul-value : tie.Need-mul-value
-mul-value c = search needs
-
 add-value : tie.Need-add-value
 add-value c = search needs
+
+mul-value : tie.Need-mul-value
+mul-value c = search needs
 
 mul-value-2 : tie.Need-mul-value-2
 mul-value-2 c = search needs
 
-element-copy-out-value : tie.Need-element-copy-out-value
-element-copy-out-value c = search needs
+index-1-value : tie.Need-index-1-value
+index-1-value c = search needs
+
+index-2-value : tie.Need-index-2-value
+index-2-value c = search needs
 
 sourced-requires : tie.Need-sourced-requires
 sourced-requires c κs = search needs
@@ -34,4 +37,13 @@ returns-2 c = λ e. record { wrong = sym (c .before .before .before .legal-at .e
 pub orphan-at-spec : {M : Type 1} → statement M
 orphan-at-spec =
     tie.close
-    (tie.spec legal-at-requires returns mul-value add-value mul-value-2 element-copy-out-value sourced-requires returns-2)
+    (tie.spec
+    legal-at-requires
+    returns
+    add-value
+    mul-value
+    mul-value-2
+    index-1-value
+    index-2-value
+    sourced-requires
+    returns-2)

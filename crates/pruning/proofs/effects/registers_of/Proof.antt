@@ -7,25 +7,28 @@ use Rattle.pruning.proofs.effects.registers_of.Statement.{statement}
 use Rattle.pruning.proofs.effects.registers_of.Tie as tie
 
 abbrev Inv-loop : tie.InvT-loop
-Inv-loop written t registers₀ r₀ registers r = (r ≤ 32) × WritesBelow written t registers r
+Inv-loop facts t registers₀ r₀ registers r = (r ≤ 32) × WritesBelow facts t registers r
 
 abbrev μ-loop : tie.MeasureT-loop
-μ-loop written t registers₀ r₀ registers r = 32 - r
+μ-loop facts t registers₀ r₀ registers r = 32 - r
 
 loop-holds : tie.Need-loop-holds Inv-loop μ-loop
 loop-holds c = (omega arith, record { has = λ r l f. absurd (omega arith) })
 
-mul-noted : tie.Need-mul-noted Inv-loop μ-loop
-mul-noted c = omega (arith, c .before .before .pre)
-
 add-noted : tie.Need-add-noted Inv-loop μ-loop
 add-noted c = omega (arith, c .before .before .pre)
+
+mul-noted : tie.Need-mul-noted Inv-loop μ-loop
+mul-noted c = omega (arith, c .before .before .pre)
 
 mul-noted-2 : tie.Need-mul-noted-2 Inv-loop μ-loop
 mul-noted-2 c = omega (arith, c .before .before .pre)
 
-element-copy-out-noted : tie.Need-element-copy-out-noted Inv-loop μ-loop
-element-copy-out-noted c = omega (arith, c .before .before .pre)
+index-1-noted : tie.Need-index-1-noted Inv-loop μ-loop
+index-1-noted c = omega (arith, c .before .before .pre)
+
+index-2-noted : tie.Need-index-2-noted Inv-loop μ-loop
+index-2-noted c = omega (arith, c .before .before .pre)
 
 noted-requires : tie.Need-noted-requires Inv-loop μ-loop
 noted-requires c κs = omega arith
@@ -37,10 +40,7 @@ loop-less : tie.Need-loop-less Inv-loop μ-loop
 loop-less c = omega arith
 
 loop-again : tie.Need-loop-again Inv-loop μ-loop
-loop-again c =
-    let at = c .before .before .before .loop in
-    let a = c .before .before .before .before .args in
-    (omega arith, writes-on (a .written .now) (a .t) (at .registers) (at .r) (c .noted .result) (at .inv .1) (c .noted .ensures))
+loop-again c = let at = c .before .before .before .loop in let a = c .before .before .before .before .args in (omega arith, writes-on (a .facts .now) (a .t) (at .registers) (at .r) (c .noted .result) (at .inv .1) (c .noted .ensures))
 
 returns : tie.Need-returns Inv-loop μ-loop
 returns c = let at = c .before .loop in record { has = λ r l f. at .inv .1 .has r (omega arith) f }
@@ -52,10 +52,11 @@ registers-of-spec =
     Inv-loop
     μ-loop
     loop-holds
-    mul-noted
     add-noted
+    mul-noted
     mul-noted-2
-    element-copy-out-noted
+    index-1-noted
+    index-2-noted
     noted-requires
     add-r
     loop-less

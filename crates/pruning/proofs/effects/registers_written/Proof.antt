@@ -9,10 +9,10 @@ use Rattle.pruning.proofs.effects.registers_written.Statement.{statemen
 use Rattle.pruning.proofs.effects.registers_written.Tie as tie
 
 abbrev Inv-loop : tie.InvT-loop
-Inv-loop written registers₀ t₀ registers t = (t ≤ 10) × WrittenBelow written registers t
+Inv-loop facts registers₀ t₀ registers t = (t ≤ 10) × WrittenBelow facts registers t
 
 abbrev μ-loop : tie.MeasureT-loop
-μ-loop written registers₀ t₀ registers t = 10 - t
+μ-loop facts registers₀ t₀ registers t = 10 - t
 
 loop-holds : tie.Need-loop-holds Inv-loop μ-loop
 loop-holds c = (omega arith, record { long = search needs; at = λ k l. absurd (omega arith) })
@@ -35,7 +35,7 @@ loop-less c = omega arith
 loop-again : tie.Need-loop-again Inv-loop μ-loop
 loop-again c =
     let at = c .before .before .loop in
-    (omega arith, written-on (c .before .before .before .args .written .now) (at .registers) (at .t) (c .registers-of .result) (omega arith) (at .inv .1) (c .registers-of .ensures))
+    (omega arith, written-on (c .before .before .before .args .facts .now) (at .registers) (at .t) (c .registers-of .result) (omega arith) (at .inv .1) (c .registers-of .ensures))
 
 returns : tie.Need-returns Inv-loop μ-loop
 returns c =

@@ -14,11 +14,11 @@ use Rattle.pruning.proofs.effects.sourced.Statement.{statement}
 use Rattle.pruning.proofs.effects.sourced.Tie as tie
 
 abbrev Inv-loop : tie.InvT-loop
-Inv-loop allowed written set t register value left₀ left =
-    Within set left × ((k : ℕ) → (bitAt k left ≡ 1 → ⊥) → bitAt k set ≡ 1 → NoSource allowed written t register value k)
+Inv-loop facts set t register value left₀ left =
+    Within set left × ((k : ℕ) → (bitAt k left ≡ 1 → ⊥) → bitAt k set ≡ 1 → NoSource facts t register value k)
 
 abbrev μ-loop : tie.MeasureT-loop
-μ-loop allowed written set t register value left₀ left = left
+μ-loop facts set t register value left₀ left = left
 
 loop-holds : tie.Need-loop-holds Inv-loop μ-loop
 loop-holds c = (within-self (c .args .set), λ k out h. absurd (out h))
@@ -63,7 +63,7 @@ loop-again c =
     let isIn = lowest-member w (at .left) (omega (arith, at .inv .0 .few, start .pre .0)) (c .before .before .before .before .loop-test .taken) (c .before .before .before .lowest .ensures) in
     let a = start .args in (
       within-rest (a .set) (at .left) w (c .without .result) (at .inv .0) isIn (c .without .ensures),
-      passed-one (λ (k : ℕ). bitAt k (a .set) ≡ 1 → NoSource (a .allowed .now) (a .written .now) (a .t) (a .register) (a .value) k) w (at .left) (c .without .result) isIn (c .without .ensures)
+      passed-one (λ (k : ℕ). bitAt k (a .set) ≡ 1 → NoSource (a .facts .now) (a .t) (a .register) (a .value) k) w (at .left) (c .without .result) isIn (c .without .ensures)
           (λ h. c .before .before .source .ensures (c .before .if1 .left)) (at .inv .1),
     )
 

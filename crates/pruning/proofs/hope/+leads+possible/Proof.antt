@@ -10,11 +10,11 @@ use lib.Pow.{pow-pos}
 use Rattle.lists.proofs.ListLaws.{clash}
 use Rattle.places.specs.Bits.{bitAt}
 use Rattle.places.specs.State.{Within}
-use Rattle.places.specs.Tree.{constraints}
+use Rattle.places.specs.Tree.{asking}
 use Rattle.places.proofs.BitLaws.{member-le, no-member}
 use Rattle.places.proofs.SetLaws.{lowest-member, within-rest, passed-one}
 use Rattle.places.proofs.StateLaws.{room-lt, fewer}
-use Rattle.pruning.proofs.HopeLaws.{Missed, ready-by, ready-on, next-ready, next-may, committed-next, awaited-less, no-run}
+use Rattle.pruning.proofs.HopeLaws.{Missed, ready-on, next-ready, next-may, committed-next, awaited-less, no-run}
 use Rattle.pruning.proofs.OrphanLaws.{orphaned-run}
 use Prim.Native.Nat.{ℕ, _+_, _*_, _<_}
 use borrow.Fn.Kinds.{In}
@@ -35,24 +35,24 @@ use Rattle.places.proofs.state.Search.place.Reads as place-reads
 use Rattle.pruning.proofs.hope.+leads+possible.{statement}
 use Rattle.pruning.proofs.hope.+leads+possible.Tie.{close}
 
-abbrev μ-leads : Measures 7 leads-kinds.ps ℕ
-μ-leads κs a = ones (a .1 .1 .1 .1 .1 .1 .1 .0 .unplaced) * 2
+abbrev μ-leads : Measures 3 leads-kinds.ps ℕ
+μ-leads κs a = ones (a .1 .1 .1 .1 .0 .unplaced) * 2
 
-abbrev μ-possible : Measures 7 possible-kinds.ps ℕ
-μ-possible κs a = ones (a .1 .1 .1 .1 .1 .1 .1 .0 .unplaced) * 2 + 1
+abbrev μ-possible : Measures 3 possible-kinds.ps ℕ
+μ-possible κs a = ones (a .1 .1 .1 .1 .0 .unplaced) * 2 + 1
 
-abbrev leads-at : ℕ → In 7 leads-kinds.ps
-leads-at t = and 7 leads-kinds.ps (is 7 leads-kinds.ps μ-leads t) leads.Pre
+abbrev leads-at : ℕ → In 3 leads-kinds.ps
+leads-at t = and 3 leads-kinds.ps (is 3 leads-kinds.ps μ-leads t) leads.Pre
 
-abbrev leads-below : ℕ → In 7 leads-kinds.ps
-leads-below t = and 7 leads-kinds.ps (falls 7 leads-kinds.ps _<_ μ-leads t) leads.Pre
+abbrev leads-below : ℕ → In 3 leads-kinds.ps
+leads-below t = and 3 leads-kinds.ps (falls 3 leads-kinds.ps _<_ μ-leads t) leads.Pre
 
-abbrev possible-at : ℕ → In 7 possible-kinds.ps
-possible-at t = and 7 possible-kinds.ps (is 7 possible-kinds.ps μ-possible t) possible.Pre
+abbrev possible-at : ℕ → In 3 possible-kinds.ps
+possible-at t = and 3 possible-kinds.ps (is 3 possible-kinds.ps μ-possible t) possible.Pre
 
-abbrev possible-below : ℕ → In 7 possible-kinds.ps
+abbrev possible-below : ℕ → In 3 possible-kinds.ps
 possible-below t =
-    and 7 possible-kinds.ps (falls 7 possible-kinds.ps _<_ μ-possible t) possible.Pre
+    and 3 possible-kinds.ps (falls 3 possible-kinds.ps _<_ μ-possible t) possible.Pre
 
 -- what each is handed of the functions that it calls
 abbrev leads-claims : ℕ → leads-lts.Claims
@@ -88,7 +88,7 @@ leads-other-than-requires t c κs =
 leads-returns : (t : ℕ) → leads-lts.Need-returns (leads-claims t) (leads-at t) leads.Post
 leads-returns t c =
     let start = c .before .before in
-    let D = constraints (start .args .starts .now) (start .args .predecessors .now) (start .args .allowed .now) (start .args .reads .now) (start .args .required .now) (start .args .written .now) in
+    let D = asking (start .args .starts .now) (start .args .facts .now) (start .args .asked) in
     λ u p l a. absurd (clash (next-may D (start .args .s) (start .args .need) u p l (start .args .t) 1 0 (omega arith) (omega arith) (λ e. omega arith) a)
     (sym (c .before .other-than .ensures) ∙ not-true _ (c .if1 .taken)))
 
@@ -106,9 +106,8 @@ leads-returns-2 : (t : ℕ) → leads-lts.Need-returns-2 (leads-claims t) (leads
 leads-returns-2 t c =
     let a = c .before .before .before .before .before .before .args in
     let place = c .before .before .before .place in
-    let D = constraints (a .starts .now) (a .predecessors .now) (a .allowed .now) (a .reads .now) (a .required .now) (a .written .now) in
-    λ u p l run. absurd (orphaned-run (a .starts .now) (a .predecessors .now) (a .allowed .now) (a .reads .now) (a .required .now) (a .written .now)
-    (place .result) _ _ _ l (c .before .orphaned .ensures (c .if2 .taken)) (committed-next D (a .s) (a .need) u p l (a .t) (place .result) (place .ensures) run))
+    let D = asking (a .starts .now) (a .facts .now) (a .asked) in
+    λ u p l run. absurd (orphaned-run D (place .result) _ _ _ l (c .before .orphaned .ensures (c .if2 .taken)) (committed-next D (a .s) (a .need) u p l (a .t) (place .result) (place .ensures) run))
 
 leads-ready-after-requires : (t : ℕ) → leads-lts.Need-ready-after-requires (leads-claims t) (leads-at t) leads.Post
 leads-ready-after-requires t c κs =
@@ -125,7 +124,7 @@ leads-possible-requires t c κs =
       (
         place .ensures .sound,
         (
-          ready-on (a .starts .now) (a .reads .now) (a .required .now) (a .written .now) (a .s) (place .result) (a .t) (a .ready) (c .ready-after .result)
+          ready-on (asking (a .starts .now) (a .facts .now) (a .asked)) (a .s) (place .result) (a .t) (a .ready) (c .ready-after .result)
               (start .pre .1 .0) (place .ensures) (start .pre .1 .1 .0) (c .ready-after .ensures),
           start .pre .1 .1 .1,
         ),
@@ -135,16 +134,16 @@ leads-possible-requires t c κs =
 leads-returns-3 : (t : ℕ) → leads-lts.Need-returns-3 (leads-claims t) (leads-at t) leads.Post
 leads-returns-3 t c =
     let a = c .before .before .before .before .before .before .before .before .args in
-    let D = constraints (a .starts .now) (a .predecessors .now) (a .allowed .now) (a .reads .now) (a .required .now) (a .written .now) in
+    let D = asking (a .starts .now) (a .facts .now) (a .asked) in
     let place = c .before .before .before .before .before .place in
     λ u p l run. c .possible .ensures _ _ l (committed-next D (a .s) (a .need) u p l (a .t) (place .result) (place .ensures) run)
 
 abbrev possible-Inv-loop : possible-lts.InvT-loop
-possible-Inv-loop starts predecessors allowed reads required written effects s need ready rest left₀ left =
-    Within (s .unplaced) left × ((k : ℕ) → (bitAt k left ≡ 1 → ⊥) → Missed (constraints starts predecessors allowed reads required written) s rest k)
+possible-Inv-loop starts facts effects asked s need ready rest left₀ left =
+    Within (s .unplaced) left × ((k : ℕ) → (bitAt k left ≡ 1 → ⊥) → Missed (asking starts facts asked) s rest k)
 
 abbrev possible-μ-loop : possible-lts.MeasureT-loop
-possible-μ-loop starts predecessors allowed reads required written effects s need ready rest left₀ left = left
+possible-μ-loop starts facts effects asked s need ready rest left₀ left = left
 
 possible-settle-requires : (t : ℕ) → possible-lts.Need-settle-requires (possible-claims t) (possible-at t) possible.Post possible-Inv-loop possible-μ-loop
 possible-settle-requires t c κs =
@@ -157,8 +156,8 @@ possible-returns t c =
 possible-loop-holds : (t : ℕ) → possible-lts.Need-loop-holds (possible-claims t) (possible-at t) possible.Post possible-Inv-loop possible-μ-loop
 possible-loop-holds t c =
     let start = c .before .before in
-    let D = constraints (start .args .starts .now) (start .args .predecessors .now) (start .args .allowed .now) (start .args .reads .now) (start .args .required .now) (start .args .written .now) in
-    let known = ready-by (start .args .starts .now) (start .args .predecessors .now) (start .args .allowed .now) (start .args .reads .now) (start .args .required .now) (start .args .written .now) (start .args .s) (start .args .ready) (start .pre .1 .1 .0) in
+    let D = asking (start .args .starts .now) (start .args .facts .now) (start .args .asked) in
+    let known = start .pre .1 .1 .0 in
     (known .within, λ k out u p l a. out (next-ready D (start .args .s) (c .before .settle .result) u p l k (start .args .ready) 1 (omega arith) known a))
 
 possible-lowest-requires : (t : ℕ) → possible-lts.Need-lowest-requires (possible-claims t) (possible-at t) possible.Post possible-Inv-loop possible-μ-loop
@@ -201,7 +200,7 @@ possible-loop-again t c =
     let at = c .before .before .before .before .before .loop in
     let t′ = c .before .before .before .lowest .result in
     let isIn = lowest-member t′ (at .left) (omega (arith, at .inv .0 .few, start .pre .1 .0 .few)) (c .before .before .before .before .loop-test .taken) (c .before .before .before .lowest .ensures) in
-    let D = constraints (start .args .starts .now) (start .args .predecessors .now) (start .args .allowed .now) (start .args .reads .now) (start .args .required .now) (start .args .written .now) in
+    let D = asking (start .args .starts .now) (start .args .facts .now) (start .args .asked) in
     let rest = c .without .result in (
       within-rest (start .args .s .unplaced) (at .left) t′ rest (at .inv .0) isIn (c .without .ensures),
       passed-one (Missed D (start .args .s) (c .before .before .before .before .before .before .before .settle .result)) t′ (at .left) rest isIn (c .without .ensures)
@@ -212,9 +211,9 @@ possible-returns-3 : (t : ℕ) → possible-lts.Need-returns-3 (possible-claims 
 possible-returns-3 t c =
     let start = c .before .before .before .before in
     let at = c .before .loop in
-    let D = constraints (start .args .starts .now) (start .args .predecessors .now) (start .args .allowed .now) (start .args .reads .now) (start .args .required .now) (start .args .written .now) in
+    let D = asking (start .args .starts .now) (start .args .facts .now) (start .args .asked) in
     let needed = c .before .before .before .settle in
-    let known = ready-by (start .args .starts .now) (start .args .predecessors .now) (start .args .allowed .now) (start .args .reads .now) (start .args .required .now) (start .args .written .now) (start .args .s) (start .args .ready) (start .pre .1 .1 .0) in
+    let known = start .pre .1 .1 .0 in
     λ u p l a. absurd (no-run D (start .args .s) (needed .result) (start .args .ready) (omega (arith, needed .ensures .within .few, start .fits .need .fits)) (c .before .before .if1 .left)
     known (needed .ensures .stuck) (λ k. at .inv .1 k (no-member k (at .left) (c .loop-test .left))) l u p
     (awaited-less D (start .args .s) (start .args .need) (needed .result) u p l (needed .ensures .within .isIn) a))

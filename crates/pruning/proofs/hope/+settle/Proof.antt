@@ -22,14 +22,14 @@ use Rattle.places.proofs.sets.without.Reads as without-reads
 use Rattle.pruning.proofs.hope.+settle.{statement}
 use Rattle.pruning.proofs.hope.+settle.Tie.{close}
 
-abbrev μ-settle : Measures 2 settle-kinds.ps ℕ
-μ-settle κs a = a .1 .1 .0
+abbrev μ-settle : Measures 1 settle-kinds.ps ℕ
+μ-settle κs a = a .1 .0
 
-abbrev settle-at : ℕ → In 2 settle-kinds.ps
-settle-at t = and 2 settle-kinds.ps (is 2 settle-kinds.ps μ-settle t) settle.Pre
+abbrev settle-at : ℕ → In 1 settle-kinds.ps
+settle-at t = and 1 settle-kinds.ps (is 1 settle-kinds.ps μ-settle t) settle.Pre
 
-abbrev settle-below : ℕ → In 2 settle-kinds.ps
-settle-below t = and 2 settle-kinds.ps (falls 2 settle-kinds.ps _<_ μ-settle t) settle.Pre
+abbrev settle-below : ℕ → In 1 settle-kinds.ps
+settle-below t = and 1 settle-kinds.ps (falls 1 settle-kinds.ps _<_ μ-settle t) settle.Pre
 
 -- what it is handed of the functions that it calls
 abbrev claims : ℕ → settle-lts.Claims
@@ -45,15 +45,15 @@ claims t = (
 )
 
 -- k may not be passed over
-abbrev Stays : List ℕ → List ℕ → ℕ → ℕ → ℕ → Type 0
-Stays predecessors allowed need ready k = bitAt k need ≡ 1 → bitAt k ready ≡ 1 → otherThan predecessors allowed need k 1 ≡ false
+abbrev Stays : List (List ℕ) → ℕ → ℕ → ℕ → Type 0
+Stays facts need ready k = bitAt k need ≡ 1 → bitAt k ready ≡ 1 → otherThan facts need k 1 ≡ false
 
 abbrev settle-Inv-loop : settle-lts.InvT-loop
-settle-Inv-loop predecessors allowed need ready left₀ left =
-    Within need left × Within ready left × ((k : ℕ) → (bitAt k left ≡ 1 → ⊥) → Stays predecessors allowed need ready k)
+settle-Inv-loop facts need ready left₀ left =
+    Within need left × Within ready left × ((k : ℕ) → (bitAt k left ≡ 1 → ⊥) → Stays facts need ready k)
 
 abbrev settle-μ-loop : settle-lts.MeasureT-loop
-settle-μ-loop predecessors allowed need ready left₀ left = left
+settle-μ-loop facts need ready left₀ left = left
 
 settle-loop-holds : (t : ℕ) → settle-lts.Need-loop-holds (claims t) (settle-at t) settle.Post settle-Inv-loop settle-μ-loop
 settle-loop-holds t c =
@@ -128,7 +128,7 @@ settle-loop-again t c =
     let e = c .without2 .ensures in (
       within-rest (start .args .need) (at .left) t′ rest (at .inv .0) isIn e,
       within-rest (start .args .ready) (at .left) t′ rest (at .inv .1) isIn e,
-      passed-one (Stays (start .args .predecessors .now) (start .args .allowed .now) (start .args .need) (start .args .ready)) t′ (at .left) rest isIn e
+      passed-one (Stays (start .args .facts .now) (start .args .need) (start .args .ready)) t′ (at .left) rest isIn e
           (λ g h. sym (c .before .before .other-than .ensures) ∙ c .before .if1 .left) (at .inv .2),
     )
 

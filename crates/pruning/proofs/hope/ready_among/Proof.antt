@@ -1,24 +1,36 @@
 -- `pruning::hope::ready_among` meets its contract: what it has taken out did not pass, and what is left to be asked is in it.
 -- Assumes nothing.
-use borrow.Author.Needs.{needs}
 use mathlib.Core.Path.{_≡_, _∙_}
 use mathlib.Core.Bool.{true}
-use Prim.Native.Nat.{ℕ}
+use Prim.Native.Nat.{ℕ, _<_}
 use native.Mathlib.Omega.{arith}
 use lib.Pow.{pow-pos}
+use Rattle.places.specs.Bits.{bitAt}
 use Rattle.places.specs.State.{placedOf, Within}
-use Rattle.pruning.specs.Runs.{legalFor, Ready}
+use Rattle.places.specs.Tree.{asking, legalReads}
+use Rattle.pruning.specs.Runs.{Ready}
 use Rattle.places.proofs.BitLaws.{member-le, member-lt}
 use Rattle.places.proofs.SetLaws.{lowest-member, keeps-all, keeps-on}
 use Rattle.pruning.proofs.hope.ready_among.Statement.{statement}
 use Rattle.pruning.proofs.hope.ready_among.Tie as tie
 
 abbrev Inv-loop : tie.InvT-loop
-Inv-loop starts reads required written s ready₀ left₀ ready left =
-    Ready starts reads required written s ready × Within ready left
+Inv-loop starts facts asked s ready₀ left₀ ready left = Ready (asking starts facts asked) s ready × Within ready left
 
 abbrev μ-loop : tie.MeasureT-loop
-μ-loop starts reads required written s ready₀ left₀ ready left = left
+μ-loop starts facts asked s ready₀ left₀ ready left = left
+
+-- the transaction of a turn, which is one of those left, and below ten
+isIn : (a : tie.After-lowest Inv-loop μ-loop) → bitAt (a .lowest .result) (a .before .before .loop .left) ≡ 1
+isIn a =
+    let at = a .before .before .loop in
+    lowest-member _ (at .left) (omega (arith, at .inv .1 .few, at .inv .0 .within .few, a .before .before .before .pre .few)) (a .before .loop-test .taken) (a .lowest .ensures)
+
+low : (a : tie.After-lowest Inv-loop μ-loop) → a .lowest .result < 10
+low a =
+    let start = a .before .before .before in
+    let at = a .before .before .loop in
+    member-lt _ (start .args .s .unplaced) 10 (at .inv .0 .within .isIn _ (at .inv .1 .isIn _ (isIn a))) (start .pre .few)
 
 loop-holds : tie.Need-loop-holds Inv-loop μ-loop
 loop-holds c = keeps-all _ (c .args .s .unplaced)
@@ -26,66 +38,30 @@ loop-holds c = keeps-all _ (c .args .s .unplaced)
 lowest-requires : tie.Need-lowest-requires Inv-loop μ-loop
 lowest-requires c κs = tt
 
-mul-legal : tie.Need-mul-legal Inv-loop μ-loop
-mul-legal c =
-    let start = c .before .before .before in
-    let at = c .before .before .loop in
-    let t = c .lowest .result in
-    let isIn = lowest-member t (at .left) (omega (arith, at .inv .1 .few, at .inv .0 .within .few, start .pre .few)) (c .before .loop-test .taken) (c .lowest .ensures) in
-    let ten = member-lt t (start .args .s .unplaced) 10 (at .inv .0 .within .isIn t (at .inv .1 .isIn t isIn)) (start .pre .few) in
-    search needs
-
-element-copy-out-legal : tie.Need-element-copy-out-legal Inv-loop μ-loop
-element-copy-out-legal c =
-    let start = c .before .before .before in
-    let at = c .before .before .loop in
-    let t = c .lowest .result in
-    let isIn = lowest-member t (at .left) (omega (arith, at .inv .1 .few, at .inv .0 .within .few, start .pre .few)) (c .before .loop-test .taken) (c .lowest .ensures) in
-    member-lt t (start .args .s .unplaced) 10 (at .inv .0 .within .isIn t (at .inv .1 .isIn t isIn)) (start .pre .few)
-
-legal-requires : tie.Need-legal-requires Inv-loop μ-loop
-legal-requires c κs =
-    let start = c .before .before .before .before in
-    let at = c .before .before .before .loop in
-    let t = c .before .lowest .result in
-    let isIn = lowest-member t (at .left) (omega (arith, at .inv .1 .few, at .inv .0 .within .few, start .pre .few)) (c .before .before .loop-test .taken) (c .before .lowest .ensures) in
-    (start .pre .coded, member-lt t (start .args .s .unplaced) 10 (at .inv .0 .within .isIn t (at .inv .1 .isIn t isIn)) (start .pre .few))
+legal-reads-requires : tie.Need-legal-reads-requires Inv-loop μ-loop
+legal-reads-requires c κs = (c .before .before .before .pre .coded, omega (arith, low c))
 
 kept-requires : tie.Need-kept-requires Inv-loop μ-loop
-kept-requires c κs =
-    let start = c .before .before .before .before .before in
-    let at = c .before .before .before .before .loop in
-    let t = c .before .before .lowest .result in
-    let isIn = lowest-member t (at .left) (omega (arith, at .inv .1 .few, at .inv .0 .within .few, start .pre .few)) (c .before .before .before .loop-test .taken) (c .before .before .lowest .ensures) in
-    at .inv .1 .isIn t isIn
+kept-requires c κs = c .before .before .before .loop .inv .1 .isIn _ (isIn (c .before))
 
 without-requires : tie.Need-without-requires Inv-loop μ-loop
-without-requires c κs =
-    let start = c .before .before .before .before .before .before in
-    let at = c .before .before .before .before .before .loop in
-    let t = c .before .before .before .lowest .result in
-    let isIn = lowest-member t (at .left) (omega (arith, at .inv .1 .few, at .inv .0 .within .few, start .pre .few)) (c .before .before .before .before .loop-test .taken) (c .before .before .before .lowest .ensures) in
-    isIn
+without-requires c κs = isIn (c .before .before)
 
 loop-less : tie.Need-loop-less Inv-loop μ-loop
 loop-less c =
-    let start = c .before .before .before .before .before .before .before in
-    let at = c .before .before .before .before .before .before .loop in
-    let t = c .before .before .before .before .lowest .result in
-    let isIn = lowest-member t (at .left) (omega (arith, at .inv .1 .few, at .inv .0 .within .few, start .pre .few)) (c .before .before .before .before .before .loop-test .taken) (c .before .before .before .before .lowest .ensures) in
-    let less = member-le t (at .left) isIn in
-    let positive = pow-pos t in
+    let asked = c .before .before .before in
+    let less = member-le (asked .lowest .result) (asked .before .before .loop .left) (isIn asked) in
+    let positive = pow-pos (asked .lowest .result) in
     omega (arith, c .without .ensures)
 
 loop-again : tie.Need-loop-again Inv-loop μ-loop
 loop-again c =
-    let start = c .before .before .before .before .before .before .before in
-    let at = c .before .before .before .before .before .before .loop in
-    let t = c .before .before .before .before .lowest .result in
-    let isIn = lowest-member t (at .left) (omega (arith, at .inv .1 .few, at .inv .0 .within .few, start .pre .few)) (c .before .before .before .before .before .loop-test .taken) (c .before .before .before .before .lowest .ensures) in
-    let a = start .args in
-    keeps-on (λ (k : ℕ). legalFor (a .starts .now) (a .reads .now) (a .required .now) (a .written .now) (placedOf (a .s)) k ≡ true) (a .s .unplaced) (at .ready) (at .left) t
-    (c .before .before .legal .result) (c .before .kept .result) (c .without .result) (at .inv .0) (at .inv .1) isIn (λ h. c .before .before .legal .ensures ∙ h) (c .before .kept .ensures) (c .without .ensures)
+    let asked = c .before .before .before in
+    let at = asked .before .before .loop in
+    let a = asked .before .before .before .args in
+    keeps-on (λ (k : ℕ). legalReads (asking (a .starts .now) (a .facts .now) (a .asked)) (placedOf (a .s)) k ≡ true) (a .s .unplaced) (at .ready) (at .left) (asked .lowest .result)
+    (c .before .before .legal-reads .result) (c .before .kept .result) (c .without .result) (at .inv .0) (at .inv .1) (isIn asked)
+    (λ h. c .before .before .legal-reads .ensures ∙ h) (c .before .kept .ensures) (c .without .ensures)
 
 returns : tie.Need-returns Inv-loop μ-loop
 returns c = c .before .loop .inv .0
@@ -98,9 +74,7 @@ ready-among-spec =
     μ-loop
     loop-holds
     lowest-requires
-    mul-legal
-    element-copy-out-legal
-    legal-requires
+    legal-reads-requires
     kept-requires
     without-requires
     loop-less

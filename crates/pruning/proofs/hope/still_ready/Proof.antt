@@ -1,8 +1,8 @@
 -- `pruning::hope::still_ready` meets its contract.
 -- Assumes nothing.
-use borrow.Author.Needs.{needs}
 use borrow.Author.Tests.{eqb-false}
 use mathlib.Core.Path.{refl, sym, _∙_}
+use borrow.Author.Needs.{needs}
 use Rattle.pruning.proofs.hope.still_ready.Statement.{statement}
 use Rattle.pruning.proofs.hope.still_ready.Tie as tie
 
@@ -18,19 +18,12 @@ returns-2 c = λ h. refl
 returns-3 : tie.Need-returns-3
 returns-3 c = λ h. absurd (eqb-false _ _ (sym (c .before .before .has .ensures) ∙ c .before .if2 .left) (h .was (c .if3 .taken)))
 
-mul-legal : tie.Need-mul-legal
-mul-legal c = search needs
-
-element-copy-out-legal : tie.Need-element-copy-out-legal
-element-copy-out-legal c = search needs
-
-legal-requires : tie.Need-legal-requires
-legal-requires c κs = search needs
+legal-reads-requires : tie.Need-legal-reads-requires
+legal-reads-requires c κs = search needs
 
 returns-4 : tie.Need-returns-4
-returns-4 c = λ h. c .legal .ensures ∙ h .is
+returns-4 c = λ h. c .legal-reads .ensures ∙ h .is
 
 pub still-ready-spec : {M : Type 1} → statement M
 still-ready-spec =
-    tie.close
-    (tie.spec returns has-requires returns-2 returns-3 mul-legal element-copy-out-legal legal-requires returns-4)
+    tie.close (tie.spec returns has-requires returns-2 returns-3 legal-reads-requires returns-4)

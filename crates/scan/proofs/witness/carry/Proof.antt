@@ -1,36 +1,62 @@
--- `scan::witness::carry` meets its contract.
--- Assumes nothing.
-use borrow.Author.Needs.{needs}
-use borrow.Author.Tests.{eq-eqb, ne-eqb}
-use mathlib.Core.Path.{ap, ap₂, _∙_}
-use mathlib.Core.Bool.{Bool, not, cond}
-use Prim.Native.Nat.{ℕ}
+-- `scan::witness::carry` meets its contract: by the tests. Assumes nothing.
+use Prim.Native.Nat.{ℕ, _<_, _^_}
+use mathlib.Core.Path.{_≡_, sym, ap, ap₂, _∙_}
+use mathlib.Core.Bool.{Bool, true, false, not, cond}
 use native.Mathlib.Omega.{arith}
 use lib.Dec.{eqb}
-use Rattle.events.specs.Events.{isBegin}
+use Rattle.events.specs.Events.{isBegin, isRead, isCommit}
 use Rattle.scan.proofs.WitnessLaws.{kept-begin, kept-read, kept-commit, kept-abort, kept-other, room-more}
+use borrow.Author.Needs.{needs}
 use Rattle.scan.proofs.witness.carry.Statement.{statement}
 use Rattle.scan.proofs.witness.carry.Tie as tie
 
+-- the answers of the tests before
+begins-here : (a : tie.Then1) → isBegin (a .before .before .args .e) ≡ true
+begins-here a = sym (a .before .is-begin .ensures) ∙ a .if1 .taken
+
+not-begin : (a : tie.Else1) → isBegin (a .before .before .args .e) ≡ false
+not-begin a = sym (a .before .is-begin .ensures) ∙ a .if1 .left
+
+not-read : (a : tie.Else2) → isRead (a .before .before .before .before .args .e) ≡ false
+not-read a = sym (a .before .is-read .ensures) ∙ a .if2 .left
+
+not-commit : (a : tie.Else3) → isCommit (a .before .before .before .before .before .before .args .e) ≡ false
+not-commit a = sym (a .before .is-commit .ensures) ∙ a .if3 .left
+
+-- there is room for one place more
+room : (a : tie.Then1) → a .before .before .args .order < 2 ^ 46
+room a =
+    let s = a .before .before in
+    room-more (s .args .count) (s .args .order) (s .pre .another (begins-here a)) (s .pre .room)
+
+is-begin-requires : tie.Need-is-begin-requires
+is-begin-requires c κs = search needs
+
 mul-result : tie.Need-mul-result
-unfolding isBegin
-mul-result c = omega (arith, room-more (c .before .args .count) (c .before .args .order) (c .before .pre .another (eq-eqb _ _ (c .if1 .taken))) (c .before .pre .room))
+mul-result c = omega (arith, room c)
+
+cast-result : tie.Need-cast-result
+cast-result c = search needs
 
 mul-result-2 : tie.Need-mul-result-2
 mul-result-2 c = search needs
 
 add-result : tie.Need-add-result
-unfolding isBegin
-add-result c = omega (arith, room-more (c .before .args .count) (c .before .args .order) (c .before .pre .another (eq-eqb _ _ (c .if1 .taken))) (c .before .pre .room), c .before .pre .transaction)
+add-result c = omega (arith, room (c .before), c .before .before .before .pre .transaction)
 
 returns : tie.Need-returns
 returns c =
-    let a = c .before .args in
-    kept-begin (a .starts .now) (a .written .now) (a .count) (a .order) (a .kind) (a .t) (a .r) (a .value) (c .if1 .taken)
+    let a = c .before .before .before .args in
+    kept-begin (a .starts .now) (a .written .now) (a .count) (a .order) (a .e) (begins-here (c .before))
+
+is-read-requires : tie.Need-is-read-requires
+is-read-requires c κs = search needs
 
 seen-by-requires : tie.Need-seen-by-requires
-unfolding isBegin
-seen-by-requires c κs = (c .before .before .pre .ordered, (c .before .before .pre .known (ne-eqb _ _ (c .before .if1 .left)), c .before .before .pre .register))
+seen-by-requires c κs =
+    let b = c .before .before in
+    let s = b .before .before in
+    (s .pre .ordered, (s .pre .known (not-begin b), s .pre .register))
 
 value-of-requires : tie.Need-value-of-requires
 value-of-requires c κs = search needs
@@ -40,56 +66,83 @@ order-if-requires c κs = search needs
 
 returns-2 : tie.Need-returns-2
 returns-2 c =
-    let a = c .before .before .before .before .before .args in
+    let t = c .before .before .before in
+    let b = t .before .before in
+    let a = b .before .before .args in
     c .order-if .ensures ∙ ap₂ (λ (x y : ℕ). cond (eqb x y) (a .order) 0) (c .before .before .seen-by .ensures) (c .before .value-of .ensures)
-    ∙ kept-read (a .starts .now) (a .written .now) (a .count) (a .order) (a .kind) (a .t) (a .r) (a .value) (c .before .before .before .if2 .taken)
+    ∙ kept-read (a .starts .now) (a .written .now) (a .count) (a .order) (a .e) (not-begin b) (sym (t .before .is-read .ensures) ∙ t .if2 .taken)
+
+is-commit-requires : tie.Need-is-commit-requires
+is-commit-requires c κs = search needs
 
 is-committed-requires : tie.Need-is-committed-requires
-unfolding isBegin
-is-committed-requires c κs = (c .before .before .before .pre .ordered, c .before .before .before .pre .known (ne-eqb _ _ (c .before .before .if1 .left)))
+is-committed-requires c κs =
+    let b = c .before .before .before .before in
+    let s = b .before .before in
+    (s .pre .ordered, s .pre .known (not-begin b))
 
 order-if-requires-2 : tie.Need-order-if-requires-2
 order-if-requires-2 c κs = search needs
 
 returns-3 : tie.Need-returns-3
 returns-3 c =
-    let a = c .before .before .before .before .before .args in
-    c .order-if2 .ensures ∙ ap (λ (b : Bool). cond b (a .order) 0) (c .before .is-committed .ensures)
-    ∙ kept-commit (a .starts .now) (a .written .now) (a .count) (a .order) (a .kind) (a .t) (a .r) (a .value) (c .before .before .if3 .taken)
+    let t = c .before .before in
+    let r = t .before .before in
+    let b = r .before .before in
+    let a = b .before .before .args in
+    c .order-if2 .ensures ∙ ap (λ (x : Bool). cond x (a .order) 0) (c .before .is-committed .ensures)
+    ∙ kept-commit (a .starts .now) (a .written .now) (a .count) (a .order) (a .e) (not-begin b) (not-read r) (sym (t .before .is-commit .ensures) ∙ t .if3 .taken)
+
+is-abort-requires : tie.Need-is-abort-requires
+is-abort-requires c κs = search needs
 
 is-committed-requires-2 : tie.Need-is-committed-requires-2
-unfolding isBegin
-is-committed-requires-2 c κs = (c .before .before .before .before .pre .ordered, c .before .before .before .before .pre .known (ne-eqb _ _ (c .before .before .before .if1 .left)))
+is-committed-requires-2 c κs =
+    let b = c .before .before .before .before .before .before in
+    let s = b .before .before in
+    (s .pre .ordered, s .pre .known (not-begin b))
 
 order-if-requires-3 : tie.Need-order-if-requires-3
 order-if-requires-3 c κs = search needs
 
 returns-4 : tie.Need-returns-4
 returns-4 c =
-    let a = c .before .before .before .before .before .before .args in
-    c .order-if3 .ensures ∙ ap (λ (b : Bool). cond (not b) (a .order) 0) (c .before .is-committed2 .ensures)
-    ∙ kept-abort (a .starts .now) (a .written .now) (a .count) (a .order) (a .kind) (a .t) (a .r) (a .value) (c .before .before .if4 .taken)
+    let t = c .before .before in
+    let d = t .before .before in
+    let r = d .before .before in
+    let b = r .before .before in
+    let a = b .before .before .args in
+    c .order-if3 .ensures ∙ ap (λ (x : Bool). cond (not x) (a .order) 0) (c .before .is-committed2 .ensures)
+    ∙ kept-abort (a .starts .now) (a .written .now) (a .count) (a .order) (a .e) (not-begin b) (not-read r) (not-commit d) (sym (t .before .is-abort .ensures) ∙ t .if4 .taken)
 
 returns-5 : tie.Need-returns-5
 returns-5 c =
-    let a = c .before .before .before .before .args in
-    kept-other (a .starts .now) (a .written .now) (a .count) (a .order) (a .kind) (a .t) (a .r) (a .value) (c .before .before .before .if1 .left) (c .before .before .if2 .left) (c .before .if3 .left) (c .if4 .left)
+    let d = c .before .before in
+    let r = d .before .before in
+    let b = r .before .before in
+    let a = b .before .before .args in
+    kept-other (a .starts .now) (a .written .now) (a .count) (a .order) (a .e) (not-begin b) (not-read r) (not-commit d) (sym (c .before .is-abort .ensures) ∙ c .if4 .left)
 
 pub carry-spec : {M : Type 1} → statement M
 carry-spec =
     tie.close
     (tie.spec
+    is-begin-requires
     mul-result
+    cast-result
     mul-result-2
     add-result
     returns
+    is-read-requires
     seen-by-requires
     value-of-requires
     order-if-requires
     returns-2
+    is-commit-requires
     is-committed-requires
     order-if-requires-2
     returns-3
+    is-abort-requires
     is-committed-requires-2
     order-if-requires-3
     returns-4

@@ -18,11 +18,11 @@ mul-t6 c = let start = c .before .before .before in omega (arith, room-bits (sta
 mul-t8 : tie.Need-mul-t8
 mul-t8 c = omega (arith, room-lt (c .before .before .before .pre .0))
 
-add-t10 : tie.Need-add-t10
-add-t10 c = omega (arith, room-lt (c .before .before .before .pre .0))
+add-t9 : tie.Need-add-t9
+add-t9 c = omega (arith, room-lt (c .before .before .before .pre .0))
 
-add-t11 : tie.Need-add-t11
-add-t11 c =
+add-t10 : tie.Need-add-t10
+add-t10 c =
     let start = c .before .before .before in
     omega (arith, room-bits (start .args .self) (start .pre .0 .sound) (room-at (start .pre .0)), room-lt (start .pre .0))
 
@@ -32,4 +32,4 @@ returns c =
     extends (start .args .self) (start .args .t) (start .args .outcome) (c .before .before .without .result) (start .pre .0) (start .pre .1) (c .before .before .without .ensures)
 
 pub place-spec : {M : Type 1} → statement M
-place-spec = tie.close (tie.spec without-requires add-t5 mul-t6 mul-t8 add-t10 add-t11 returns)
+place-spec = tie.close (tie.spec without-requires add-t5 mul-t6 mul-t8 add-t9 add-t10 returns)

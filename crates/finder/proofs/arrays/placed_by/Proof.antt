@@ -1,0 +1,78 @@
+-- `finder::arrays::placed_by` meets its contract: the first k places stand in the arrays. Assumes nothing.
+use borrow.Author.Needs.{needs}
+use Prim.Native.Nat.{ℕ, _/_, _-_, _≤_}
+use mathlib.Core.Path.{_≡_, refl, subst, ap}
+use native.Mathlib.Omega.{arith}
+use Rattle.lists.proofs.FilledLaws.{filled-none, filled-more}
+use Rattle.finder.specs.Arrays.{Arrayed}
+use Rattle.finder.proofs.arrays.placed_by.Statement.{statement}
+use Rattle.finder.proofs.arrays.placed_by.Tie as tie
+
+abbrev Inv-loop : tie.InvT-loop
+Inv-loop count codes order₀ outcomes₀ k₀ order outcomes k = (k ≤ count) × Arrayed codes k order outcomes
+
+abbrev μ-loop : tie.MeasureT-loop
+μ-loop count codes order₀ outcomes₀ k₀ order outcomes k = count - k
+
+loop-holds : tie.Need-loop-holds Inv-loop μ-loop
+loop-holds c = (omega arith, record { transactions = filled-none _ _ _; ends = filled-none _ _ _ })
+
+array-read-wide : tie.Need-array-read-wide Inv-loop μ-loop
+array-read-wide c = search needs
+
+wide-requires : tie.Need-wide-requires Inv-loop μ-loop
+wide-requires c κs = search needs
+
+mul-order : tie.Need-mul-order Inv-loop μ-loop
+mul-order c = search needs
+
+array-write-order : tie.Need-array-write-order Inv-loop μ-loop
+array-write-order c = omega (arith, c .before .before .before .pre, c .before .before .loop .inv .1 .transactions .size)
+
+array-read-outcomes : tie.Need-array-read-outcomes Inv-loop μ-loop
+array-read-outcomes c = search needs
+
+array-write-outcomes : tie.Need-array-write-outcomes Inv-loop μ-loop
+array-write-outcomes c = omega (arith, c .before .before .before .pre, c .before .before .loop .inv .1 .ends .size)
+
+add-k : tie.Need-add-k Inv-loop μ-loop
+add-k c = search needs
+
+loop-less : tie.Need-loop-less Inv-loop μ-loop
+loop-less c = search needs
+
+loop-again : tie.Need-loop-again Inv-loop μ-loop
+loop-again c =
+    let l = c .before .before in
+    let few = l .before .pre in (
+      omega arith,
+      record {
+        transactions = filled-more _ _ _ (l .loop .k) _ (l .loop .order) (omega arith) (ap (λ (x : ℕ). x / 2) (c .wide .ensures)) (l .loop .inv .1 .transactions);
+        ends = filled-more _ _ _ (l .loop .k) _ (l .loop .outcomes) (omega arith) refl (l .loop .inv .1 .ends);
+      },
+    )
+
+returns : tie.Need-returns Inv-loop μ-loop
+returns c =
+    let l = c .before in
+    let s = l .before in
+    let e : l .loop .k ≡ s .args .count = omega (arith, l .loop .inv .0) in
+    subst (λ (n : ℕ). Arrayed (s .args .t1) n (l .loop .order) (l .loop .outcomes)) e (l .loop .inv .1)
+
+pub placed-by-spec : {M : Type 1} → statement M
+placed-by-spec =
+    tie.close
+    (tie.spec
+    Inv-loop
+    μ-loop
+    loop-holds
+    array-read-wide
+    wide-requires
+    mul-order
+    array-write-order
+    array-read-outcomes
+    array-write-outcomes
+    add-k
+    loop-less
+    loop-again
+    returns)

@@ -1,0 +1,122 @@
+-- `spill` meets its contract: the first i events of the log stand in the columns. Assumes nothing.
+use Prim.Native.Nat.{_-_}
+use native.Mathlib.Omega.{arith}
+use borrow.Author.Needs.{needs}
+use lib.ListN.{length}
+use Rattle.log.specs.Columns.{Columns, columns}
+use Rattle.log.proofs.ColumnLaws.{Held, hold-e}
+use Rattle.log.proofs.SpillLaws.{Spilling, spilling-first, spilling-more, spilling-done, spilling-room}
+use Rattle.log.proofs.spill.spill.Statement.{statement}
+use Rattle.log.proofs.spill.spill.Tie as tie
+
+abbrev Inv-loop : tie.InvT-loop
+Inv-loop log kinds₀ transactions₀ registers₀ values₀ i₀ kinds transactions registers values i =
+    Spilling log (columns kinds₀ transactions₀ registers₀ values₀) (columns kinds transactions registers values) i
+
+abbrev μ-loop : tie.MeasureT-loop
+μ-loop log kinds₀ transactions₀ registers₀ values₀ i₀ kinds transactions registers values i = length log - i
+
+-- the function's entry from where a turn begins, and the columns lent
+abbrev entered : tie.At-loop Inv-loop μ-loop → tie.Start Inv-loop μ-loop
+entered l = l .before .before .before .before .before
+
+abbrev lent : tie.Start Inv-loop μ-loop → Columns
+lent s = columns (s .args .kinds .now) (s .args .transactions .now) (s .args .registers .now) (s .args .values .now)
+
+-- where a turn begins, the columns so far, and that they have room
+abbrev turn : tie.After-event-at Inv-loop μ-loop → tie.At-loop Inv-loop μ-loop
+turn c = c .before .before
+
+abbrev put : tie.At-loop Inv-loop μ-loop → Columns
+put l = columns (l .loop .kinds) (l .loop .transactions) (l .loop .registers) (l .loop .values)
+
+given : (s : tie.Start Inv-loop μ-loop) → Held (lent s) (length (s .args .log .now))
+given s = hold-e _ _ (s .pre)
+
+room : (c : tie.After-event-at Inv-loop μ-loop) → Held (put (turn c)) (length (entered (turn c) .args .log .now))
+room c = let l = turn c in let s = entered l in spilling-room (s .args .log .now) (lent s) (put l) (l .loop .i) (given s) (l .loop .inv)
+
+loop-holds : tie.Need-loop-holds Inv-loop μ-loop
+loop-holds c = let s = c .before .before .before .before in spilling-first (s .args .log .now) (lent s)
+
+event-at-requires : tie.Need-event-at-requires Inv-loop μ-loop
+event-at-requires c κs = search needs
+
+mul-kinds : tie.Need-mul-kinds Inv-loop μ-loop
+mul-kinds c = search needs
+
+slice-write-kinds : tie.Need-slice-write-kinds Inv-loop μ-loop
+slice-write-kinds c = omega (arith, room c .kinds)
+
+mul-transactions : tie.Need-mul-transactions Inv-loop μ-loop
+mul-transactions c = search needs
+
+slice-write-transactions : tie.Need-slice-write-transactions Inv-loop μ-loop
+slice-write-transactions c = omega (arith, room c .transactions)
+
+mul-registers : tie.Need-mul-registers Inv-loop μ-loop
+mul-registers c = search needs
+
+slice-write-registers : tie.Need-slice-write-registers Inv-loop μ-loop
+slice-write-registers c = omega (arith, room c .registers)
+
+mul-values : tie.Need-mul-values Inv-loop μ-loop
+mul-values c = search needs
+
+slice-write-values : tie.Need-slice-write-values Inv-loop μ-loop
+slice-write-values c = omega (arith, room c .values)
+
+add-i : tie.Need-add-i Inv-loop μ-loop
+add-i c = search needs
+
+loop-less : tie.Need-loop-less Inv-loop μ-loop
+loop-less c = search needs
+
+loop-again : tie.Need-loop-again Inv-loop μ-loop
+loop-again c =
+    let l = turn c in
+    let s = entered l in
+    spilling-more (s .args .log .now) (lent s) (put l) (l .loop .i) (given s) (l .loop .inv) (c .before .loop-test .taken) (c .event-at .result) (c .event-at .ensures)
+
+same-length : tie.Need-same-length Inv-loop μ-loop
+same-length c = c .before .loop .inv .columns .kinds .long
+
+same-length-2 : tie.Need-same-length-2 Inv-loop μ-loop
+same-length-2 c = c .before .loop .inv .columns .transactions .long
+
+same-length-3 : tie.Need-same-length-3 Inv-loop μ-loop
+same-length-3 c = c .before .loop .inv .columns .registers .long
+
+same-length-4 : tie.Need-same-length-4 Inv-loop μ-loop
+same-length-4 c = c .before .loop .inv .columns .values .long
+
+returns : tie.Need-returns Inv-loop μ-loop
+returns c =
+    let l = c .before in
+    let s = entered l in
+    spilling-done (s .args .log .now) (lent s) (put l) (l .loop .i) (given s) (l .loop .inv) (c .loop-test .left)
+
+pub spill-spec : {M : Type 1} → statement M
+spill-spec =
+    tie.close
+    (tie.spec
+    Inv-loop
+    μ-loop
+    loop-holds
+    event-at-requires
+    mul-kinds
+    slice-write-kinds
+    mul-transactions
+    slice-write-transactions
+    mul-registers
+    slice-write-registers
+    mul-values
+    slice-write-values
+    add-i
+    loop-less
+    loop-again
+    same-length
+    same-length-2
+    same-length-3
+    same-length-4
+    returns)

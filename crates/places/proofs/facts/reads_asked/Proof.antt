@@ -1,0 +1,31 @@
+-- `places::facts::reads_asked` meets its contract: what is asked about is of 32 bits.
+-- Assumes nothing.
+use mathlib.Core.Path.{ap}
+use native.Mathlib.Omega.{arith}
+use lib.Bits.{bitAnd, and-le-r}
+use Rattle.places.specs.Facts.{fact}
+use borrow.Author.Needs.{needs}
+use Rattle.places.proofs.facts.reads_asked.Statement.{statement}
+use Rattle.places.proofs.facts.reads_asked.Tie as tie
+
+mul-result : tie.Need-mul-result
+mul-result c = search needs
+
+index-1-result : tie.Need-index-1-result
+index-1-result c = search needs
+
+index-2-result : tie.Need-index-2-result
+index-2-result c = search needs
+
+wide-requires : tie.Need-wide-requires
+wide-requires c κs = search needs
+
+cast-result : tie.Need-cast-result
+cast-result c = let a = c .before .before .args in omega (arith, and-le-r (fact (a .facts .now) (a .t) 2) (c .wide .result), c .wide .ensures, c .before .before .fits .asked .fits)
+
+returns : tie.Need-returns
+returns c = let a = c .before .before .args in ap (bitAnd (fact (a .facts .now) (a .t) 2)) (c .wide .ensures)
+
+pub reads-asked-spec : {M : Type 1} → statement M
+reads-asked-spec =
+    tie.close (tie.spec mul-result index-1-result index-2-result wide-requires cast-result returns)
