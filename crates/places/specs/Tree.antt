@@ -8,14 +8,12 @@ use mathlib.Core.Bool.{Bool, true, false, cond}
 use mathlib.Core.Option.{Option, none, some}
 use lib.Dec.{eqb}
 use Rattle.lists.specs.Lists.{orElse, all}
-use Rattle.log.specs.Starts.{startOf}
-use Rattle.opacity.specs.Justification.{contents}
 use Rattle.places.specs.Bits.{bitAt, members}
 use Rattle.places.specs.Facts.{afterOf, allowedOf, readsAsked, requiredOf}
-use Rattle.places.specs.Places.{codesOf, decode, writesIn}
+use Rattle.places.specs.Places.{codesOf, contentAt}
 
--- What the search is told: the value of each register before any writer, the facts of the transactions, and the registers whose reads are asked
--- about, one bit each.
+-- What the search is told: the value of each register before any writer, the facts of the transactions, and the registers whose reads are
+-- asked about, one bit each.
 pub record Constraints : Type 0 where
   pub starts : List ℕ
   pub facts : List (List ℕ)
@@ -45,7 +43,7 @@ upFrom i (suc n) = i ∷ upFrom (suc i) n
 -- is the store read of r by t, if there is one, that of what r holds after the places p
 unfoldable pub legalAt : List ℕ → List (List ℕ) → List ℕ → ℕ → ℕ → Bool
 legalAt starts f p t r =
-    cond (eqb (requiredOf f t r) 0) true (eqb (contents (startOf starts) (writesIn f) (decode p) r) (requiredOf f t r - 1))
+    cond (eqb (requiredOf f t r) 0) true (eqb (contentAt starts f p r) (requiredOf f t r - 1))
 
 -- are those of all registers that t reads
 unfoldable pub legalReads : Constraints → List ℕ → ℕ → Bool
@@ -87,7 +85,9 @@ endsAt D p u = cond (noneIn (afterOf (D .facts) 10) u) (legalReads D p 10) false
 -- the first completion of the places p with the n unplaced transactions u, where the next is one of c: it ends as soon as it may
 unfoldable pub fromCandidates : Constraints → ℕ → List ℕ → List ℕ → List ℕ → Completion
 fromCandidates D zero p u c = cond (endsAt D p u) (some p) none
-fromCandidates D (suc n) p u c = let on = firstOf (tryBoth D (λ p′ u′. fromCandidates D n p′ u′ u′) p u) c in cond (endsAt D p u) (some p) on
+fromCandidates D (suc n) p u c =
+    let on = firstOf (tryBoth D (λ p′ u′. fromCandidates D n p′ u′ u′) p u) c in
+    cond (endsAt D p u) (some p) on
 
 -- the first completion with t next, n being left after it
 unfoldable pub atTransaction : Constraints → ℕ → List ℕ → List ℕ → ℕ → Completion

@@ -66,7 +66,9 @@ module _ (o : List ℕ) (F : List (List ℕ)) (any t : ℕ) (other : NoOther F a
   unfolding legalReads
   asked-same h p c =
       both-ways _ _
-      (λ g. members-pass _ (readsAsked F 4294967295 t) (λ k b. let m = and-member k (fact F t 2) 4294967295 b in go k (m .0) (member-lt k 4294967295 32 (m .1) (omega arith)) g (eqb (bitAt k any) 1) refl))
+      (λ g. members-pass _ (readsAsked F 4294967295 t) (λ k b.
+      let m = and-member k (fact F t 2) 4294967295 b in
+      go k (m .0) (member-lt k 4294967295 32 (m .1) (omega arith)) g (eqb (bitAt k any) 1) refl))
       (λ g. members-pass _ (readsAsked F any t) (λ k b.
       let m = and-member k (fact F t 2) any b in
       let l = member-lt k any 32 (m .1) few in

@@ -212,8 +212,8 @@ pub fn stranded(starts: &[u32; 32], facts: &[Facts; 11], asked: u32, s: Search, 
     orphaned(starts, facts, &all, asked, s, need, 0)
 }
 
-// Is there one now, by the last place? A commit has overwritten what it has, one that could have committed leaves others without its writes,
-// and any other place takes nothing away. Who is stranded before any place is filled has been asked already.
+// Is there one now, by the last place? A commit has overwritten what it has, one that could have committed leaves others without its
+// writes, and any other place takes nothing away. Who is stranded before any place is filled has been asked already.
 fn bereft(
     starts: &[u32; 32],
     facts: &[Facts; 11],

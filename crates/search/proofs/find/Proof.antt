@@ -41,7 +41,10 @@ choose-transaction-requires c κs = let b = c .before .before in (sound b, (with
 
 returns : tie.Need-returns
 unfolding codesOf
-returns c = let b = c .before .before .before in let a = b .before .args in start-answers (constraints (a .starts .now) (a .facts .now)) (a .n) _ (c .choose-transaction .result) (b .before .pre) (all b) (c .choose-transaction .ensures)
+returns c =
+    let b = c .before .before .before in
+    let a = b .before .args in
+    start-answers (constraints (a .starts .now) (a .facts .now)) (a .n) _ (c .choose-transaction .result) (b .before .pre) (all b) (c .choose-transaction .ensures)
 
 before-end-requires : tie.Need-before-end-requires
 before-end-requires c κs = search needs
@@ -74,9 +77,17 @@ effects-among-requires c κs = search needs
 choose-transaction-requires-2 : tie.Need-choose-transaction-requires-2
 choose-transaction-requires-2 c κs = (sound (chosen (c .before .before .before)), (within-self _, c .before .effects-among .ensures))
 
+-- the tree in which fewer registers are asked about is the same
 returns-3 : tie.Need-returns-3
 unfolding codesOf
-returns-3 c = let told = c .before .before .before .before in let b = chosen told in let a = b .before .args in let m = told .registers-asked .result in answered-as (a .n) (c .choose-transaction2 .result) (start-answers (asking (a .starts .now) (a .facts .now) m) (a .n) _ (c .choose-transaction2 .result) (b .before .pre) (all b) (c .choose-transaction2 .ensures)) (asked-completion (a .starts .now) (a .facts .now) m (told .registers-asked .ensures) (a .n) (b .before .pre))
+returns-3 c =
+    let told = c .before .before .before .before in
+    let b = chosen told in
+    let a = b .before .args in
+    let m = told .registers-asked .result in
+    answered-as (a .n) (c .choose-transaction2 .result)
+    (start-answers (asking (a .starts .now) (a .facts .now) m) (a .n) _ (c .choose-transaction2 .result) (b .before .pre) (all b) (c .choose-transaction2 .ensures))
+    (asked-completion (a .starts .now) (a .facts .now) m (told .registers-asked .ensures) (a .n) (b .before .pre))
 
 pub find-spec : {M : Type 1} → statement M
 find-spec =
