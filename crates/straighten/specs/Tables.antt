@@ -4,7 +4,7 @@
 use Prim.Native.Nat.{ℕ, _+_, _*_, _≤_}
 use mathlib.Core.Path.{_≡_}
 use mathlib.Core.Bool.{Bool, true, false, not, cond}
-use mathlib.Core.List.{List, _++_}
+use mathlib.Core.List.{List}
 use lib.ListN.{length, getD}
 use Rattle.events.specs.declared.event.Event.{Event}
 use Rattle.lists.specs.Lists.{_and_, keep, range}
@@ -15,12 +15,10 @@ use Rattle.log.specs.Rows.{logged}
 use Rattle.opacity.specs.declared.verdict.Rule.{Rule}
 use Rattle.opacity.specs.declared.verdict.Rule.the-variants.{D, E}
 use Rattle.opacity.specs.Transactions.{isStoreRead, storeReads}
-use Rattle.opacity.specs.Marking.{markingHead, placeBytes, flat}
 use Rattle.reads.specs.Own.{OwnWrites}
-use Rattle.rules.specs.Orders.{placesOf}
 use Rattle.marking.specs.declared.read.Reading.{Reading}
 use Rattle.marking.specs.State.{Kept}
-use Rattle.marking_writer.specs.Points.{pointsTo}
+use Rattle.marking_writer.specs.Whole.{bytesIn}
 
 -- whether the point of an event breaks D or E
 abbrev pub breaksBy : (Rule → ℕ → Bool) → ℕ → Bool
@@ -46,14 +44,6 @@ pub record Room (h : List Event) (output list : ℕ) : Type 0 where
 abbrev pub listed : List Bool → ℕ → List ℕ
 listed table n = keep (λ i. getD table i false) (range n)
 
--- the points that stand in the arrays
-abbrev pub pointsIn : List Bool → List ℕ → ℕ → List ℕ
-pointsIn reads gaps n = pointsTo (λ i. getD reads i false) (λ i. getD gaps i 0) n
-
--- head, places and points
-abbrev pub bytesIn : List ℕ → List ℕ → ℕ → List Bool → List ℕ → ℕ → List ℕ
-bytesIn order outcomes b reads gaps n = markingHead ++ (flat placeBytes (placesOf order outcomes b) ++ pointsIn reads gaps n)
-
--- the same for a history
+-- the marking that stands in the arrays, as bytes
 abbrev pub bytesOf : List Event → List ℕ → List ℕ → List Bool → List ℕ → List ℕ
 bytesOf h order outcomes reads gaps = bytesIn order outcomes (begins h) reads gaps (length h)

@@ -20,13 +20,12 @@ ghost use Rattle.marking.specs.File.{known, fileRead};
 ghost use Rattle.straighten.specs.Answer.{gives, settled, judged, afterFile, afterColumns, straightenedAnswer};
 ghost use Rattle.straighten.specs.Tables.{Room, Read, listed, bytesOf};
 
+mod list;
 mod moves;
-mod write;
 
+use crate::list::list_moved;
 use crate::moves::Straight;
 use crate::moves::straight_of;
-use crate::write::list_moved;
-use crate::write::write_marking;
 use events::refusal::Refusal;
 use links::writes::links;
 use log::admit::Checked;
@@ -35,6 +34,7 @@ use log::rows::Row;
 use log::rows::transactions_begun;
 use marking::read::Reading;
 use marking::read::read_marking;
+use marking_writer::write_marking;
 use opacity::verdict::Rule;
 use opacity::verdict::Verdict;
 use reads::count_store_reads;

@@ -1,4 +1,4 @@
--- `straighten::write::put_moved` meets its contract.
+-- `put_moved` meets its contract: by whether the event is moved.
 -- Assumes nothing.
 use mathlib.Core.Path.{refl}
 use native.Mathlib.Omega.{arith}
@@ -6,8 +6,8 @@ use denote.Ref.{now}
 use Rattle.marking_writer.proofs.RunLaws.{placed-nothing}
 use Rattle.straighten.proofs.TableLaws.{placed-one}
 use borrow.Author.Needs.{needs}
-use Rattle.straighten.proofs.write.put_moved.Statement.{statement}
-use Rattle.straighten.proofs.write.put_moved.Tie as tie
+use Rattle.straighten.proofs.list.put_moved.Statement.{statement}
+use Rattle.straighten.proofs.list.put_moved.Tie as tie
 
 mul-list : tie.Need-mul-list
 mul-list c = search needs
