@@ -17,9 +17,9 @@ use Rattle.events.proofs.QuestionLaws.{ask-yes, ask-no}
 use Rattle.events.specs.declared.event.Event.{Event}
 use Rattle.events.specs.Questions.{readable}
 use Rattle.events.proofs.QuestionLaws.{readable-take}
-use Rattle.log.specs.Rows.{Admitted, logged}
+use Rattle.log.specs.Rows.{logged}
 use Rattle.log.proofs.RowLaws.{logged-length, logged-take}
-use Rattle.tables.specs.Calls.{askedOf, thenChecked, Taken}
+use Rattle.tables.specs.Calls.{askedOf, thenChecked}
 
 -- a refusal is not an answer that lets pass
 pub refused-readable : (r : Refusal) → Checked.Refused r ≡ Checked.Readable → ⊥

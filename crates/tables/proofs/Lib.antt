@@ -1,5 +1,6 @@
 -- What the proofs of several functions use, here and in the crates above.
 pub mod TableLaws
+pub mod PutLaws
 pub mod Meaning
 pub mod ReadMeaning
 pub mod ReadSets

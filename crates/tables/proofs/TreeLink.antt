@@ -16,7 +16,6 @@ use Rattle.lists.specs.Lists.{_and_, _or_, orElse, any, push, keep, lowestFrom}
 use Rattle.opacity.specs.Justification.{Place, isOf, placed}
 use Rattle.opacity.specs.Lowest.{place, lowestPlace, goOn}
 use Rattle.lists.proofs.ListLaws.{or-false, not-true, not-false, below-cases, any-append, lowest-upwards}
-use Rattle.places.specs.Tree as tree
 use Rattle.places.specs.Tree.{Constraints, Completion, remove, upFrom, fitsAt, firstOf, tryOne, tryBoth, fromCandidates}
 use Rattle.places.specs.Places.{coded, decode}
 use Rattle.places.proofs.LookupLaws.{decode-snoc}
@@ -35,7 +34,7 @@ place-code t false =
     let b : (t * 2 + 0) % 2 ≡ 0 = omega arith in
     rw (a, b)
 
-decoded-else : (a b : Completion) → decoded (tree.orElse a b) ≡ orElse (decoded a) (decoded b)
+decoded-else : (a b : Completion) → decoded (orElse a b) ≡ orElse (decoded a) (decoded b)
 decoded-else none b = refl
 decoded-else (some x) b = refl
 
