@@ -97,11 +97,13 @@ extends s t o rest h two e =
     let off = ones-off t (s .unplaced) (h .isIn) in
     let p : 2 ^ (s .filled * 5 + 1 + 5) ≡ 2 ^ (s .filled * 5 + 1) * 2 ^ 5 = pow-add 2 (s .filled * 5 + 1) 5 in
     let q : (s .filled + 1) * 5 + 1 ≡ s .filled * 5 + 1 + 5 = omega arith in
+    let w : 2 ^ (s .filled * 5 + 5) ≡ 2 ^ (s .filled * 5) * 2 ^ 5 = pow-add 2 (s .filled * 5) 5 in
+    let v : (s .filled + 1) * 5 ≡ s .filled * 5 + 5 = omega arith in
     record {
       sound = record {
         few = rw e few;
         fit = omega (arith, h .sound .fit);
-        led = omega (arith, h .sound .led);
+        led = rw (v, w) (omega (arith, h .sound .led));
         room = rw (q, p) (omega (arith, h .sound .room));
         coded = coded-more (s .filled) (s .placed) (t * 2 + o) (room-at h) (omega arith) (h .sound .coded);
       };

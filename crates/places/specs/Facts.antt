@@ -1,7 +1,8 @@
 -- Vocabulary between crates: it need not be believed, the public contracts end in the paper's definitions.
--- What the search is told of the transactions: a table with a row for each, and one for the end of an order. Of a row: at 0 the transactions that
--- must come before, one bit each; at 1 the outcome, 0 aborted, 1 committed, 2 either; at 2 the registers read from the store, one bit each; at
--- 3 + r what the store reads of r return, and at 35 + r the last write to r, each as the value plus 1, with 0 for none.
+-- What the search is told of the transactions: a table with a row for each, and row 10 for the end of an order. Of a row: at 0 the
+-- transactions that must come before, one bit each; at 1 the outcome, 0 aborted, 1 committed, 2 either; at 2 the registers read from the
+-- store, one bit each; at 3 + r what the store reads of r return, and at 35 + r the last write to r, each as the value plus 1, with 0 for
+-- none.
 -- Assumes nothing.
 use Prim.Native.Nat.{ℕ, _+_, _<_}
 use mathlib.Core.Path.{_≡_}

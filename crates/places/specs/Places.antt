@@ -6,8 +6,9 @@ use mathlib.Core.List.{List, [], _∷_, _++_}
 use mathlib.Core.Option.{Option, none, some}
 use lib.Dec.{eqb}
 use lib.ListN.{drop}
+use Rattle.log.specs.Starts.{startOf}
 use Rattle.events.specs.declared.event.Event.{Event}
-use Rattle.opacity.specs.Justification.{Place, written}
+use Rattle.opacity.specs.Justification.{Place, written, contents}
 use Rattle.opacity.specs.Lowest.{place}
 
 -- the first k places that a number holds, five bits each, the last of them lowest
@@ -45,6 +46,10 @@ writesFrom t (row ∷ f) = rowFrom t 0 (drop 35 row) (writesFrom (suc t) f)
 
 unfoldable pub writesIn : List (List ℕ) → List Event
 writesIn f = writesFrom 0 f
+
+-- what r holds after the places p, over these start values
+abbrev pub contentAt : List ℕ → List (List ℕ) → List ℕ → ℕ → ℕ
+contentAt starts f p r = contents (startOf starts) (writesIn f) (decode p) r
 
 -- what a place wrote to r, as a table holds it
 unfoldable pub writeOf : List (List ℕ) → ℕ → ℕ → ℕ

@@ -29,7 +29,7 @@ pub record Coded (n placed : ℕ) : Type 0 where
 pub record Sound (s : Search) : Type 0 where
   pub few : s .unplaced < 1024
   pub fit : whole s ≤ 10
-  pub led : 0 < s .placed
+  pub led : 2 ^ (s .filled * 5) ≤ s .placed
   pub room : s .placed < 2 ^ (s .filled * 5 + 1)
   pub coded : Coded (s .filled) (s .placed)
 

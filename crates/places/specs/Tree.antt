@@ -2,20 +2,18 @@
 -- The tree of orders and outcomes that the search goes through, and its first leaf that meets the constraints.
 -- Assumes nothing.
 use mathlib.Core.Path.{_≡_}
-use Prim.Native.Nat.{ℕ, zero, suc, _+_, _*_, _-_, _^_, _<_}
+use Prim.Native.Nat.{ℕ, zero, suc, _+_, _*_, _-_, _^_, _≤_, _<_}
 use mathlib.Core.List.{List, [], _∷_, _++_}
 use mathlib.Core.Bool.{Bool, true, false, cond}
 use mathlib.Core.Option.{Option, none, some}
 use lib.Dec.{eqb}
 use Rattle.lists.specs.Lists.{orElse, all}
-use Rattle.log.specs.Starts.{startOf}
-use Rattle.opacity.specs.Justification.{contents}
 use Rattle.places.specs.Bits.{bitAt, members}
 use Rattle.places.specs.Facts.{afterOf, allowedOf, readsAsked, requiredOf}
-use Rattle.places.specs.Places.{codesOf, decode, writesIn}
+use Rattle.places.specs.Places.{codesOf, contentAt}
 
--- What the search is told: the value of each register before any writer, the facts of the transactions, and the registers whose reads are asked
--- about, one bit each.
+-- What the search is told: the value of each register before any writer, the facts of the transactions, and the registers whose reads are
+-- asked about, one bit each.
 pub record Constraints : Type 0 where
   pub starts : List ℕ
   pub facts : List (List ℕ)
@@ -45,7 +43,7 @@ upFrom i (suc n) = i ∷ upFrom (suc i) n
 -- is the store read of r by t, if there is one, that of what r holds after the places p
 unfoldable pub legalAt : List ℕ → List (List ℕ) → List ℕ → ℕ → ℕ → Bool
 legalAt starts f p t r =
-    cond (eqb (requiredOf f t r) 0) true (eqb (contents (startOf starts) (writesIn f) (decode p) r) (requiredOf f t r - 1))
+    cond (eqb (requiredOf f t r) 0) true (eqb (contentAt starts f p r) (requiredOf f t r - 1))
 
 -- are those of all registers that t reads
 unfoldable pub legalReads : Constraints → List ℕ → ℕ → Bool
@@ -80,10 +78,16 @@ tryOne D k p u t o = cond (fitsAt D p u t o) (k (p ++ ((t * 2 + o) ∷ [])) (rem
 unfoldable pub tryBoth : Constraints → (List ℕ → List ℕ → Completion) → List ℕ → List ℕ → ℕ → Completion
 tryBoth D k p u t = orElse (tryOne D k p u t 0) (tryOne D k p u t 1)
 
--- the first completion of the places p with the n unplaced transactions u, where the next is one of c
+-- may an order end after the places p, before the rest of u: none of them must come before the end, and its store reads are legal
+unfoldable pub endsAt : Constraints → List ℕ → List ℕ → Bool
+endsAt D p u = cond (noneIn (afterOf (D .facts) 10) u) (legalReads D p 10) false
+
+-- the first completion of the places p with the n unplaced transactions u, where the next is one of c: it ends as soon as it may
 unfoldable pub fromCandidates : Constraints → ℕ → List ℕ → List ℕ → List ℕ → Completion
-fromCandidates D zero p u c = some p
-fromCandidates D (suc n) p u c = firstOf (tryBoth D (λ p′ u′. fromCandidates D n p′ u′ u′) p u) c
+fromCandidates D zero p u c = cond (endsAt D p u) (some p) none
+fromCandidates D (suc n) p u c =
+    let on = firstOf (tryBoth D (λ p′ u′. fromCandidates D n p′ u′ u′) p u) c in
+    cond (endsAt D p u) (some p) on
 
 -- the first completion with t next, n being left after it
 unfoldable pub atTransaction : Constraints → ℕ → List ℕ → List ℕ → ℕ → Completion
@@ -93,6 +97,19 @@ atTransaction D n p u t = tryBoth D (λ p′ u′. fromCandidates D n p′ u′ 
 unfoldable pub firstCompletion : Constraints → ℕ → Completion
 firstCompletion D n = fromCandidates D n [] (upFrom 0 n) (upFrom 0 n)
 
+-- All n transactions must come before the end.
+abbrev pub EndAsks : List (List ℕ) → ℕ → Type 0
+EndAsks f n = (k : ℕ) → k < n → bitAt k (afterOf f 10) ≡ 1
+
+-- the first completion of the places p with the n unplaced transactions u, where the next is one of c: it ends when all are placed
+unfoldable pub placingAll : Constraints → ℕ → List ℕ → List ℕ → List ℕ → Completion
+placingAll D zero p u c = cond (legalReads D p 10) (some p) none
+placingAll D (suc n) p u c = firstOf (tryBoth D (λ p′ u′. placingAll D n p′ u′ u′) p u) c
+
+-- the first completion that places all of the transactions below n
+unfoldable pub firstWhole : Constraints → ℕ → Completion
+firstWhole D n = placingAll D n [] (upFrom 0 n) (upFrom 0 n)
+
 -- an answer with n places, or 0 for none
 abbrev pub readAnswer : ℕ → ℕ → Completion
 readAnswer n a = cond (eqb a 0) none (some (codesOf n a))
@@ -101,3 +118,10 @@ readAnswer n a = cond (eqb a 0) none (some (codesOf n a))
 pub record Answers (n a : ℕ) (x : Completion) : Type 0 where
   pub completion : readAnswer n a ≡ x
   pub room : a < 2 ^ (n * 5 + 1)
+
+-- an answer reads as the completion x, whose places, no more than n, its leading 1 tells
+pub record Answered (n a : ℕ) (x : Completion) : Type 0 where
+  pub places : ℕ
+  pub few : places ≤ n
+  pub led : (a ≡ 0 → ⊥) → 2 ^ (places * 5) ≤ a
+  pub answers : Answers places a x

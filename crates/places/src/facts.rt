@@ -9,6 +9,9 @@ pub type Facts = [u64; 67];
 // The rows of the transactions come first.
 pub const TRANSACTIONS: usize = 10;
 
+// The row of the end: it has no outcome and writes nothing.
+pub const END: usize = 10;
+
 pub const REGISTERS: usize = 32;
 
 // Those that must come before it, one bit each.

@@ -3,10 +3,8 @@ ghost use mathlib.Core.Path.{_≡_};
 ghost use Prim.Native.Nat.{_<_};
 ghost use lib.ListN.{getD};
 ghost use Rattle.lists.specs.Lists.{all};
-ghost use Rattle.log.specs.Starts.{startOf};
-ghost use Rattle.opacity.specs.Justification.{contents};
 ghost use Rattle.places.specs.Bits.{members};
-ghost use Rattle.places.specs.Places.{codesOf, decode, writesIn, writeOf};
+ghost use Rattle.places.specs.Places.{codesOf, contentAt, writeOf};
 ghost use Rattle.places.specs.State.{placedOf, Coded};
 ghost use Rattle.places.specs.Tree.{asking, legalAt, legalReads};
 use crate::facts::Facts;
@@ -49,7 +47,7 @@ pub fn content(
 ) -> u64
     requires { ⌜ Coded filled placed ⌝ }
     requires { ⌜ register < 32 ⌝ }
-    ensures { λ r. ⌜ r ≡ contents (startOf (now (starts .entry))) (writesIn (now (facts .entry))) (decode (codesOf filled placed)) register ⌝ }
+    ensures { λ r. ⌜ r ≡ contentAt (now (starts .entry)) (now (facts .entry)) (codesOf filled placed) register ⌝ }
 {
     let mut left = filled;
     while left > 0 {

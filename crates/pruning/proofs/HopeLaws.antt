@@ -22,10 +22,10 @@ use Rattle.places.specs.Places.{coded, decode, writesIn}
 use Rattle.places.specs.State.{placedOf, Sound, Placeable, Keeps, Extends}
 use Rattle.places.specs.Tree.{Constraints, legalAt, legalReads, noneIn, ruleNext, allowsOutcome, fitsAt, fromCandidates}
 use Rattle.pruning.specs.Runs.{holds, Awaited, Hope, Ready, Renewed, otherThan}
-use Rattle.places.proofs.BitLaws.{member-lt, member-off, member-kept, no-member, and-member, lowest-in}
+use Rattle.places.proofs.BitLaws.{member-lt, member-off, member-kept, and-member, lowest-in}
 use Rattle.places.proofs.SetLaws.{not-gone, member-passes, members-pass}
 use Rattle.places.proofs.LookupLaws.{decode-snoc}
-use Rattle.pruning.proofs.RunLaws.{Step, step-of, runs-empty, none-runs}
+use Rattle.pruning.proofs.RunLaws.{Step, step-of, run-ends, none-runs}
 
 -- ---- what the registers hold
 
@@ -127,6 +127,7 @@ module _ (D : Constraints) (s : Search) (need u : ℕ) (p l : List ℕ) (t : ℕ
         few = omega (arith, a .few);
         alike = λ r. aborted-place D p t r ∙ a .alike r;
         needed = λ k h. member-kept t k u (step 0 (omega arith) a .isIn) (λ e. passed (rw e at h)) (a .needed k h);
+        asked = a .asked;
         unplaced = λ k h. a .unplaced k (member-off t k u (step 0 (omega arith) a .isIn) h);
         run = step 0 (omega arith) a .rest;
       }
@@ -144,6 +145,7 @@ module _ (D : Constraints) (s : Search) (need u : ℕ) (p l : List ℕ) (t : ℕ
         needed = λ k h.
             let b = and-member k need (next .unplaced) h in
             member-kept t k u (step 1 (omega arith) a .isIn) (not-gone t k (s .unplaced) (next-unplaced 1 (omega arith) a) (rw (x .rest) at (b .1))) (a .needed k (b .0));
+        asked = λ k h. a .asked k (and-member k need (next .unplaced) h .0);
         unplaced = λ k h. rw (x .rest)
             (member-kept t k (s .unplaced) (next-unplaced 1 (omega arith) a) (not-gone t k u (step 1 (omega arith) a .isIn) h) (a .unplaced k (member-off t k u (step 1 (omega arith) a .isIn) h)));
         run = step 1 (omega arith) a .rest;
@@ -167,7 +169,7 @@ ready-on D s next t ready after r e known k =
 -- fewer are needed
 pub awaited-less : (D : Constraints) (s : Search) (need rest u : ℕ) (p l : List ℕ) → ((k : ℕ) → bitAt k rest ≡ 1 → bitAt k need ≡ 1)
     → Awaited D s need u p l → Awaited D s rest u p l
-awaited-less D s need rest u p l w a = record { few = a .few; alike = a .alike; needed = λ k h. a .needed k (w k h); unplaced = a .unplaced; run = a .run }
+awaited-less D s need rest u p l w a = record { few = a .few; alike = a .alike; needed = λ k h. a .needed k (w k h); asked = λ k h. a .asked k (w k h); unplaced = a .unplaced; run = a .run }
 
 module _ (D : Constraints) (s : Search) (need ready : ℕ) (low : need < 2 ^ 64) (more : need ≡ 0 → ⊥)
     (keeps : Ready D s ready)
@@ -176,7 +178,8 @@ module _ (D : Constraints) (s : Search) (need ready : ℕ) (low : need < 2 ^ 64)
   -- where something is needed and no commit begins a run, there is none
   pub no-run : (l : List ℕ) (u : ℕ) (p : List ℕ) → Awaited D s need u p l → ⊥
   no-run [] u p a =
-      no-member (trailingZeros 64 need) u (runs-empty D p u (a .run)) (a .needed (trailingZeros 64 need) (lowest-in 64 need low (omega arith)))
+      let isIn = lowest-in 64 need low (omega arith) in
+      run-ends D p u (trailingZeros 64 need) (a .few) (a .run) (a .needed (trailingZeros 64 need) isIn) (a .asked (trailingZeros 64 need) isIn)
   no-run (c ∷ l) u p a = go (c / 2) (c % 2) (omega arith) (omega arith) (no-run l)
     where
       go : (t o : ℕ) → o < 2 → c ≡ t * 2 + o → ((v : ℕ) (q : List ℕ) → Awaited D s need v q l → ⊥) → ⊥
@@ -184,10 +187,20 @@ module _ (D : Constraints) (s : Search) (need ready : ℕ) (low : need < 2 ^ 64)
       go t (suc zero) two e ih = missed t u p l (rw e at a)
       go t (suc (suc o)) two e ih = omega arith
 
+-- what is needed is unplaced, and must come before the end
+pub record Needs (D : Constraints) (s : Search) (need : ℕ) : Type 0 where
+  pub unplaced : (k : ℕ) → bitAt k need ≡ 1 → bitAt k (s .unplaced) ≡ 1
+  pub asked : (k : ℕ) → bitAt k need ≡ 1 → bitAt k (afterOf (D .facts) 10) ≡ 1
+
+pub needs-of : (D : Constraints) (s : Search) (set need : ℕ) → need ≡ bitAnd set (afterOf (D .facts) 10) → ((k : ℕ) → bitAt k set ≡ 1 → bitAt k (s .unplaced) ≡ 1)
+    → Needs D s need
+needs-of D s set need e f =
+    record { unplaced = λ k h. f k (and-member k set (afterOf (D .facts) 10) (rw e at h) .0); asked = λ k h. and-member k set (afterOf (D .facts) 10) (rw e at h) .1 }
+
 -- where it is certain that no run is waited for, nothing completes the state
-pub hopeless : (D : Constraints) (s : Search) (c : ℕ) (r : Bool) → Sound s → c ≡ s .unplaced → Hope D s c r → r ≡ false
+pub hopeless : (D : Constraints) (s : Search) (c need : ℕ) (r : Bool) → Sound s → c ≡ s .unplaced → Needs D s need → Hope D s need r → r ≡ false
     → fromCandidates D (ones (s .unplaced)) (placedOf s) (members (s .unplaced)) (members c) ≡ none
-hopeless D s c r h q f e =
+hopeless D s c need r h q n f e =
     rw q
     (none-runs D (ones (s .unplaced)) (placedOf s) (s .unplaced) (h .few) refl (λ l g.
-    clash (f (s .unplaced) (placedOf s) l (record { few = h .few; alike = λ k. refl; needed = λ k b. rw q at b; unplaced = λ k b. b; run = g })) e))
+    clash (f (s .unplaced) (placedOf s) l (record { few = h .few; alike = λ k. refl; needed = n .unplaced; asked = n .asked; unplaced = λ k b. b; run = g })) e))

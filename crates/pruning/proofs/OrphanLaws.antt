@@ -11,18 +11,19 @@ use borrow.Author.Tests.{eqb-true, eqb-false, eq-eqb}
 use Rattle.lists.proofs.ListLaws.{not-true, clash}
 use Rattle.places.specs.declared.state.Search.{Search}
 use Rattle.places.specs.Bits.{bitAt}
-use Rattle.places.specs.Facts.{allowedOf, readsAsked, requiredOf, writtenOf}
+use Rattle.places.specs.Facts.{afterOf, allowedOf, readsAsked, requiredOf, writtenOf}
 use Rattle.places.specs.State.{Sound}
 use Rattle.places.specs.Choice.{among}
 use Rattle.places.specs.Tree.{Constraints, legalAt, legalReads}
 use Rattle.pruning.specs.Runs.{runs, holds, Awaited, NoSource, Orphaned}
-use Rattle.places.proofs.BitLaws.{member-off, member-kept, no-member}
+use Rattle.places.proofs.BitLaws.{member-off, member-kept}
 use Rattle.places.proofs.SetLaws.{member-passes}
 use Rattle.pruning.proofs.EffectLaws.{writes-nothing, reads-nothing, spoils}
-use Rattle.pruning.proofs.RunLaws.{Step, step-of, runs-empty}
-use Rattle.pruning.proofs.HopeLaws.{Fits, fits-parts, not-other, aborted-place, awaited-less, hopeless}
+use Rattle.pruning.proofs.RunLaws.{Step, step-of, run-ends}
+use Rattle.pruning.proofs.HopeLaws.{Fits, fits-parts, not-other, aborted-place, Needs, hopeless}
 
 module _ (D : Constraints) (t r set : ℕ) (low : r < 32) (isRead : bitAt r (readsAsked (D .facts) (D .asked) t) ≡ 1)
+    (asked : bitAt t (afterOf (D .facts) 10) ≡ 1)
     (unsourced : (k : ℕ) → bitAt k set ≡ 1 → NoSource (D .facts) t r (requiredOf (D .facts) t r) k) where
   -- the read is legal after these places
   abbrev legal-after : List ℕ → Bool
@@ -47,7 +48,7 @@ module _ (D : Constraints) (t r set : ℕ) (low : r < 32) (isRead : bitAt r (rea
   lost-run : (l : List ℕ) (u : ℕ) (p : List ℕ) → u < 1024 → bitAt t u ≡ 1 → ((k : ℕ) → bitAt k u ≡ 1 → bitAt k set ≡ 1) → (legal-after p ≡ true → ⊥)
       → runs D p u l ≡ true → ⊥
   unfolding legalReads
-  lost-run [] u p few isIn sub not-legal run = no-member t u (runs-empty D p u run) isIn
+  lost-run [] u p few isIn sub not-legal run = run-ends D p u t few run isIn asked
   lost-run (c ∷ l) u p few isIn sub not-legal run =
       let e : c ≡ c / 2 * 2 + c % 2 = omega arith in
       let s = step-of D p u (c / 2) (c % 2) l (omega arith) (rw e at run) in
@@ -75,12 +76,9 @@ pub orphaned-run : (D : Constraints) (s : Search) (need u : ℕ) (p l : List ℕ
 unfolding legalAt holds
 orphaned-run D s need u p l g h =
     let k = g .orphan in
-    lost-run D (g .t) (k .register) (s .unplaced) (k .low) (k .isRead) (k .lost .none) l u p (h .few) (h .needed (g .t) (g .needed)) (h .unplaced)
+    lost-run D (g .t) (k .register) (s .unplaced) (k .low) (k .isRead) (h .asked (g .t) (g .needed)) (k .lost .none) l u p (h .few) (h .needed (g .t) (g .needed)) (h .unplaced)
     (λ e. clash (rw (h .alike (k .register)) at e) (k .lost .wrong)) (h .run)
 
 -- and nothing completes it
-pub orphaned-none : (D : Constraints) (s : Search) (c need : ℕ) → Sound s → c ≡ s .unplaced → ((k : ℕ) → bitAt k need ≡ 1 → bitAt k c ≡ 1)
-    → Orphaned D s need → among D s c ≡ none
-orphaned-none D s c need h q sub g =
-    hopeless D s c false h q
-    (λ u p l run. absurd (orphaned-run D s need u p l g (awaited-less D s c need u p l sub run))) refl
+pub orphaned-none : (D : Constraints) (s : Search) (c need : ℕ) → Sound s → c ≡ s .unplaced → Needs D s need → Orphaned D s need → among D s c ≡ none
+orphaned-none D s c need h q n g = hopeless D s c need false h q n (λ u p l run. absurd (orphaned-run D s need u p l g run)) refl

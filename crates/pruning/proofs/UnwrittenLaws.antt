@@ -1,10 +1,11 @@
 -- Registers that nobody writes hold what they started with, whatever places are filled: reads of them are right everywhere or nowhere.
 -- Assumes nothing.
-use mathlib.Core.Path.{_≡_, refl, sym, _∙_}
+use mathlib.Core.Path.{_≡_, refl, sym, ap, _∙_}
 use Prim.Native.Nat.{ℕ, zero, suc, _+_, _*_, _-_, _/_, _%_, _^_, _≤_, _<_}
 use native.Mathlib.Omega.{arith}
 use mathlib.Core.List.{List, [], _∷_, _++_}
 use mathlib.Core.Bool.{Bool, true, false, cond}
+use mathlib.Core.Option.{some}
 use lib.ListN.{length, take, getD, length-append, List·getD-append}
 use lib.Seq.{getD-append-seam}
 use lib.Bits.{bitXor}
@@ -17,7 +18,7 @@ use Rattle.opacity.specs.Justification.{contents}
 use Rattle.places.specs.Bits.{bitAt, members}
 use Rattle.places.specs.Facts.{fact, readsAsked, writtenOf}
 use Rattle.places.specs.Places.{decode, writesIn, writeOf}
-use Rattle.places.specs.Tree.{Constraints, Completion, asking, constraints, remove, upFrom, legalAt, legalReads, ruleNext, fitsAt, firstOf, tryOne, tryBoth, fromCandidates, firstCompletion}
+use Rattle.places.specs.Tree.{Constraints, Completion, asking, constraints, remove, upFrom, legalAt, legalReads, ruleNext, fitsAt, endsAt, firstOf, tryOne, tryBoth, fromCandidates, firstCompletion}
 use Rattle.pruning.specs.Runs.{Written, WrittenByAny, NoOther, Codes, Asked}
 use Rattle.places.proofs.BitLaws.{member-lt, and-member, member-and, member-xor, bit-all}
 use Rattle.places.proofs.SetLaws.{member-passes, members-pass}
@@ -65,7 +66,9 @@ module _ (o : List ℕ) (F : List (List ℕ)) (any t : ℕ) (other : NoOther F a
   unfolding legalReads
   asked-same h p c =
       both-ways _ _
-      (λ g. members-pass _ (readsAsked F 4294967295 t) (λ k b. let m = and-member k (fact F t 2) 4294967295 b in go k (m .0) (member-lt k 4294967295 32 (m .1) (omega arith)) g (eqb (bitAt k any) 1) refl))
+      (λ g. members-pass _ (readsAsked F 4294967295 t) (λ k b.
+      let m = and-member k (fact F t 2) 4294967295 b in
+      go k (m .0) (member-lt k 4294967295 32 (m .1) (omega arith)) g (eqb (bitAt k any) 1) refl))
       (λ g. members-pass _ (readsAsked F any t) (λ k b.
       let m = and-member k (fact F t 2) any b in
       let l = member-lt k any 32 (m .1) few in
@@ -114,7 +117,8 @@ unfolding all _and_ upFrom
 low-up zero i l = refl
 low-up (suc n) i l = and-i (ltb i 10) (all (λ (y : ℕ). ltb y 10) (upFrom (suc i) n)) (lt-ltb i 10 (omega arith)) (low-up n (suc i) (omega arith))
 
-module _ (D E : Constraints) (same : (p u : List ℕ) (t z : ℕ) → Codes p → t < 10 → fitsAt D p u t z ≡ fitsAt E p u t z) where
+module _ (D E : Constraints) (same : (p u : List ℕ) (t z : ℕ) → Codes p → t < 10 → fitsAt D p u t z ≡ fitsAt E p u t z)
+    (same-end : (p u : List ℕ) → Codes p → endsAt D p u ≡ endsAt E p u) where
   same-first : (f g : ℕ → Completion) → ((t : ℕ) → t < 10 → f t ≡ g t) → (c : List ℕ) → Low c → firstOf f c ≡ firstOf g c
   unfolding firstOf all _and_
   same-first f g e [] h = refl
@@ -125,14 +129,16 @@ module _ (D E : Constraints) (same : (p u : List ℕ) (t z : ℕ) → Codes p �
 
   same-tree : (n : ℕ) (p u c : List ℕ) → Codes p → Low u → Low c → fromCandidates D n p u c ≡ fromCandidates E n p u c
   unfolding fromCandidates tryBoth tryOne
-  same-tree zero p u c g h k = refl
-  same-tree (suc n) p u c g h k = same-first _ _ (λ t low.
+  same-tree zero p u c g h k = rw (same-end p u g)
+  same-tree (suc n) p u c g h k =
+      rw (same-end p u g)
+      (ap (λ (x : Completion). cond (endsAt E p u) (some p) x) (same-first _ _ (λ t low.
       rw (
         same p u t 0 g low,
         same p u t 1 g low,
         same-tree n (p ++ ((t * 2 + 0) ∷ [])) (remove t u) (remove t u) (codes-more p t 0 g low (omega arith)) (low-remove t u h) (low-remove t u h),
         same-tree n (p ++ ((t * 2 + 1) ∷ [])) (remove t u) (remove t u) (codes-more p t 1 g low (omega arith)) (low-remove t u h) (low-remove t u h),
-      )) c k
+      )) c k))
 
   pub same-completion : (n : ℕ) → n ≤ 10 → firstCompletion D n ≡ firstCompletion E n
   unfolding firstCompletion
@@ -140,5 +146,6 @@ module _ (D E : Constraints) (same : (p u : List ℕ) (t z : ℕ) → Codes p �
 
 -- to ask about fewer registers is to search the same tree
 pub asked-completion : (o : List ℕ) (F : List (List ℕ)) (m : ℕ) → Asked o F m → (n : ℕ) → n ≤ 10 → firstCompletion (asking o F m) n ≡ firstCompletion (constraints o F) n
-unfolding fitsAt ruleNext
-asked-completion o F m f n l = same-completion (asking o F m) (constraints o F) (λ p u t z g low. rw (f .same t p (omega arith) g)) n l
+unfolding fitsAt ruleNext endsAt
+asked-completion o F m f n l =
+    same-completion (asking o F m) (constraints o F) (λ p u t z g low. rw (f .same t p (omega arith) g)) (λ p u g. rw (f .same 10 p (omega arith) g)) n l

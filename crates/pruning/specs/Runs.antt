@@ -1,5 +1,5 @@
 -- Vocabulary between crates: it need not be believed, the public contracts end in the paper's definitions.
--- A run: places that fit one after the other until none is left. And the runs that a shorter search, over the committed places alone, must
+-- A run: places that fit one after the other until the end. And the runs that a shorter search, over the committed places alone, must
 -- not miss.
 -- Assumes nothing.
 use mathlib.Core.Path.{_≡_}
@@ -9,29 +9,29 @@ use mathlib.Core.Bool.{Bool, true, false, not, cond}
 use lib.ListN.{length, getD}
 use lib.Dec.{eqb}
 use Rattle.lists.specs.Lists.{_and_}
-use Rattle.log.specs.Starts.{startOf}
-use Rattle.opacity.specs.Justification.{contents}
 use Rattle.places.specs.declared.state.Search.{Search}
 use Rattle.places.specs.Bits.{bitAt, members}
 use Rattle.places.specs.Facts.{afterOf, allowedOf, readsAsked, requiredOf, writtenOf}
-use Rattle.places.specs.Places.{decode, writesIn}
+use Rattle.places.specs.Places.{contentAt}
 use Rattle.places.specs.State.{placedOf, Within, Keeps}
-use Rattle.places.specs.Tree.{Constraints, asking, constraints, noneIn, legalAt, legalReads, fitsAt}
+use Rattle.places.specs.Tree.{Constraints, asking, constraints, noneIn, legalAt, legalReads, fitsAt, endsAt}
 
--- do these codes fit, one after the other, after the places p, and place all of u
+-- do these codes, of transactions in u, fit one after the other after the places p, and may the order end then
 unfoldable pub runs : Constraints → List ℕ → ℕ → List ℕ → Bool
-runs D p u [] = eqb u 0
+runs D p u [] = endsAt D p (members u)
 runs D p u (c ∷ l) = eqb (bitAt (c / 2) u) 1 and fitsAt D p (members u) (c / 2) (c % 2) and runs D (p ++ (c ∷ [])) (u - 2 ^ (c / 2)) l
 
 -- what r holds after the places p
 unfoldable pub holds : Constraints → List ℕ → ℕ → ℕ
-holds D p r = contents (startOf (D .starts)) (writesIn (D .facts)) (decode p) r
+holds D p r = contentAt (D .starts) (D .facts) p r
 
--- A run of u after p, as the state s waits for it: s holds the same in each register and has placed none of u, and what s needs is of u.
+-- A run of u after p, as the state s waits for it: s holds the same in each register and has placed none of u, and what s needs is of u and
+-- must come before the end.
 pub record Awaited (D : Constraints) (s : Search) (need u : ℕ) (p l : List ℕ) : Type 0 where
   pub few : u < 1024
   pub alike : (r : ℕ) → holds D p r ≡ holds D (placedOf s) r
   pub needed : (k : ℕ) → bitAt k need ≡ 1 → bitAt k u ≡ 1
+  pub asked : (k : ℕ) → bitAt k need ≡ 1 → bitAt k (afterOf (D .facts) 10) ≡ 1
   pub unplaced : (k : ℕ) → bitAt k u ≡ 1 → bitAt k (s .unplaced) ≡ 1
   pub run : runs D p u l ≡ true
 
@@ -47,8 +47,8 @@ HopeBy D s need t r = (u : ℕ) (p l : List ℕ) → Awaited D s need u p ((t * 
 abbrev pub Ready : Constraints → Search → ℕ → Type 0
 Ready D s ready = Keeps (λ k. legalReads D (placedOf s) k ≡ true) (s .unplaced) ready
 
--- e is what the commit of x does to reads that are legal over these start values after these places: 0 nothing, and if it has registers below
--- 2 ^ 32 they are legal no more
+-- e is what the commit of x does to reads that are legal over these start values after these places: 0 nothing, and if it has registers
+-- below 2 ^ 32 they are legal no more
 pub record Effect (legal : List ℕ → List ℕ → Bool) (x e : ℕ) : Type 0 where
   pub untouched : e ≡ 0 → (o p : List ℕ) → legal o (p ++ ((x * 2 + 1) ∷ [])) ≡ true → legal o p ≡ true
   pub spoilt : (e % 4294967296 ≡ 0 → ⊥) → (o p : List ℕ) → legal o (p ++ ((x * 2 + 1) ∷ [])) ≡ true → ⊥

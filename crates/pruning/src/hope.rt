@@ -5,7 +5,9 @@ ghost use mathlib.Core.Path.{_≡_};
 ghost use mathlib.Core.Bool.{true, false, cond};
 ghost use mathlib.Core.Option.{none};
 ghost use Prim.Native.Nat.{_-_, _^_, _<_};
+ghost use lib.Bits.{bitAnd};
 ghost use Rattle.places.specs.Bits.{bitAt};
+ghost use Rattle.places.specs.Facts.{afterOf};
 ghost use Rattle.places.specs.State.{placedOf, Sound, Placeable, Keeps};
 ghost use Rattle.places.specs.Tree.{asking, legalReads};
 ghost use Rattle.places.specs.Choice.{among};
@@ -16,6 +18,7 @@ use places::facts::ABORTED;
 use places::facts::AFTER;
 use places::facts::ALLOWED;
 use places::facts::COMMITTED;
+use places::facts::END;
 use places::facts::Facts;
 use places::facts::TRANSACTIONS;
 use places::lookup::legal_reads;
@@ -209,8 +212,8 @@ pub fn stranded(starts: &[u32; 32], facts: &[Facts; 11], asked: u32, s: Search, 
     orphaned(starts, facts, &all, asked, s, need, 0)
 }
 
-// Is there one now, by the last place? A commit has overwritten what it has, one that could have committed leaves others without its writes,
-// and any other place takes nothing away. Who is stranded before any place is filled has been asked already.
+// Is there one now, by the last place? A commit has overwritten what it has, one that could have committed leaves others without its
+// writes, and any other place takes nothing away. Who is stranded before any place is filled has been asked already.
 fn bereft(
     starts: &[u32; 32],
     facts: &[Facts; 11],
@@ -237,6 +240,13 @@ fn bereft(
     stranded(starts, facts, asked, s, need)
 }
 
+// Those of a set that must come before the end.
+pub fn before_end(facts: &[Facts; 11], set: u64) -> u64
+    ensures { λ r. ⌜ r ≡ bitAnd set (afterOf (now (facts .entry)) 10) ⌝ }
+{
+    set & facts[END][AFTER]
+}
+
 // Is there hope? It is asked once for a state, before its first candidate is tried, and only where there is much to try.
 pub fn hopeful(
     starts: &[u32; 32],
@@ -260,8 +270,23 @@ pub fn hopeful(
         return true;
     }
     let ready = ready_among(starts, facts, asked, s);
-    if bereft(starts, facts, effects, asked, s, s.unplaced ^ ready) {
+    if bereft(
+        starts,
+        facts,
+        effects,
+        asked,
+        s,
+        before_end(facts, s.unplaced ^ ready),
+    ) {
         return false;
     }
-    possible(starts, facts, effects, asked, s, candidates, ready)
+    possible(
+        starts,
+        facts,
+        effects,
+        asked,
+        s,
+        before_end(facts, candidates),
+        ready,
+    )
 }

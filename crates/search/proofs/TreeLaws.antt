@@ -4,7 +4,7 @@ use mathlib.Core.Path.{_≡_, refl, sym, ap, _∙_}
 use mathlib.Core.List.{[]}
 use mathlib.Core.Bool.{Bool, true, false}
 use borrow.Author.Tests.{ne-eqb}
-use mathlib.Core.Option.{none}
+use mathlib.Core.Option.{none, some}
 use Prim.Native.Nat.{ℕ, zero, suc, _+_, _-_, _*_, _^_, _≤_, _<_}
 use native.Mathlib.Nat.{zero-add}
 use native.Mathlib.Omega.{arith}
@@ -15,7 +15,7 @@ use lib.Count.{ones, ones-ones, trailingZeros}
 use Rattle.places.specs.declared.state.Search.{Search}
 use Rattle.places.specs.Bits.{bitAt, membersIn, members}
 use Rattle.places.specs.State.{placedOf, whole, Sound, Placeable, Within, Extends}
-use Rattle.places.specs.Tree.{Constraints, Completion, ruleNext, allowsOutcome, fitsAt, firstOf, tryOne, tryBoth, fromCandidates, atTransaction, firstCompletion, readAnswer, Answers}
+use Rattle.places.specs.Tree.{Constraints, Completion, ruleNext, allowsOutcome, fitsAt, endsAt, firstOf, tryOne, tryBoth, fromCandidates, atTransaction, firstCompletion, readAnswer, Answered}
 use Rattle.places.specs.Choice.{among, withNext, from}
 use Rattle.places.proofs.BitLaws.{ones-off, members-all}
 use Rattle.places.proofs.StateLaws.{fewer}
@@ -50,41 +50,39 @@ unfolding attempt tryOne
 attempt-none D s t o e f = rw (← e, f)
 
 -- it fits, and the search goes on from the next state
-pub attempt-next : {b : Bool} (D : Constraints) (s next : Search) (t o a : ℕ) → Placeable s t → Extends s t o next
+pub attempt-next : {b : Bool} {x : Completion} (D : Constraints) (s next : Search) (t o : ℕ) → Placeable s t → Extends s t o next
     → b ≡ fitsAt D (placedOf s) (members (s .unplaced)) t o → b ≡ true
-    → readAnswer (whole next) a ≡ fromCandidates D (ones (next .unplaced)) (placedOf next) (members (next .unplaced)) (members (next .unplaced))
-    → readAnswer (whole s) a ≡ attempt D s t o
+    → x ≡ fromCandidates D (ones (next .unplaced)) (placedOf next) (members (next .unplaced)) (members (next .unplaced)) → x ≡ attempt D s t o
 unfolding attempt tryOne
-attempt-next D s next t o a r x e f h =
-    rw (← e, f, ← members-remove t (s .unplaced) (r .sound .few) (r .isIn), ← x .rest, ← x .places) (ap (λ (n : ℕ). readAnswer n a) (sym (x .total)) ∙ h)
+attempt-next D s next t o r x e f h = rw (← e, f, ← members-remove t (s .unplaced) (r .sound .few) (r .isIn), ← x .rest, ← x .places) h
 
 -- ---- no more than the places
 
 -- the answer of the next state
-pub answers-next : {x y : Completion} (s next : Search) (t o a : ℕ) → Extends s t o next → Answers (whole next) a x → readAnswer (whole s) a ≡ y
-    → Answers (whole s) a y
-answers-next s next t o a x h e = record { completion = e; room = rw (x .total) at (h .room) }
+pub answered-next : {x y : Completion} (s next : Search) (t o a : ℕ) → Extends s t o next → (h : Answered (whole next) a x) → readAnswer (h .places) a ≡ y
+    → Answered (whole s) a y
+answered-next s next t o a x h e =
+    record { places = h .places; few = rw (x .total) at (h .few); led = h .led; answers = record { completion = e; room = h .answers .room } }
 
 -- none
-pub answers-none : {x : Completion} (n : ℕ) → none ≡ x → Answers n 0 x
-answers-none n e = record { completion = e; room = pow-pos (n * 5 + 1) }
+pub answered-none : {x : Completion} (n : ℕ) → none ≡ x → Answered n 0 x
+answered-none n e = record { places = 0; few = omega arith; led = λ f. absurd (f refl); answers = record { completion = e; room = omega arith } }
 
 -- an answer read as another completion
-pub answers-as : {x y : Completion} (n a : ℕ) → Answers n a x → x ≡ y → Answers n a y
-answers-as n a h e = record { completion = h .completion ∙ e; room = h .room }
+pub answered-as : {x y : Completion} (n a : ℕ) → Answered n a x → x ≡ y → Answered n a y
+answered-as n a h e = record { places = h .places; few = h .few; led = h .led; answers = record { completion = h .answers .completion ∙ e; room = h .answers .room } }
 
 module _ (D : Constraints) (s : Search) (t : ℕ) where
   -- the first outcome leads to a completion
-  pub outcome-first : (a : ℕ) (y : Completion) → (a ≡ 0 → ⊥) → readAnswer (whole s) a ≡ attempt D s t 0
-      → readAnswer (whole s) a ≡ orElse (withNext D s t) y
+  pub outcome-first : (n a : ℕ) (y : Completion) → (a ≡ 0 → ⊥) → readAnswer n a ≡ attempt D s t 0 → readAnswer n a ≡ orElse (withNext D s t) y
   unfolding attempt atTransaction tryBoth
-  outcome-first a y f e = first-found (whole s) a y f (first-found (whole s) a (attempt D s t 1) f e)
+  outcome-first n a y f e = first-found n a y f (first-found n a (attempt D s t 1) f e)
 
   -- it does not, and the second does
-  pub outcome-second : (a : ℕ) (y : Completion) → (a ≡ 0 → ⊥) → attempt D s t 0 ≡ none → readAnswer (whole s) a ≡ attempt D s t 1
-      → readAnswer (whole s) a ≡ orElse (withNext D s t) y
+  pub outcome-second : (n a : ℕ) (y : Completion) → (a ≡ 0 → ⊥) → attempt D s t 0 ≡ none → readAnswer n a ≡ attempt D s t 1
+      → readAnswer n a ≡ orElse (withNext D s t) y
   unfolding attempt atTransaction tryBoth
-  outcome-second a y f e g = first-found (whole s) a y f (first-none e g)
+  outcome-second n a y f e g = first-found n a y f (first-none e g)
 
   -- neither does, and the other candidates decide
   pub outcome-neither : {y : Completion} → attempt D s t 0 ≡ none → attempt D s t 1 ≡ none → y ≡ orElse (withNext D s t) y
@@ -93,27 +91,38 @@ module _ (D : Constraints) (s : Search) (t : ℕ) where
 
 -- ---- choosing a transaction
 
-pub all-placed : (D : Constraints) (s : Search) (c : ℕ) → Sound s → ones (s .unplaced) ≡ 0 → Answers (whole s) (s .placed) (among D s c)
+-- an order may end with the places filled
+pub may-end : {b : Bool} (D : Constraints) (s : Search) (c : ℕ) → Sound s → b ≡ endsAt D (placedOf s) (members (s .unplaced)) → b ≡ true
+    → Answered (whole s) (s .placed) (among D s c)
 unfolding fromCandidates
-all-placed D s c h e =
-    let g : eqb (s .placed) 0 ≡ false = ne-eqb (s .placed) 0 (λ q. omega (arith, h .led)) in
-    let n : s .filled + 0 ≡ s .filled = omega arith in
-    record { completion = rw (e, g, n); room = rw (e, n) (h .room) }
+may-end D s c h e f =
+    let some-places : eqb (s .placed) 0 ≡ false = ne-eqb (s .placed) 0 (λ q. omega (arith, h .led, pow-pos (s .filled * 5))) in
+    record {
+      places = s .filled;
+      few = omega arith;
+      led = λ z. h .led;
+      answers = record { completion = (rw some-places) ∙ sym (go (ones (s .unplaced)) (sym e ∙ f)); room = h .room };
+    }
+  where
+    go : (n : ℕ) → endsAt D (placedOf s) (members (s .unplaced)) ≡ true → fromCandidates D n (placedOf s) (members (s .unplaced)) (members c) ≡ some (placedOf s)
+    go zero q = rw q
+    go (suc n) q = rw q
 
-module _ (D : Constraints) (s : Search) where
+-- none may end with them
+module _ (D : Constraints) (s : Search) (on : endsAt D (placedOf s) (members (s .unplaced)) ≡ false) where
   -- the lowest candidate comes first, and then the others
   pub next-candidate : (c t : ℕ) → Within (s .unplaced) c → c < 2 ^ 64 → (c ≡ 0 → ⊥) → t ≡ trailingZeros 64 c → among D s c ≡ from D s c t
   unfolding fromCandidates firstOf atTransaction
-  next-candidate c t w l f e = rw (members-first t c l f e, ones-off t (s .unplaced) (w .isIn t (lowest-member t c l f e)))
+  next-candidate c t w l f e = rw (members-first t c l f e, ones-off t (s .unplaced) (w .isIn t (lowest-member t c l f e)), on)
 
-  -- no candidate, and something to be placed
-  pub none-among : (c : ℕ) → (ones (s .unplaced) ≡ 0 → ⊥) → c ≡ 0 → none ≡ among D s c
+  -- no candidate
+  pub none-among : (c : ℕ) → c ≡ 0 → none ≡ among D s c
   unfolding fromCandidates firstOf members membersIn
-  none-among c f e = rw e (go (ones (s .unplaced)) f)
+  none-among c e = rw e (go (ones (s .unplaced)))
     where
-      go : (n : ℕ) → (n ≡ 0 → ⊥) → none ≡ fromCandidates D n (placedOf s) (members (s .unplaced)) []
-      go zero g = absurd (g refl)
-      go (suc n) g = refl
+      go : (n : ℕ) → none ≡ fromCandidates D n (placedOf s) (members (s .unplaced)) []
+      go zero = rw on
+      go (suc n) = rw on
 
 -- ---- the measure: unplaced transactions first, then candidates, and 1 before one is chosen
 
@@ -146,10 +155,10 @@ start-sound n u l e =
 
 -- and so is the answer that of the whole search
 pub start-answers : (D : Constraints) (n u a : ℕ) → n ≤ 10 → u ≡ 2 ^ n - 1
-    → Answers (0 + ones u) a (fromCandidates D (ones u) [] (members u) (members u)) → Answers n a (firstCompletion D n)
+    → Answered (0 + ones u) a (fromCandidates D (ones u) [] (members u) (members u)) → Answered n a (firstCompletion D n)
 unfolding firstCompletion
 start-answers D n u a l e h =
     let all : ones u ≡ n = ap ones e ∙ ones-ones n in
     let same : fromCandidates D (ones u) [] (members u) (members u) ≡ firstCompletion D n = rw (e, ones-ones n, members-all n (omega arith)) in
     let n-places : 0 + ones u ≡ n = zero-add (ones u) ∙ all in
-    record { completion = ap (λ (k : ℕ). readAnswer k a) (sym n-places) ∙ h .completion ∙ same; room = rw n-places at (h .room) }
+    record { places = h .places; few = omega (arith, h .few); led = h .led; answers = record { completion = h .answers .completion ∙ same; room = h .answers .room } }

@@ -1,10 +1,11 @@
 // The lowest completion: a search over the orders and outcomes of at most ten transactions. `places` has the places filled and what
 // they leave in a register, `pruning` the test that leaves a state which nothing completes, and here transactions and outcomes are chosen.
 ghost use mathlib.Core.Path.{_≡_};
+ghost use mathlib.Core.Bool.{false};
 ghost use Prim.Native.Nat.{_≤_, _<_};
 ghost use Rattle.places.specs.Bits.{bitAt, members};
 ghost use Rattle.places.specs.State.{placedOf, whole, Sound, Placeable, Within};
-ghost use Rattle.places.specs.Tree.{asking, constraints, allowsOutcome, ruleNext, firstCompletion, Answers};
+ghost use Rattle.places.specs.Tree.{asking, constraints, allowsOutcome, ruleNext, endsAt, firstCompletion, Answered};
 ghost use Rattle.places.specs.Choice.{among, from};
 ghost use Rattle.pruning.specs.Runs.{Effects};
 use places::facts::ABORTED;
@@ -13,6 +14,7 @@ use places::facts::ALL;
 use places::facts::ALLOWED;
 use places::facts::COMMITTED;
 use places::facts::EITHER;
+use places::facts::END;
 use places::facts::Facts;
 use places::facts::NONE;
 use places::lookup::legal_reads;
@@ -22,6 +24,7 @@ use pruning::effects::HELPED;
 use pruning::effects::effects_among;
 use pruning::effects::registers_written;
 use pruning::hope::FEW;
+use pruning::hope::before_end;
 use pruning::hope::hopeful;
 use pruning::hope::stranded;
 use pruning::unwritten::registers_asked;
@@ -51,8 +54,20 @@ fn allows(rule: u64, outcome: u64) -> bool
     rule == EITHER
 }
 
-// The first completion of the places filled whose next transaction is one of the candidates, lowest first. The answer has all places
-// as a state has them, or is 0 for none.
+// May an order end with the places filled: not while one that must come before the end has no place, or if a store read of the end is not
+// legal.
+fn ends(starts: &[u32; 32], facts: &[Facts; 11], asked: u32, s: Search) -> bool
+    requires { ⌜ Sound s ⌝ }
+    ensures { λ r. ⌜ r ≡ endsAt (asking (now (starts .entry)) (now (facts .entry)) asked) (placedOf s) (members (s .unplaced)) ⌝ }
+{
+    if facts[END][AFTER] & s.unplaced != 0 {
+        return false;
+    }
+    legal_reads(starts, facts, asked, s, END)
+}
+
+// The first completion of the places filled: these alone if an order may end with them, and else one whose next transaction is one of the
+// candidates, lowest first. The answer has its places as a state has them, or is 0 for none.
 fn choose_transaction(
     starts: &[u32; 32],
     facts: &[Facts; 11],
@@ -64,9 +79,9 @@ fn choose_transaction(
     requires { ⌜ Sound s ⌝ }
     requires { ⌜ Within (s .unplaced) candidates ⌝ }
     requires { ⌜ Effects (now facts) asked (now effects) ⌝ }
-    ensures { λ r. ⌜ Answers (whole s) r (among (asking (now (starts .entry)) (now (facts .entry)) asked) s candidates) ⌝ }
+    ensures { λ r. ⌜ Answered (whole s) r (among (asking (now (starts .entry)) (now (facts .entry)) asked) s candidates) ⌝ }
 {
-    if sets::count(s.unplaced) == 0 {
+    if ends(starts, facts, asked, s) {
         return s.placed;
     }
     if candidates == 0 {
@@ -92,8 +107,9 @@ fn choose_outcome(
     requires { ⌜ Placeable s t ⌝ }
     requires { ⌜ Within (s .unplaced) candidates ⌝ }
     requires { ⌜ bitAt t candidates ≡ 1 ⌝ }
+    requires { ⌜ endsAt (asking (now starts) (now facts) asked) (placedOf s) (members (s .unplaced)) ≡ false ⌝ }
     requires { ⌜ Effects (now facts) asked (now effects) ⌝ }
-    ensures { λ r. ⌜ Answers (whole s) r (from (asking (now (starts .entry)) (now (facts .entry)) asked) s candidates t) ⌝ }
+    ensures { λ r. ⌜ Answered (whole s) r (from (asking (now (starts .entry)) (now (facts .entry)) asked) s candidates t) ⌝ }
 {
     let rule = rule_next(starts, facts, asked, s, t);
     if allows(rule, ABORTED) {
@@ -120,7 +136,7 @@ fn choose_outcome(
 // The lowest completion of n transactions, from nothing placed; 0 for none.
 pub fn find(starts: &[u32; 32], facts: &[Facts; 11], n: usize) -> u64
     requires { ⌜ n ≤ 10 ⌝ }
-    ensures { λ r. ⌜ Answers n r (firstCompletion (constraints (now (starts .entry)) (now (facts .entry))) n) ⌝ }
+    ensures { λ r. ⌜ Answered n r (firstCompletion (constraints (now (starts .entry)) (now (facts .entry))) n) ⌝ }
 {
     let s = Search {
         unplaced: sets::bit(n) - 1,
@@ -131,7 +147,7 @@ pub fn find(starts: &[u32; 32], facts: &[Facts; 11], n: usize) -> u64
         let effects = [HELPED; 100];
         return choose_transaction(starts, facts, &effects, ALL, s, s.unplaced);
     }
-    if stranded(starts, facts, ALL, s, s.unplaced) {
+    if stranded(starts, facts, ALL, s, before_end(facts, s.unplaced)) {
         return 0;
     }
     let writes = registers_written(facts);

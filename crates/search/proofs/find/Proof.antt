@@ -3,14 +3,18 @@
 use mathlib.Core.Path.{_≡_, refl, sym, ap}
 use Prim.Native.Nat.{ℕ, _-_, _^_}
 use native.Mathlib.Omega.{arith}
+use lib.Bits.{and-le-l}
 use lib.Pow.{pow-pos}
+use Rattle.places.specs.declared.state.Search.{Search}
+use Rattle.places.specs.Facts.{afterOf}
 use Rattle.places.specs.Places.{codesOf}
 use Rattle.places.specs.State.{Sound}
 use Rattle.places.specs.Tree.{asking, constraints}
-use Rattle.search.proofs.TreeLaws.{start-sound, start-answers, answers-as, answers-none}
+use Rattle.search.proofs.TreeLaws.{start-sound, start-answers, answered-as, answered-none}
 use Rattle.places.proofs.SetLaws.{within-self}
 use Rattle.pruning.proofs.EffectLaws.{nothing-known}
 use Rattle.pruning.proofs.UnwrittenLaws.{asked-completion}
+use Rattle.pruning.proofs.HopeLaws.{needs-of}
 use Rattle.pruning.proofs.OrphanLaws.{orphaned-none}
 use borrow.Author.Needs.{needs}
 use Rattle.search.proofs.find.Statement.{statement}
@@ -24,7 +28,7 @@ sound : (b : tie.After-bit) → Sound (record { unplaced = b .bit .result - 1; f
 sound b = start-sound (b .before .args .n) (b .bit .result - 1) (b .before .pre) (all b)
 
 abbrev chosen : tie.After-registers-asked → tie.After-bit
-chosen a = a .before .before .before .before .before .before
+chosen a = a .before .before .before .before .before .before .before
 
 bit-requires : tie.Need-bit-requires
 bit-requires c κs = search needs
@@ -37,14 +41,29 @@ choose-transaction-requires c κs = let b = c .before .before in (sound b, (with
 
 returns : tie.Need-returns
 unfolding codesOf
-returns c = let b = c .before .before .before in let a = b .before .args in start-answers (constraints (a .starts .now) (a .facts .now)) (a .n) _ (c .choose-transaction .result) (b .before .pre) (all b) (c .choose-transaction .ensures)
+returns c =
+    let b = c .before .before .before in
+    let a = b .before .args in
+    start-answers (constraints (a .starts .now) (a .facts .now)) (a .n) _ (c .choose-transaction .result) (b .before .pre) (all b) (c .choose-transaction .ensures)
+
+before-end-requires : tie.Need-before-end-requires
+before-end-requires c κs = search needs
 
 stranded-requires : tie.Need-stranded-requires
-stranded-requires c κs = (sound (c .before), sound (c .before) .few)
+stranded-requires c κs =
+    let b = c .before .before in
+    (sound b, omega (arith, sound b .few, c .before-end .ensures, and-le-l (b .bit .result - 1) (afterOf (b .before .args .facts .now) 10)))
 
 returns-2 : tie.Need-returns-2
 unfolding codesOf
-returns-2 c = let b = c .before .before .before in let a = b .before .args in let D = constraints (a .starts .now) (a .facts .now) in start-answers D (a .n) _ 0 (b .before .pre) (all b) (answers-none _ (sym (orphaned-none D _ _ _ (sound b) refl (λ k h. h) (c .before .stranded .ensures (c .if2 .taken)))))
+returns-2 c =
+    let b = c .before .before .before .before in
+    let a = b .before .args in
+    let D = constraints (a .starts .now) (a .facts .now) in
+    let u = b .bit .result - 1 in
+    let s : Search = record { unplaced = u; filled = 0; placed = 1 } in
+    start-answers D (a .n) u 0 (b .before .pre) (all b)
+    (answered-none _ (sym (orphaned-none D s u _ (sound b) refl (needs-of D s u _ (c .before .before .before-end .ensures) (λ k h. h)) (c .before .stranded .ensures (c .if2 .taken)))))
 
 registers-written-requires : tie.Need-registers-written-requires
 registers-written-requires c κs = search needs
@@ -58,9 +77,17 @@ effects-among-requires c κs = search needs
 choose-transaction-requires-2 : tie.Need-choose-transaction-requires-2
 choose-transaction-requires-2 c κs = (sound (chosen (c .before .before .before)), (within-self _, c .before .effects-among .ensures))
 
+-- the tree in which fewer registers are asked about is the same
 returns-3 : tie.Need-returns-3
 unfolding codesOf
-returns-3 c = let told = c .before .before .before .before in let b = chosen told in let a = b .before .args in let m = told .registers-asked .result in answers-as (a .n) (c .choose-transaction2 .result) (start-answers (asking (a .starts .now) (a .facts .now) m) (a .n) _ (c .choose-transaction2 .result) (b .before .pre) (all b) (c .choose-transaction2 .ensures)) (asked-completion (a .starts .now) (a .facts .now) m (told .registers-asked .ensures) (a .n) (b .before .pre))
+returns-3 c =
+    let told = c .before .before .before .before in
+    let b = chosen told in
+    let a = b .before .args in
+    let m = told .registers-asked .result in
+    answered-as (a .n) (c .choose-transaction2 .result)
+    (start-answers (asking (a .starts .now) (a .facts .now) m) (a .n) _ (c .choose-transaction2 .result) (b .before .pre) (all b) (c .choose-transaction2 .ensures))
+    (asked-completion (a .starts .now) (a .facts .now) m (told .registers-asked .ensures) (a .n) (b .before .pre))
 
 pub find-spec : {M : Type 1} → statement M
 find-spec =
@@ -70,6 +97,7 @@ find-spec =
     sub-t10
     choose-transaction-requires
     returns
+    before-end-requires
     stranded-requires
     returns-2
     registers-written-requires

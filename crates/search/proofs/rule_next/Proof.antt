@@ -49,7 +49,10 @@ index-2-result c = search needs
 
 returns-3 : tie.Need-returns-3
 unfolding ruleNext
-returns-3 c = simp (unplaced-before (c .before .before .before .before .before .before) ∙ eq-eqb _ _ (c .before .before .before .if1 .left), sym (c .before .before .legal-reads .ensures) ∙ not-false _ (c .before .if2 .left))
+returns-3 c = simp (
+  unplaced-before (c .before .before .before .before .before .before) ∙ eq-eqb _ _ (c .before .before .before .if1 .left),
+  sym (c .before .before .legal-reads .ensures) ∙ not-false _ (c .before .if2 .left),
+)
 
 pub rule-next-spec : {M : Type 1} → statement M
 rule-next-spec =

@@ -21,7 +21,9 @@ wide-requires : tie.Need-wide-requires
 wide-requires c κs = search needs
 
 cast-result : tie.Need-cast-result
-cast-result c = let a = c .before .before .args in omega (arith, and-le-r (fact (a .facts .now) (a .t) 2) (c .wide .result), c .wide .ensures, c .before .before .fits .asked .fits)
+cast-result c =
+    let a = c .before .before .args in
+    omega (arith, and-le-r (fact (a .facts .now) (a .t) 2) (c .wide .result), c .wide .ensures, c .before .before .fits .asked .fits)
 
 returns : tie.Need-returns
 returns c = let a = c .before .before .args in ap (bitAnd (fact (a .facts .now) (a .t) 2)) (c .wide .ensures)

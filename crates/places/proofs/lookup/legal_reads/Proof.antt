@@ -18,7 +18,9 @@ legal-requires c κs = search needs
 
 returns : tie.Need-returns
 unfolding legalReads
-returns c = let a = c .before .before .args in c .legal .ensures ∙ ap (λ (m : ℕ). all (legalAt (a .starts .now) (a .facts .now) (placedOf (a .s)) (a .t)) (members m)) (c .before .reads-asked .ensures)
+returns c =
+    let a = c .before .before .args in
+    c .legal .ensures ∙ ap (λ (m : ℕ). all (legalAt (a .starts .now) (a .facts .now) (placedOf (a .s)) (a .t)) (members m)) (c .before .reads-asked .ensures)
 
 pub legal-reads-spec : {M : Type 1} → statement M
 legal-reads-spec = tie.close (tie.spec reads-asked-requires legal-requires returns)

@@ -46,7 +46,11 @@ loop-again c =
     let at = c .before .before .loop in
     let n = start .args .count in
     let code = c .code-at .ensures ∙ sym (code-at-place n (start .args .order) (at .i) (n - 1 - at .i) (omega arith)) in
-    (omega arith, length-set (at .codes) (at .i) _ ∙ at .inv .1, take-more (at .codes) (codesOf n (start .args .order)) (at .i) _ (omega (arith, at .inv .1, start .pre)) (omega (arith, length-codes n (start .args .order))) code (at .inv .2))
+    let long = length-codes n (start .args .order) in (
+      omega arith,
+      length-set (at .codes) (at .i) _ ∙ at .inv .1,
+      take-more (at .codes) (codesOf n (start .args .order)) (at .i) _ (omega (arith, at .inv .1, start .pre)) (omega arith) code (at .inv .2),
+    )
 
 returns : tie.Need-returns Inv-loop μ-loop
 returns c =

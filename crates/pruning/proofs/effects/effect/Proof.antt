@@ -92,7 +92,8 @@ loop-again c =
       omega (arith, c .without .ensures, at .inv .0),
       λ k h. at .inv .1 k (member-off r k (at .left) isIn (rw (c .without .ensures) at h)),
       passed-one (λ (k : ℕ). bitAt k set ≡ 1 → bitOr (at .done) (e .result) ≡ 0 → Same (a .facts .now) (a .x) (a .t) k)
-          r (at .left) (c .without .result) isIn (c .without .ensures) (λ h z. e .ensures .untouched (or-none (at .done) (e .result) z .1)) (λ k out h z. at .inv .2 k out h (or-none (at .done) (e .result) z .0)),
+          r (at .left) (c .without .result) isIn (c .without .ensures)
+          (λ h z. e .ensures .untouched (or-none (at .done) (e .result) z .1)) (λ k out h z. at .inv .2 k out h (or-none (at .done) (e .result) z .0)),
       λ z. from-one (a .facts .now) (a .x) (a .t) set (at .done) (e .result) z (at .inv .3)
           (λ f. record { register = r; low = member-lt r (at .left) 32 isIn (at .inv .0); isIn = at .inv .1 r isIn; never = e .ensures .spoilt f }),
     )

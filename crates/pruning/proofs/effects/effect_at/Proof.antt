@@ -50,7 +50,10 @@ bit-requires : tie.Need-bit-requires
 bit-requires c κs = search needs
 
 returns-4 : tie.Need-returns-4
-returns-4 c = let a = c .before .before .before .before .before .before .args in spoils (a .facts .now) (a .x) (a .t) (a .register) (c .bit .result) (omega (arith, c .bit .ensures, pow-pos (a .register))) (c .before .before .before .before .if1 .left) (c .before .before .if2 .left) (c .before .if3 .left)
+returns-4 c =
+    let a = c .before .before .before .before .before .before .args in
+    spoils (a .facts .now) (a .x) (a .t) (a .register) (c .bit .result) (omega (arith, c .bit .ensures, pow-pos (a .register)))
+    (c .before .before .before .before .if1 .left) (c .before .before .if2 .left) (c .before .if3 .left)
 
 pub effect-at-spec : {M : Type 1} → statement M
 effect-at-spec =

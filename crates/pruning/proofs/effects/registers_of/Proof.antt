@@ -40,7 +40,10 @@ loop-less : tie.Need-loop-less Inv-loop μ-loop
 loop-less c = omega arith
 
 loop-again : tie.Need-loop-again Inv-loop μ-loop
-loop-again c = let at = c .before .before .before .loop in let a = c .before .before .before .before .args in (omega arith, writes-on (a .facts .now) (a .t) (at .registers) (at .r) (c .noted .result) (at .inv .1) (c .noted .ensures))
+loop-again c =
+    let at = c .before .before .before .loop in
+    let a = c .before .before .before .before .args in
+    (omega arith, writes-on (a .facts .now) (a .t) (at .registers) (at .r) (c .noted .result) (at .inv .1) (c .noted .ensures))
 
 returns : tie.Need-returns Inv-loop μ-loop
 returns c = let at = c .before .loop in record { has = λ r l f. at .inv .1 .has r (omega arith) f }

@@ -133,9 +133,10 @@ leads-possible-requires t c κs =
 
 leads-returns-3 : (t : ℕ) → leads-lts.Need-returns-3 (leads-claims t) (leads-at t) leads.Post
 leads-returns-3 t c =
-    let a = c .before .before .before .before .before .before .before .before .args in
+    let placed = c .before .before .before .before .before in
+    let a = placed .before .before .before .args in
     let D = asking (a .starts .now) (a .facts .now) (a .asked) in
-    let place = c .before .before .before .before .before .place in
+    let place = placed .place in
     λ u p l run. c .possible .ensures _ _ l (committed-next D (a .s) (a .need) u p l (a .t) (place .result) (place .ensures) run)
 
 abbrev possible-Inv-loop : possible-lts.InvT-loop
@@ -144,6 +145,13 @@ possible-Inv-loop starts facts effects asked s need ready rest left₀ left =
 
 abbrev possible-μ-loop : possible-lts.MeasureT-loop
 possible-μ-loop starts facts effects asked s need ready rest left₀ left = left
+
+-- the transaction of a turn is one of those left
+asked : (t : ℕ) (a : possible-lts.After-lowest (possible-claims t) (possible-at t) possible.Post possible-Inv-loop possible-μ-loop)
+    → bitAt (a .lowest .result) (a .before .before .loop .left) ≡ 1
+asked t a =
+    let at = a .before .before .loop in
+    lowest-member _ (at .left) (omega (arith, at .inv .0 .few, a .before .before .before .before .before .pre .1 .0 .few)) (a .before .loop-test .taken) (a .lowest .ensures)
 
 possible-settle-requires : (t : ℕ) → possible-lts.Need-settle-requires (possible-claims t) (possible-at t) possible.Post possible-Inv-loop possible-μ-loop
 possible-settle-requires t c κs =
@@ -169,7 +177,7 @@ possible-leads-requires t c κs =
     let start = c .before .before .before .before .before in
     let at = c .before .before .loop in
     let t′ = c .lowest .result in
-    let isIn = lowest-member t′ (at .left) (omega (arith, at .inv .0 .few, start .pre .1 .0 .few)) (c .before .loop-test .taken) (c .lowest .ensures) in
+    let isIn = asked t c in
     (subst (λ (n : ℕ). ones (start .args .s .unplaced) * 2 < n) (start .pre .0) (omega arith), (record { sound = start .pre .1 .0; isIn = at .inv .0 .isIn t′ isIn }, start .pre .1 .1))
 
 possible-returns-2 : (t : ℕ) → possible-lts.Need-returns-2 (possible-claims t) (possible-at t) possible.Post possible-Inv-loop possible-μ-loop
@@ -178,32 +186,29 @@ possible-returns-2 t c =
 
 possible-without-requires : (t : ℕ) → possible-lts.Need-without-requires (possible-claims t) (possible-at t) possible.Post possible-Inv-loop possible-μ-loop
 possible-without-requires t c κs =
-    let start = c .before .before .before .before .before .before .before in
-    let at = c .before .before .before .before .loop in
-    let t′ = c .before .before .lowest .result in
-    let isIn = lowest-member t′ (at .left) (omega (arith, at .inv .0 .few, start .pre .1 .0 .few)) (c .before .before .before .loop-test .taken) (c .before .before .lowest .ensures) in
-    isIn
+    asked t (c .before .before)
 
 possible-loop-less : (t : ℕ) → possible-lts.Need-loop-less (possible-claims t) (possible-at t) possible.Post possible-Inv-loop possible-μ-loop
 possible-loop-less t c =
-    let start = c .before .before .before .before .before .before .before .before in
-    let at = c .before .before .before .before .before .loop in
-    let t′ = c .before .before .before .lowest .result in
-    let isIn = lowest-member t′ (at .left) (omega (arith, at .inv .0 .few, start .pre .1 .0 .few)) (c .before .before .before .before .loop-test .taken) (c .before .before .before .lowest .ensures) in
+    let turn = c .before .before .before in
+    let at = turn .before .before .loop in
+    let t′ = turn .lowest .result in
+    let isIn = asked t turn in
     let less = member-le t′ (at .left) isIn in
     let positive = pow-pos t′ in
     omega (arith, c .without .ensures)
 
 possible-loop-again : (t : ℕ) → possible-lts.Need-loop-again (possible-claims t) (possible-at t) possible.Post possible-Inv-loop possible-μ-loop
 possible-loop-again t c =
-    let start = c .before .before .before .before .before .before .before .before in
-    let at = c .before .before .before .before .before .loop in
-    let t′ = c .before .before .before .lowest .result in
-    let isIn = lowest-member t′ (at .left) (omega (arith, at .inv .0 .few, start .pre .1 .0 .few)) (c .before .before .before .before .loop-test .taken) (c .before .before .before .lowest .ensures) in
+    let turn = c .before .before .before in
+    let at = turn .before .before .loop in
+    let t′ = turn .lowest .result in
+    let isIn = asked t turn in
+    let start = turn .before .before .before .before .before in
     let D = asking (start .args .starts .now) (start .args .facts .now) (start .args .asked) in
     let rest = c .without .result in (
       within-rest (start .args .s .unplaced) (at .left) t′ rest (at .inv .0) isIn (c .without .ensures),
-      passed-one (Missed D (start .args .s) (c .before .before .before .before .before .before .before .settle .result)) t′ (at .left) rest isIn (c .without .ensures)
+      passed-one (Missed D (start .args .s) (turn .before .before .before .before .settle .result)) t′ (at .left) rest isIn (c .without .ensures)
           (λ u p l a. clash (c .before .before .leads .ensures u p l a) (c .before .if2 .left)) (at .inv .1),
     )
 

@@ -55,6 +55,12 @@ settle-Inv-loop facts need ready left₀ left =
 abbrev settle-μ-loop : settle-lts.MeasureT-loop
 settle-μ-loop facts need ready left₀ left = left
 
+-- the transaction of a turn is one of those left
+asked : (t : ℕ) (a : settle-lts.After-lowest (claims t) (settle-at t) settle.Post settle-Inv-loop settle-μ-loop) → bitAt (a .lowest .result) (a .before .before .loop .left) ≡ 1
+asked t a =
+    let at = a .before .before .loop in
+    lowest-member _ (at .left) (omega (arith, at .inv .0 .few, a .before .before .before .fits .need .fits)) (a .before .loop-test .taken) (a .lowest .ensures)
+
 settle-loop-holds : (t : ℕ) → settle-lts.Need-loop-holds (claims t) (settle-at t) settle.Post settle-Inv-loop settle-μ-loop
 settle-loop-holds t c =
     let a = c .args in
@@ -69,7 +75,7 @@ settle-other-than-requires t c κs =
     let start = c .before .before .before in
     let at = c .before .before .loop in
     let t′ = c .lowest .result in
-    let isIn = lowest-member t′ (at .left) (omega (arith, at .inv .0 .few, start .fits .need .fits)) (c .before .loop-test .taken) (c .lowest .ensures) in
+    let isIn = asked t c in
     member-lt t′ (start .args .ready) 10 (at .inv .1 .isIn t′ isIn) (start .pre .1)
 
 settle-without-requires : (t : ℕ) → settle-lts.Need-without-requires (claims t) (settle-at t) settle.Post settle-Inv-loop settle-μ-loop
@@ -77,7 +83,7 @@ settle-without-requires t c κs =
     let start = c .before .before .before .before .before in
     let at = c .before .before .before .before .loop in
     let t′ = c .before .before .lowest .result in
-    let isIn = lowest-member t′ (at .left) (omega (arith, at .inv .0 .few, start .fits .need .fits)) (c .before .before .before .loop-test .taken) (c .before .before .lowest .ensures) in
+    let isIn = asked t (c .before .before) in
     at .inv .0 .isIn t′ isIn
 
 settle-settle-requires : (t : ℕ) → settle-lts.Need-settle-requires (claims t) (settle-at t) settle.Post settle-Inv-loop settle-μ-loop
@@ -85,7 +91,7 @@ settle-settle-requires t c κs =
     let start = c .before .before .before .before .before .before in
     let at = c .before .before .before .before .before .loop in
     let t′ = c .before .before .before .lowest .result in
-    let isIn = lowest-member t′ (at .left) (omega (arith, at .inv .0 .few, start .fits .need .fits)) (c .before .before .before .before .loop-test .taken) (c .before .before .before .lowest .ensures) in
+    let isIn = asked t (c .before .before .before) in
     let less = member-le t′ (start .args .need) (at .inv .0 .isIn t′ isIn) in
     let positive = pow-pos t′ in
     (subst (λ (n : ℕ). c .without .result < n) (start .pre .0) (omega (arith, c .without .ensures)), start .pre .1)
@@ -95,7 +101,7 @@ settle-returns t c =
     let start = c .before .before .before .before .before .before .before in
     let at = c .before .before .before .before .before .before .loop in
     let t′ = c .before .before .before .before .lowest .result in
-    let isIn = lowest-member t′ (at .left) (omega (arith, at .inv .0 .few, start .fits .need .fits)) (c .before .before .before .before .before .loop-test .taken) (c .before .before .before .before .lowest .ensures) in
+    let isIn = asked t (c .before .before .before .before) in
     let need = start .args .need in
     let one = within-rest need need t′ (c .before .without .result) (within-self need) (at .inv .0 .isIn t′ isIn) (c .before .without .ensures) in
     record { within = within-trans need (c .before .without .result) (c .settle .result) one (c .settle .ensures .within); stuck = c .settle .ensures .stuck }
@@ -105,7 +111,7 @@ settle-without-requires-2 t c κs =
     let start = c .before .before .before .before .before in
     let at = c .before .before .before .before .loop in
     let t′ = c .before .before .lowest .result in
-    let isIn = lowest-member t′ (at .left) (omega (arith, at .inv .0 .few, start .fits .need .fits)) (c .before .before .before .loop-test .taken) (c .before .before .lowest .ensures) in
+    let isIn = asked t (c .before .before) in
     isIn
 
 settle-loop-less : (t : ℕ) → settle-lts.Need-loop-less (claims t) (settle-at t) settle.Post settle-Inv-loop settle-μ-loop
@@ -113,7 +119,7 @@ settle-loop-less t c =
     let start = c .before .before .before .before .before .before in
     let at = c .before .before .before .before .before .loop in
     let t′ = c .before .before .before .lowest .result in
-    let isIn = lowest-member t′ (at .left) (omega (arith, at .inv .0 .few, start .fits .need .fits)) (c .before .before .before .before .loop-test .taken) (c .before .before .before .lowest .ensures) in
+    let isIn = asked t (c .before .before .before) in
     let less = member-le t′ (at .left) isIn in
     let positive = pow-pos t′ in
     omega (arith, c .without2 .ensures)
@@ -123,7 +129,7 @@ settle-loop-again t c =
     let start = c .before .before .before .before .before .before in
     let at = c .before .before .before .before .before .loop in
     let t′ = c .before .before .before .lowest .result in
-    let isIn = lowest-member t′ (at .left) (omega (arith, at .inv .0 .few, start .fits .need .fits)) (c .before .before .before .before .loop-test .taken) (c .before .before .before .lowest .ensures) in
+    let isIn = asked t (c .before .before .before) in
     let rest = c .without2 .result in
     let e = c .without2 .ensures in (
       within-rest (start .args .need) (at .left) t′ rest (at .inv .0) isIn e,

@@ -3,10 +3,11 @@
 use mathlib.Core.Path.{_≡_}
 use mathlib.Core.Bool.{true≢false}
 use native.Mathlib.Omega.{arith}
-use lib.Bits.{xor-lt}
+use lib.Bits.{bitXor, and-le-l, xor-lt}
+use Rattle.places.specs.Facts.{afterOf}
 use Rattle.places.specs.Tree.{Constraints, asking}
 use Rattle.places.proofs.BitLaws.{xor-member}
-use Rattle.pruning.proofs.HopeLaws.{hopeless}
+use Rattle.pruning.proofs.HopeLaws.{needs-of, hopeless}
 use Rattle.pruning.proofs.OrphanLaws.{orphaned-none}
 use borrow.Author.Needs.{needs}
 use Rattle.pruning.proofs.hope.hopeful.Statement.{statement}
@@ -37,29 +38,39 @@ returns-3 c = λ e. absurd (true≢false e)
 ready-among-requires : tie.Need-ready-among-requires
 ready-among-requires c κs = search needs
 
+before-end-requires : tie.Need-before-end-requires
+before-end-requires c κs = search needs
+
 bereft-requires : tie.Need-bereft-requires
 bereft-requires c κs =
-    let start = entered (c .before) in
-    let ready = c .before .ready-among in
-    let few = start .pre .0 .few in
-    (start .pre .0, xor-lt 10 (start .args .s .unplaced) (ready .result) few (omega (arith, ready .ensures .within .few)))
+    let r = c .before .before in
+    let start = entered r in
+    let u = start .args .s .unplaced in
+    let low = xor-lt 10 u (r .ready-among .result) (start .pre .0 .few) (omega (arith, r .ready-among .ensures .within .few, start .pre .0 .few)) in
+    (start .pre .0, omega (arith, c .before-end .ensures, and-le-l (bitXor u (r .ready-among .result)) (afterOf (start .args .facts .now) 10), low))
 
--- one that is not ready is unplaced, and a candidate
+-- one that is not ready is unplaced
 returns-4 : tie.Need-returns-4
 returns-4 c =
-    let r = c .before .before .before in
+    let r = c .before .before .before .before in
     let a = entered r .args in
     λ e. orphaned-none (told r) (a .s) (a .candidates) _ (entered r .pre .0) (all r)
-    (λ k h. rw (all r) (xor-member k (a .s .unplaced) (r .ready-among .result) (r .ready-among .ensures .within .isIn k) h)) (c .before .bereft .ensures (c .if4 .taken))
+    (needs-of (told r) (a .s) _ _ (c .before .before .before-end .ensures) (λ k h. xor-member k (a .s .unplaced) (r .ready-among .result) (r .ready-among .ensures .within .isIn k) h))
+    (c .before .bereft .ensures (c .if4 .taken))
+
+before-end-requires-2 : tie.Need-before-end-requires-2
+before-end-requires-2 c κs = search needs
 
 possible-requires : tie.Need-possible-requires
 possible-requires c κs = search needs
 
 returns-5 : tie.Need-returns-5
 returns-5 c =
-    let r = c .before .before .before .before in
+    let r = c .before .before .before .before .before .before in
     let a = entered r .args in
-    hopeless (told r) (a .s) (a .candidates) (c .possible .result) (entered r .pre .0) (all r) (c .possible .ensures)
+    hopeless (told r) (a .s) (a .candidates) _ (c .possible .result) (entered r .pre .0) (all r)
+    (needs-of (told r) (a .s) (a .candidates) _ (c .before .before-end2 .ensures) (λ k h. rw (all r) at h))
+    (c .possible .ensures)
 
 pub hopeful-spec : {M : Type 1} → statement M
 hopeful-spec =
@@ -70,7 +81,9 @@ hopeful-spec =
     count-requires
     returns-3
     ready-among-requires
+    before-end-requires
     bereft-requires
     returns-4
+    before-end-requires-2
     possible-requires
     returns-5)

@@ -23,7 +23,11 @@ index-2-if1 c = search needs
 
 returns : tie.Need-returns
 unfolding otherThan
-returns c = let start = c .before .before in let set = afterOf (start .args .facts .now) (start .args .t) in let some : noneIn set (members (start .args .need)) ≡ false = none-in-members set (start .args .need) (start .fits .need .fits) ∙ ne-eqb _ _ (c .if1 .taken) in simp some
+returns c =
+    let start = c .before .before in
+    let set = afterOf (start .args .facts .now) (start .args .t) in
+    let some : noneIn set (members (start .args .need)) ≡ false = none-in-members set (start .args .need) (start .fits .need .fits) ∙ ne-eqb _ _ (c .if1 .taken) in
+    simp some
 
 mul-result : tie.Need-mul-result
 mul-result c = search needs
@@ -36,7 +40,11 @@ index-2-result c = search needs
 
 returns-2 : tie.Need-returns-2
 unfolding otherThan
-returns-2 c = let start = c .before .before .before in let set = afterOf (start .args .facts .now) (start .args .t) in let none : noneIn set (members (start .args .need)) ≡ true = none-in-members set (start .args .need) (start .fits .need .fits) ∙ eq-eqb _ _ (c .before .if1 .left) in simp none
+returns-2 c =
+    let start = c .before .before .before in
+    let set = afterOf (start .args .facts .now) (start .args .t) in
+    let none : noneIn set (members (start .args .need)) ≡ true = none-in-members set (start .args .need) (start .fits .need .fits) ∙ eq-eqb _ _ (c .before .if1 .left) in
+    simp none
 
 pub other-than-spec : {M : Type 1} → statement M
 other-than-spec =

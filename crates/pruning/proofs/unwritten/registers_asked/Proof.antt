@@ -37,7 +37,16 @@ loop-less c = omega arith
 
 loop-again : tie.Need-loop-again Inv-loop μ-loop
 unfolding codesOf
-loop-again c = let at = c .before .before .before .loop in let any = c .before .before .before .before .written-by-any in let start = c .before .before .before .before .before in let a = start .args in (omega arith, below-more _ (at .t) (at .inv .1) (asked-same (a .starts .now) (a .facts .now) (any .result) (at .t) (no-other (a .facts .now) (a .writes .now) (any .result) (start .pre) (any .ensures)) (omega arith) (sym (c .before .legal-reads .ensures) ∙ not-false _ (c .if1 .left))))
+loop-again c =
+    let at = c .before .before .before .loop in
+    let any = c .before .before .before .before .written-by-any in
+    let start = c .before .before .before .before .before in
+    let a = start .args in (
+      omega arith,
+      below-more _ (at .t) (at .inv .1)
+          (asked-same (a .starts .now) (a .facts .now) (any .result) (at .t) (no-other (a .facts .now) (a .writes .now) (any .result) (start .pre) (any .ensures)) (omega arith)
+          (sym (c .before .legal-reads .ensures) ∙ not-false _ (c .if1 .left))),
+    )
 
 returns-2 : tie.Need-returns-2 Inv-loop μ-loop
 returns-2 c = let at = c .before .loop in record { same = λ k p l g. at .inv .1 k (omega arith) p g }
