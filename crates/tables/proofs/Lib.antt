@@ -9,5 +9,6 @@ pub mod TreeLink
 pub mod FitsLink
 pub mod Link
 pub mod GoodHistory
+pub mod EndMeaning
 pub mod CallLaws
 pub mod JudgedLaws

@@ -21,9 +21,11 @@ use Rattle.opacity.specs.Lowest.{fits, lowestOf}
 use Rattle.lists.proofs.ListLaws.{and-false-l, and-false-r, imp-e, clash, every-i}
 use Rattle.opacity.proofs.Least.{none-iff}
 use Rattle.places.specs.Bits.{bitAt}
+use Rattle.places.specs.Facts.{fact}
 use Rattle.places.specs.Places.{decode}
-use Rattle.places.specs.Tree.{Completion, upFrom, firstCompletion}
+use Rattle.places.specs.Tree.{Completion, upFrom, firstWhole}
 use Rattle.places.proofs.BitLaws.{bit-none, lowest-in}
+use Rattle.search.proofs.EndLaws.{reads-none}
 use Rattle.log.specs.Starts.{startOf}
 use Rattle.tables.specs.Tables.{Tables, tablesOf}
 use Rattle.tables.specs.Order.{decoded, constraintsOf, foundOrder, Judged}
@@ -31,6 +33,7 @@ use Rattle.tables.proofs.Meaning.{Good}
 use Rattle.tables.proofs.ReadMeaning.{Reads, Bad, wrong, apart, reads-hold}
 use Rattle.opacity.proofs.Bounds.{transaction-known}
 use Rattle.tables.proofs.GoodHistory.{good}
+use Rattle.tables.proofs.EndMeaning.{end-reads}
 use Rattle.tables.proofs.TreeLink.{state-start, trees}
 use Rattle.tables.proofs.FitsLink.{agree}
 
@@ -51,6 +54,10 @@ module _ (o : List ℕ) (h : List Event) (good : Good h) (begun : (i : ℕ) → 
   reads : Reads h (length h) (tablesOf h .facts) (tablesOf h .contradictory)
   reads = rw (take-all (length h) h (le-refl (length h))) at (reads-hold h good (length h) (le-refl (length h)))
 
+  -- the end reads nothing
+  end : fact (tablesOf h .facts) 10 2 ≡ 0
+  end = rw (take-all (length h) h (le-refl (length h))) at (end-reads h good (length h) (le-refl (length h)))
+
   -- a read that is wrong everywhere
   none-justifies : (x : ℕ) → Bad h (length h) x → (K : List Place) → Justified (startOf o) h K → ⊥
   unfolding legal legalOver
@@ -60,20 +67,20 @@ module _ (o : List ℕ) (h : List Event) (good : Good h) (begun : (i : ℕ) → 
       let b : eventAt h k .value ≡ contents (startOf o) h (before (eventAt h k .transaction) K) (eventAt h k .register) = eqb-true _ _ (imp-e _ _ (j .store k lk) sk) in
       d (a ∙ ap₂ (λ (x y : ℕ). contents (startOf o) h (before x K) y) (ti ∙ sym tk) r ∙ sym b)
 
-  completes : tablesOf h .contradictory ≡ 0 → decoded (firstCompletion (constraintsOf o (tablesOf h)) (begins h)) ≡ lowestOf (startOf o) h
-  unfolding firstCompletion lowestOf decode
+  completes : tablesOf h .contradictory ≡ 0 → decoded (firstWhole (constraintsOf o (tablesOf h)) (begins h)) ≡ lowestOf (startOf o) h
+  unfolding firstWhole lowestOf decode
   completes q =
       let own : every (ownRight h) (length h) ≡ true = every-i _ _ (λ i l. reads .own i l (ap (bitAt _) q ∙ bit-none _)) in
       rw own
       (trees (constraintsOf o (tablesOf h)) (fits (startOf o) h) (begins h)
       (λ p u s t l f c. agree o h good few p u s t l q f c)
-      (not-fresh (startOf o) h) (begins h) [] (upFrom 0 (begins h)) (state-start (begins h)))
+      (not-fresh (startOf o) h) (reads-none (constraintsOf o (tablesOf h)) 10 end) (begins h) [] (upFrom 0 (begins h)) (state-start (begins h)))
 
   pub found-lowest : foundOrder o h ≡ lowestOf (startOf o) h
   unfolding foundOrder
   found-lowest = go (eqb (tablesOf h .contradictory) 0) refl
     where
-      go : (b : Bool) → eqb (tablesOf h .contradictory) 0 ≡ b → cond b (decoded (firstCompletion (constraintsOf o (tablesOf h)) (begins h))) none ≡ lowestOf (startOf o) h
+      go : (b : Bool) → eqb (tablesOf h .contradictory) 0 ≡ b → cond b (decoded (firstWhole (constraintsOf o (tablesOf h)) (begins h))) none ≡ lowestOf (startOf o) h
       go true q = completes (eqb-true _ _ q)
       go false q =
           let w = some-member (tablesOf h .contradictory) (eqb-false _ _ q) in
@@ -81,11 +88,11 @@ module _ (o : List ℕ) (h : List Event) (good : Good h) (begun : (i : ℕ) → 
 
 -- what the functions answer, one after the other
 pub found-by : (o : List ℕ) (h : List Event) (a : Completion) (s : Tables) (m : ℕ) → Judged h → s ≡ tablesOf h → m ≡ begins h
-    → a ≡ cond (eqb (s .contradictory) 0) (firstCompletion (constraintsOf o s) m) none → decoded a ≡ lowestOf (startOf o) h
+    → a ≡ cond (eqb (s .contradictory) 0) (firstWhole (constraintsOf o s) m) none → decoded a ≡ lowestOf (startOf o) h
 unfolding foundOrder
 found-by o h a s m j e f g =
-    ap decoded g ∙ through (eqb (s .contradictory) 0) (firstCompletion (constraintsOf o s) m)
-    ∙ ap₂ (λ (x : Tables) (k : ℕ). cond (eqb (x .contradictory) 0) (decoded (firstCompletion (constraintsOf o x) k)) none) e f
+    ap decoded g ∙ through (eqb (s .contradictory) 0) (firstWhole (constraintsOf o s) m)
+    ∙ ap₂ (λ (x : Tables) (k : ℕ). cond (eqb (x .contradictory) 0) (decoded (firstWhole (constraintsOf o x) k)) none) e f
     ∙ found-lowest o h (good h (j .readable) (j .few)) (transaction-known h (j .readable)) (j .few)
   where
     through : (b : Bool) (x : Completion) → decoded (cond b x none) ≡ cond b (decoded x) none

@@ -173,11 +173,11 @@ module _ (h : List Event) (good : Good h) where
   ended-holds (suc n) l x = rw (tab-suc n l, take-suc h n noEvent l) (ended-step (tab n) (take n h) (eventAt h n) x (ended-holds n (le-of-lt l) x))
 
   module _ (s : Tables) (fit : Shaped (s .facts)) (past : List Event) (e : Event) (its : Tabled e) (t : ℕ) where
-    after-step : (x : ℕ) → bitAt x (s .ended) ≡ digit (ended x past) → bitAt x (fact (s .facts) t 0) ≡ digit (precedes past x t)
+    after-step : t < 10 → (x : ℕ) → bitAt x (s .ended) ≡ digit (ended x past) → bitAt x (fact (s .facts) t 0) ≡ digit (precedes past x t)
         → bitAt x (fact (next s e .facts) t 0) ≡ digit (precedes (past ++ (e ∷ [])) x t)
     unfolding next by
-    after-step x q p =
-        ap (bitAt x) (after-next (s .ended) (s .facts) fit e its t) ∙ go (eqb (e .transaction) t and isBegin e) ∙ ap digit (sym (precedes-snoc past e x t))
+    after-step l x q p =
+        ap (bitAt x) (after-next (s .ended) (s .facts) fit e its t l) ∙ go (eqb (e .transaction) t and isBegin e) ∙ ap digit (sym (precedes-snoc past e x t))
       where
         go : (c : Bool) → bitAt x (cond c (s .ended) (fact (s .facts) t 0)) ≡ digit (precedes past x t or (ended x past and c))
         go true = q ∙ ends (precedes past x t) (ended x past) (precedes-ended past x t)
@@ -227,7 +227,7 @@ module _ (h : List Event) (good : Good h) where
   after-holds zero l t x k = after-zero t x k
   after-holds (suc n) l t x k =
       rw (tab-suc n l, take-suc h n noEvent l)
-      (after-step (tab n) (shaped n (le-of-lt l)) (take n h) (eventAt h n) (has-room n l) t x (ended-holds n (le-of-lt l) x) (after-holds n (le-of-lt l) t x k))
+      (after-step (tab n) (shaped n (le-of-lt l)) (take n h) (eventAt h n) (has-room n l) t k x (ended-holds n (le-of-lt l) x) (after-holds n (le-of-lt l) t x k))
 
   -- ---- the last writes
 

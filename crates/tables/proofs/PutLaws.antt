@@ -8,14 +8,14 @@ use mathlib.Core.Bool.{Bool, true, false, cond}
 use mathlib.Core.List.{List, []}
 use lib.Dec.{eqb}
 use lib.Bits.{bitOr}
-use borrow.Author.Tests.{eqb-true, eqb-false}
+use borrow.Author.Tests.{eqb-true, eqb-false, ne-eqb}
 use Rattle.lists.specs.Lists.{_and_}
 use Rattle.lists.proofs.ListLaws.{and-false-r}
 use Rattle.events.specs.declared.event.Event.{Event}
 use Rattle.events.specs.Events.{isBegin, isWrite}
 use Rattle.places.specs.Facts.{fact, put, Shaped}
 use Rattle.places.proofs.FactLaws.{put-shaped, put-here, put-elsewhere, put-others}
-use Rattle.tables.specs.Tables.{Tabled, putIf, readsStore, readWith, writtenWith, afterWith, ruleWith, factsWith}
+use Rattle.tables.specs.Tables.{Tabled, putIf, joined, readsStore, readWith, writtenWith, endWith, afterWith, ruleWith, factsWith}
 
 pub and-true : (b : Bool) → (b and true) ≡ b
 unfolding _and_
@@ -83,8 +83,11 @@ module _ (ended : ℕ) (f : List (List ℕ)) (h : Shaped f) (e : Event) (its : T
   written-shaped : Shaped (writtenWith (readWith f e) e)
   written-shaped = put-if-shaped _ (readWith f e) read-shaped (e .transaction) (35 + e .register) _ low
 
+  end-shaped : Shaped (endWith (writtenWith (readWith f e) e) e)
+  end-shaped = put-if-shaped _ (writtenWith (readWith f e) e) written-shaped 10 0 _ (omega arith)
+
   begun-shaped : Shaped (afterWith ended (writtenWith (readWith f e) e) e)
-  begun-shaped = put-if-shaped _ (writtenWith (readWith f e) e) written-shaped (e .transaction) 0 ended low
+  begun-shaped = put-if-shaped _ (endWith (writtenWith (readWith f e) e) e) end-shaped (e .transaction) 0 ended low
 
   pub shaped-next : Shaped (factsWith ended f e)
   shaped-next = put-if-shaped true _ begun-shaped (e .transaction) 1 _ low
@@ -100,18 +103,25 @@ module _ (ended : ℕ) (f : List (List ℕ)) (h : Shaped f) (e : Event) (its : T
     past-write n = put-if-off _ (readWith f e) read-shaped (e .transaction) (35 + e .register) _ low u j n
 
     past-begin : j ≢ 0 → fact (afterWith ended (writtenWith (readWith f e) e) e) u j ≡ fact (writtenWith (readWith f e) e) u j
-    past-begin n = put-if-off _ (writtenWith (readWith f e) e) written-shaped (e .transaction) 0 ended low u j n
+    past-begin n =
+        put-if-off _ (endWith (writtenWith (readWith f e) e) e) end-shaped (e .transaction) 0 ended low u j n
+        ∙ put-if-off _ (writtenWith (readWith f e) e) written-shaped 10 0 _ (omega arith) u j n
 
     past-outcome : j ≢ 1 → fact (factsWith ended f e) u j ≡ fact (afterWith ended (writtenWith (readWith f e) e) e) u j
     past-outcome n = put-if-off true _ begun-shaped (e .transaction) 1 _ low u j n
 
   module _ (u : ℕ) where
-    pub after-next : fact (factsWith ended f e) u 0 ≡ cond (eqb (e .transaction) u and isBegin e) ended (fact f u 0)
-    after-next =
+    after-before : fact (writtenWith (readWith f e) e) u 0 ≡ fact f u 0
+    after-before = past-write u 0 (λ n. omega arith) ∙ past-read u 0 (λ n. omega arith) ∙ past-mark u 0 (λ n. omega arith)
+
+    pub after-next : u < 10 → fact (factsWith ended f e) u 0 ≡ cond (eqb (e .transaction) u and isBegin e) ended (fact f u 0)
+    unfolding _and_
+    after-next l =
+        let other : eqb 10 u ≡ false = ne-eqb 10 u (λ n. omega arith) in
         past-outcome u 0 (λ n. omega arith)
-        ∙ put-if-at (isBegin e) (writtenWith (readWith f e) e) written-shaped (e .transaction) 0 ended low (omega arith) u
+        ∙ put-if-at (isBegin e) (endWith (writtenWith (readWith f e) e) e) end-shaped (e .transaction) 0 ended low (omega arith) u
         ∙ ap (cond (eqb (e .transaction) u and isBegin e) ended)
-        (past-write u 0 (λ n. omega arith) ∙ past-read u 0 (λ n. omega arith) ∙ past-mark u 0 (λ n. omega arith))
+        (put-if-at (isBegin e) (writtenWith (readWith f e) e) written-shaped 10 0 _ (omega arith) (omega arith) u ∙ (rw other after-before))
 
     rule-before : (w : ℕ) → fact (afterWith ended (writtenWith (readWith f e) e) e) w 1 ≡ fact f w 1
     rule-before w =
@@ -148,3 +158,18 @@ module _ (ended : ℕ) (f : List (List ℕ)) (h : Shaped f) (e : Event) (its : T
           ∙ put-if-register (isWrite e) (readWith f e) read-shaped (e .transaction) 35 (e .register) (e .value + 1) low (omega (arith, its .register)) u q
           ∙ ap (cond ((eqb (e .transaction) u and isWrite e) and eqb (e .register) q) (e .value + 1))
           (past-read u (35 + q) (λ n. omega (arith, its .register)) ∙ past-mark u (35 + q) (λ n. omega arith))
+
+  -- the row of the end
+  not-end : eqb (e .transaction) 10 ≡ false
+  not-end = ne-eqb (e .transaction) 10 (λ n. omega (arith, its .transaction))
+
+  pub end-next : fact (factsWith ended f e) 10 0 ≡ joined (fact f 10 0) (isBegin e) (e .transaction)
+  unfolding _and_ joined
+  end-next =
+      past-outcome 10 0 (λ n. omega arith)
+      ∙ put-if-at (isBegin e) (endWith (writtenWith (readWith f e) e) e) end-shaped (e .transaction) 0 ended low (omega arith) 10
+      ∙ (rw (not-end, put-if-at (isBegin e) (writtenWith (readWith f e) e) written-shaped 10 0 (bitOr (fact (writtenWith (readWith f e) e) 10 0) (2 ^ e .transaction)) (omega arith) (omega arith) 10, after-before 10))
+
+  pub end-reads-next : fact (factsWith ended f e) 10 2 ≡ fact f 10 2
+  unfolding _and_
+  end-reads-next = reads-next 10 ∙ (rw not-end)

@@ -12,7 +12,7 @@ use Rattle.events.specs.declared.event.Event.{Event}
 use Rattle.events.specs.Events.{begins}
 use Rattle.opacity.specs.Justification.{Place}
 use Rattle.places.specs.Places.{decode}
-use Rattle.places.specs.Tree.{Constraints, constraints, Completion, firstCompletion, readAnswer}
+use Rattle.places.specs.Tree.{Constraints, constraints, Completion, firstWhole, readAnswer}
 use Rattle.tables.specs.Tables.{Tables, tablesOf}
 
 -- a completion as an order of places
@@ -24,7 +24,7 @@ abbrev pub constraintsOf : List ℕ → Tables → Constraints
 constraintsOf o s = constraints o (s .facts)
 
 unfoldable pub foundOrder : List ℕ → List Event → Option (List Place)
-foundOrder o h = cond (eqb (tablesOf h .contradictory) 0) (decoded (firstCompletion (constraintsOf o (tablesOf h)) (begins h))) none
+foundOrder o h = cond (eqb (tablesOf h .contradictory) 0) (decoded (firstWhole (constraintsOf o (tablesOf h)) (begins h))) none
 
 -- what is judged: a readable history of at most ten transactions
 pub record Judged (h : List Event) : Type 0 where

@@ -40,7 +40,9 @@ clashes old v = not (eqb old 0) and not (eqb old v)
 -- there returned; 0 if they say nothing
 unfoldable pub expected : List (List ℕ) → Event → ℕ
 expected f e =
-    cond (eqb (writtenOf f (e .transaction) (e .register)) 0) (requiredOf f (e .transaction) (e .register)) (writtenOf f (e .transaction) (e .register))
+    cond (eqb (writtenOf f (e .transaction) (e .register)) 0)
+    (requiredOf f (e .transaction) (e .register))
+    (writtenOf f (e .transaction) (e .register))
 
 -- a read is wrong wherever its transaction is placed: it returns another value than its own write, or than a store read of the register
 -- before it
@@ -64,9 +66,12 @@ readWith f e =
 abbrev pub writtenWith : List (List ℕ) → Event → List (List ℕ)
 writtenWith f e = putIf (isWrite e) f (e .transaction) (35 + e .register) (e .value + 1)
 
--- those that have ended come before one that begins
+-- those that have ended come before one that begins, and that comes before the end
+abbrev pub endWith : List (List ℕ) → Event → List (List ℕ)
+endWith f e = putIf (isBegin e) f 10 0 (bitOr (fact f 10 0) (2 ^ e .transaction))
+
 abbrev pub afterWith : ℕ → List (List ℕ) → Event → List (List ℕ)
-afterWith ended f e = putIf (isBegin e) f (e .transaction) 0 ended
+afterWith ended f e = putIf (isBegin e) (endWith f e) (e .transaction) 0 ended
 
 -- the outcome is the recorded one, and free after a commit called and unanswered
 unfoldable pub ruleWith : ℕ → Event → ℕ

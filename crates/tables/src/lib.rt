@@ -8,7 +8,7 @@ ghost use lib.ListN.{replicate};
 ghost use Rattle.log.specs.Rows.{logged};
 ghost use Rattle.log.specs.Starts.{startOf};
 ghost use Rattle.opacity.specs.Lowest.{lowestOf};
-ghost use Rattle.places.specs.Tree.{firstCompletion, Answers};
+ghost use Rattle.places.specs.Tree.{firstWhole, Answers, EndAsks};
 ghost use Rattle.tables.specs.Order.{constraintsOf, Judged, orderOf};
 ghost use Rattle.tables.specs.Tables.{tablesBy, Tabled, clashes, expected, contradicts, readsStore, joined, next, empty};
 ghost use Rattle.tables.specs.Tables.{afterWith, ruleWith, allowedWith, readWith, writtenWith};
@@ -28,6 +28,7 @@ use places::facts::AFTER;
 use places::facts::ALLOWED;
 use places::facts::COMMITTED;
 use places::facts::EITHER;
+use places::facts::END;
 use places::facts::Facts;
 use places::facts::READS;
 use places::facts::REQUIRED;
@@ -132,14 +133,17 @@ fn note_write(facts: &mut [Facts; 11], e: Event)
     }
 }
 
-// Those that have ended come before one that begins.
+// Those that have ended come before one that begins, and that comes before the end.
 fn note_begin(facts: &mut [Facts; 11], ended: u64, e: Event)
     requires { ⌜ Tabled e ⌝ }
     ensures { λ _. ⌜ now (facts .exit) ≡ afterWith ended (now (facts .entry)) e ⌝ }
 {
-    if is_begin(e) {
-        facts[e.transaction as usize][AFTER] = ended;
+    if !is_begin(e) {
+        return;
     }
+    let t = e.transaction as usize;
+    facts[END][AFTER] = sets::with(facts[END][AFTER], t);
+    facts[t][AFTER] = ended;
 }
 
 // The rule of an outcome with one event more: the outcome is the recorded one, and free after a commit called and unanswered.
@@ -195,12 +199,13 @@ pub fn no_events() -> Standing
     }
 }
 
-// The first completion that the facts of so many transactions allow, as the search answers it.
+// The first completion that the facts of so many transactions allow, all of them before the end, as the search answers it.
 pub fn complete(starts: &[u32; 32], s: Standing, facts: &[Facts; 11], transactions: usize) -> u64
     requires { ⌜ transactions ≤ 10 ⌝ }
+    requires { ⌜ EndAsks (now facts) transactions ⌝ }
     ensures { λ r. ⌜
         Answers transactions r (cond (eqb (s .contradictory) 0)
-        (firstCompletion (constraintsOf (now (starts .entry)) (tablesBy s (now (facts .entry)))) transactions) none) ⌝ }
+        (firstWhole (constraintsOf (now (starts .entry)) (tablesBy s (now (facts .entry)))) transactions) none) ⌝ }
 {
     if s.contradictory != 0 {
         return 0;

@@ -14,6 +14,7 @@ use Rattle.tables.specs.Order.{decoded}
 use Rattle.tables.specs.Tables.{Tables, tablesBy, tablesOf, goThrough}
 use Rattle.tables.proofs.TableLaws.{tables-more}
 use Rattle.tables.proofs.GoodHistory.{tabled}
+use Rattle.tables.proofs.EndMeaning.{asks-by}
 use Rattle.tables.proofs.Link.{found-by}
 use Rattle.tables.proofs.find_order.Statement.{statement}
 use Rattle.tables.proofs.find_order.Tie as tie
@@ -30,6 +31,9 @@ given s = logged (s .args .log .now)
 
 abbrev tabled-at : tie.At-loop Inv-loop μ-loop → Tables
 tabled-at l = tablesBy (l .loop .s) (l .loop .facts)
+
+abbrev last-turn : tie.After-transactions-begun Inv-loop μ-loop → tie.At-loop Inv-loop μ-loop
+last-turn a = a .before .before .before
 
 -- an event of the log is one of the history
 inside : (a : tie.After-event-at Inv-loop μ-loop) → a .before .before .loop .i < length (given (a .before .before .before .before))
@@ -67,19 +71,26 @@ loop-again c =
 transactions-begun-requires : tie.Need-transactions-begun-requires Inv-loop μ-loop
 transactions-begun-requires c κs = search needs
 
+-- where the begins are counted all events are passed: the tables are those of the history
+whole : (a : tie.After-transactions-begun Inv-loop μ-loop) → tabled-at (last-turn a) ≡ tablesOf (given (last-turn a .before .before))
+whole a =
+    let l = last-turn a in
+    let s = l .before .before in
+    l .loop .inv .1 ∙ ap tablesOf (take-all (l .loop .i) (given s) (omega (arith, a .before .before .loop-test .left, logged-length (s .args .log .now))))
+
 complete-requires : tie.Need-complete-requires Inv-loop μ-loop
-complete-requires c κs = search needs
+complete-requires c κs =
+    let s = last-turn c .before .before in
+    let count = c .transactions-begun .ensures in
+    (omega (arith, s .pre .few), asks-by (given s) (tabled-at (last-turn c)) _ (s .pre) (whole c) count)
 
 returns : tie.Need-returns Inv-loop μ-loop
 returns c =
     let counted = c .before in
-    let l = counted .before .before .before in
-    let start = l .before .before in
-    let h = given start in
-    let all : take (l .loop .i) h ≡ h = take-all (l .loop .i) h (omega (arith, counted .before .before .loop-test .left, logged-length (start .args .log .now))) in
+    let start = last-turn counted .before .before in
     let count = counted .transactions-begun .ensures in
     ap (λ (k : ℕ). decoded (readAnswer k (c .complete .result))) (sym count)
-    ∙ found-by (start .args .starts .now) h _ _ _ (start .pre) (l .loop .inv .1 ∙ ap tablesOf all) count (c .complete .ensures .completion)
+    ∙ found-by (start .args .starts .now) (given start) _ _ _ (start .pre) (whole counted) count (c .complete .ensures .completion)
 
 pub find-order-spec : {M : Type 1} → statement M
 find-order-spec =
