@@ -25,10 +25,11 @@ use Rattle.opacity.proofs.Bounds.{transaction-known}
 use Rattle.opacity.proofs.Least.{lowest-justifies, lowest-least}
 use Rattle.opacity.proofs.Opacity.{empty-justified}
 use Rattle.places.specs.Places.{codesOf, decode}
-use Rattle.places.specs.Tree.{firstCompletion, readAnswer}
+use Rattle.places.specs.Tree.{EndAsks, firstWhole, readAnswer}
 use Rattle.tables.specs.Tables.{Tables, empty, goThrough, next, tablesOf}
 use Rattle.tables.specs.Order.{constraintsOf, decoded, Judged}
 use Rattle.tables.proofs.TableLaws.{tables-more}
+use Rattle.tables.proofs.EndMeaning.{asks-by}
 use Rattle.tables.proofs.Link.{found-by}
 use Rattle.tables.proofs.JudgedLaws.{judged-prefix}
 use Rattle.scan.specs.Witness.{kept, Carryable, Judges}
@@ -84,12 +85,15 @@ module _ (o : List ℕ) (h : List Event) where
       pub few-begun : begun′ ≤ 10
       few-begun = let q = next-judged .few in omega (arith, its-count)
 
+      pub end-asked : EndAsks (s′ .facts) begun′
+      end-asked = asks-by (take (i + 1) h) s′ begun′ next-judged its-tables its-count
+
       -- the prefix that ends with event i
       whole : take (suc i) h ≡ take (i + 1) h
       whole = ap (λ (k : ℕ). take k h) (sym (add-one i))
 
-      module _ (kept-order a : ℕ) (keeps : kept-order ≡ kept o (s .written) begun order e)
-          (judges : Judges kept-order begun′ a (cond (s′ .contradictory) none (firstCompletion (constraintsOf o s′) begun′))) where
+      module _ (kept-order a : ℕ) (keeps : kept-order ≡ kept o (s .facts) begun order e)
+          (judges : Judges kept-order begun′ a (cond (eqb (s′ .contradictory) 0) (firstWhole (constraintsOf o s′) begun′) none)) where
         -- searched anew
         found : kept-order ≡ 0 → decoded (readAnswer begun′ a) ≡ lowestOf (startOf o) (take (i + 1) h)
         found z = found-by o (take (i + 1) h) (readAnswer begun′ a) s′ begun′ next-judged its-tables its-count (judges .searched z .completion)
@@ -107,10 +111,10 @@ module _ (o : List ℕ) (h : List Event) where
               | yes x ↦ let z : kept-order ≡ 0 = omega arith in (found-justifies z f, judges .searched z .room)
               | no x ↦
                   let g : kept-order ≡ 0 → ⊥ = λ z. x (omega arith) in
-                  let w : s .written ≡ tablesOf (take i h) .written = ap (λ (y : Tables). y .written) (p .tables) in
+                  let w : s .facts ≡ tablesOf (take i h) .facts = ap (λ (y : Tables). y .facts) (p .tables) in
                   rw (judges .stays g) (
-                    carried-on o h j i l e same begun order (p .count) (p .room) (p .witness) (s .written) w kept-order keeps g begun′ counts,
-                    room-on o h j i l e same begun order (p .count) (p .room) (p .witness) (s .written) w kept-order keeps g begun′ counts,
+                    carried-on o h j i l e same begun order (p .count) (p .room) (p .witness) (s .facts) w kept-order keeps g begun′ counts,
+                    room-on o h j i l e same begun order (p .count) (p .room) (p .witness) (s .facts) w kept-order keeps g begun′ counts,
                   )
             ]
 

@@ -25,6 +25,7 @@ use Rattle.opacity.specs.Lowest.{place}
 use Rattle.opacity.specs.Carry.{seen, carries, carried}
 use Rattle.opacity.proofs.EventKinds.{begin-no-read}
 use Rattle.opacity.proofs.Carry.{carried-justified}
+use Rattle.places.specs.Facts.{writtenOf}
 use Rattle.places.specs.Places.{codesOf, decode, plus, writesIn}
 use Rattle.places.specs.Tree.{Completion, Answers}
 use Rattle.places.proofs.StateLaws.{one-more}
@@ -40,18 +41,18 @@ use Rattle.scan.specs.Witness.{carriedCode, kept, Carryable, Judges}
 
 -- ---- what a transaction reads
 
-module _ (start : ℕ → ℕ) (w : List ℕ) (J : List Place) (t r : ℕ) (low : r < 32) where
-  pub seen-own : (v : ℕ) → v ≡ getD w (t * 32 + r) 0 → (v ≡ 0 → ⊥) → v - 1 ≡ seen start (writesIn w) J t r
+module _ (start : ℕ → ℕ) (w : List (List ℕ)) (J : List Place) (t r : ℕ) where
+  pub seen-own : (v : ℕ) → v ≡ writtenOf w t r → (v ≡ 0 → ⊥) → v - 1 ≡ seen start (writesIn w) J t r
   unfolding seen
-  seen-own v e f = go (lastWrite (writesIn w) t r) (e ∙ sym (held t r low w))
+  seen-own v e f = go (lastWrite (writesIn w) t r) (e ∙ sym (held t r w))
     where
       go : (o : Option ℕ) → v ≡ plus o → v - 1 ≡ Option·getD o (contents start (writesIn w) (before t J) r)
       go none k = absurd (f k)
       go (some y) k = omega arith
 
-  pub seen-store : getD w (t * 32 + r) 0 ≡ 0 → contents start (writesIn w) (before t J) r ≡ seen start (writesIn w) J t r
+  pub seen-store : writtenOf w t r ≡ 0 → contents start (writesIn w) (before t J) r ≡ seen start (writesIn w) J t r
   unfolding seen
-  seen-store e = go (lastWrite (writesIn w) t r) (held t r low w ∙ e)
+  seen-store e = go (lastWrite (writesIn w) t r) (held t r w ∙ e)
     where
       go : (o : Option ℕ) → plus o ≡ 0 → contents start (writesIn w) (before t J) r ≡ Option·getD o (contents start (writesIn w) (before t J) r)
       go none k = refl
@@ -59,7 +60,7 @@ module _ (start : ℕ → ℕ) (w : List ℕ) (J : List Place) (t r : ℕ) (low 
 
 -- ---- what an event leaves of the witness
 
-module _ (starts w : List ℕ) (n order : ℕ) (e : Event) where
+module _ (starts : List ℕ) (w : List (List ℕ)) (n order : ℕ) (e : Event) where
   -- one that begins has not read or ended yet
   pub kept-begin : isBegin e ≡ true → order * 32 + e .transaction * 2 ≡ kept starts w n order e
   unfolding kept carries carriedCode
@@ -156,7 +157,7 @@ module _ (o : List ℕ) (h : List Event) (j : Judged h) (i : ℕ) (l : i < lengt
       its-own = rw (same, add-one i) (asking.begun h (j .readable) i l)
 
   -- the tables say of the transaction of event i what the events say
-  seen-same : (w : List ℕ) → w ≡ tablesOf (take i h) .written → (t r : ℕ) → t < 10 → r < 32 → seen (startOf o) (writesIn w) J t r ≡ seen (startOf o) (take i h) J t r
+  seen-same : (w : List (List ℕ)) → w ≡ tablesOf (take i h) .facts → (t r : ℕ) → t < 10 → r < 32 → seen (startOf o) (writesIn w) J t r ≡ seen (startOf o) (take i h) J t r
   unfolding seen
   seen-same w q t r lt lr =
       let g : Good (take i h) = good (take i h) (earlier .readable) (earlier .few) in
@@ -169,7 +170,7 @@ module _ (o : List ℕ) (h : List Event) (j : Judged h) (i : ℕ) (l : i < lengt
           (λ p k. lt-ltb (p .transaction) 10 (omega (arith, earlier .few, ltb-true (p .transaction) (begins (take i h)) k)))
           (unfold isOrder J in and-l _ _ (witness .order)))
 
-  module _ (w : List ℕ) (its : w ≡ tablesOf (take i h) .written) (k : ℕ) (keeps : k ≡ kept o w begun order e) (some : k ≡ 0 → ⊥) where
+  module _ (w : List (List ℕ)) (its : w ≡ tablesOf (take i h) .facts) (k : ℕ) (keeps : k ≡ kept o w begun order e) (some : k ≡ 0 → ⊥) where
     -- the order was kept
     was-kept : (carries (startOf o) (writesIn w) J e ≡ true) × (k ≡ carriedCode order e)
     unfolding kept J

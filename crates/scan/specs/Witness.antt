@@ -17,9 +17,9 @@ use Rattle.places.specs.Tree.{Completion, Answers}
 unfoldable pub carriedCode : ℕ → Event → ℕ
 carriedCode order e = cond (isBegin e) (order * 32 + e .transaction * 2) order
 
--- the order of n places with the event e, if it justifies e too, and else 0; `written` is the table of last writes
-unfoldable pub kept : List ℕ → List ℕ → ℕ → ℕ → Event → ℕ
-kept starts written n order e = cond (carries (startOf starts) (writesIn written) (decode (codesOf n order)) e) (carriedCode order e) 0
+-- the order of n places with the event e, if it justifies e too, and else 0; f is the table of facts
+unfoldable pub kept : List ℕ → List (List ℕ) → ℕ → ℕ → Event → ℕ
+kept starts f n order e = cond (carries (startOf starts) (writesIn f) (decode (codesOf n order)) e) (carriedCode order e) 0
 
 -- an order of n places and an event that may come next
 pub record Carryable (n order : ℕ) (e : Event) : Type 0 where

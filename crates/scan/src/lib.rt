@@ -74,37 +74,26 @@ fn faulted(event: usize, e: Event) -> Scanned
     }
 }
 
-// The prefixes of a log of at most ten transactions, by rising length: the tables grow by one event each time, and n counts the
+// The prefixes of a log of at most ten transactions, by rising length: the facts grow by one event each time, and n counts the
 // transactions begun. The order that justifies a prefix is kept for the next where it justifies that too; only where it does not is an
 // order searched for anew.
 fn scan_prefixes(starts: &[u32; 32], log: &[Row]) -> Scanned
     requires { ⌜ Judged (logged (now log)) ⌝ }
     ensures { λ r. ⌜ r ≡ scan (startOf (now (starts .entry))) (logged (now (log .entry))) ⌝ }
 {
-    let mut before = [0u64; 10];
-    let mut allowed = [0u8; 10];
-    let mut reads = [0u32; 10];
-    let mut required = [0u64; 320];
-    let mut written = [0u64; 320];
+    let mut facts = [[0u64; 67]; 11];
     let mut s = tables::no_events();
     let mut n: usize = 0;
     let mut order: u64 = 1;
     let mut i: usize = 0;
     while i < log.len() {
         let e = event_at(log, i);
-        let kept = witness::carry(starts, &written, order, n, e);
-        s = s.step(
-            &mut before,
-            &mut allowed,
-            &mut reads,
-            &mut required,
-            &mut written,
-            e,
-        );
+        let kept = witness::carry(starts, &facts, order, n, e);
+        s = s.step(&mut facts, e);
         n = counted(n, e);
         order = kept;
         if kept == 0 {
-            order = tables::complete(starts, s, &before, &allowed, &reads, &required, &written, n);
+            order = tables::complete(starts, s, &facts, n);
         }
         if order == 0 {
             return faulted(i, e);

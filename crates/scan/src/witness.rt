@@ -13,31 +13,32 @@ use events::event::is_abort;
 use events::event::is_begin;
 use events::event::is_commit;
 use events::event::is_read;
+use places::facts::Facts;
+use places::facts::WRITTEN;
+use places::facts::wide;
+use places::lookup::content;
+use places::state::place_of;
 
 // A place is one of so many codes.
 const CODES: u64 = 32;
 
-fn value_of(x: u32) -> u64
-    ensures { λ r. ⌜ r ≡ x ⌝ }
-{
-    x as u64
-}
-
 // What the transaction of an event reads in its register: what it wrote there last, or what the register holds before its place.
-fn seen_by(starts: &[u32; 32], written: &[u64; 320], order: u64, count: usize, e: Event) -> u64
+fn seen_by(starts: &[u32; 32], facts: &[Facts; 11], order: u64, count: usize, e: Event) -> u64
     requires { ⌜ Ordered count order ⌝ }
     requires { ⌜ e .transaction < count ⌝ }
     requires { ⌜ e .register < 32 ⌝ }
     ensures { λ v. ⌜
-        v ≡ seen (startOf (now (starts .entry))) (writesIn (now (written .entry))) (decode (codesOf count order))
+        v ≡ seen (startOf (now (starts .entry))) (writesIn (now (facts .entry))) (decode (codesOf count order))
         (e .transaction) (e .register) ⌝ }
 {
-    let own = written[tables::slot(e.transaction, e.register)];
+    let t = e.transaction as usize;
+    let r = e.register as usize;
+    let own = facts[t][WRITTEN + r];
     if own != 0 {
         return own - 1;
     }
-    let p = places::state::place_of(order, count, e.transaction as usize);
-    places::lookup::content(starts, written, p.placed, p.filled, e.register as usize)
+    let p = place_of(order, count, t);
+    content(starts, facts, p.placed, p.filled, r)
 }
 
 // Is t committed in the order?
@@ -46,7 +47,7 @@ fn is_committed(order: u64, count: usize, t: u16) -> bool
     requires { ⌜ t < count ⌝ }
     ensures { λ r. ⌜ r ≡ outcome t (decode (codesOf count order)) ⌝ }
 {
-    let p = places::state::place_of(order, count, t as usize);
+    let p = place_of(order, count, t as usize);
     p.committed
 }
 
@@ -62,16 +63,16 @@ fn order_if(holds: bool, order: u64) -> u64
 
 // The order with one event more, or 0 if it does not justify that event: one that begins comes last and aborted; a read returns what its
 // transaction reads there; an end is the outcome that the order has. A call and the return of a write change nothing.
-pub fn carry(starts: &[u32; 32], written: &[u64; 320], order: u64, count: usize, e: Event) -> u64
+pub fn carry(starts: &[u32; 32], facts: &[Facts; 11], order: u64, count: usize, e: Event) -> u64
     requires { ⌜ Carryable count order e ⌝ }
-    ensures { λ k. ⌜ k ≡ kept (now (starts .entry)) (now (written .entry)) count order e ⌝ }
+    ensures { λ k. ⌜ k ≡ kept (now (starts .entry)) (now (facts .entry)) count order e ⌝ }
 {
     if is_begin(e) {
         return order * CODES + e.transaction as u64 * 2;
     }
     if is_read(e) {
-        let v = seen_by(starts, written, order, count, e);
-        return order_if(v == value_of(e.value), order);
+        let v = seen_by(starts, facts, order, count, e);
+        return order_if(v == wide(e.value), order);
     }
     if is_commit(e) {
         return order_if(is_committed(order, count, e.transaction), order);

@@ -20,12 +20,16 @@ use Rattle.opacity.specs.Justification.{Place, placed, contents, preceded, lega
 use Rattle.opacity.specs.Lowest.{place, fits}
 use Rattle.lists.proofs.ListLaws.{and-false-r, imp-e, imp-i, not-true, clash, every-e, every-i, both-ways}
 use Rattle.places.specs.Bits.{bitAt, members}
+use Rattle.places.specs.Facts.{fact, afterOf, allowedOf, readsAsked, requiredOf}
 use Rattle.places.specs.Places.{decode, writesIn}
 use Rattle.places.specs.Tree.{upFrom, legalAt, legalReads, noneIn, ruleNext, allowsOutcome, fitsAt}
+use Rattle.places.proofs.BitLaws.{bit-none}
 use Rattle.places.proofs.SetLaws.{member-passes, members-pass}
+use Rattle.places.proofs.FactLaws.{asked-reads, reads-asked-all}
 use Rattle.tables.specs.Tables.{tablesOf}
 use Rattle.tables.specs.Order.{constraintsOf}
-use Rattle.tables.proofs.Meaning.{digit, Good, rule, predecessors-holds, allowed-holds}
+use Rattle.tables.proofs.PutLaws.{and-true}
+use Rattle.tables.proofs.Meaning.{digit, Good, rule, after-holds, allowed-holds}
 use Rattle.tables.proofs.ReadMeaning.{Reads, Wanted, reads-hold}
 use Rattle.tables.proofs.ReadSets.{Marks, marks-hold}
 use Rattle.tables.proofs.LookupLink.{looked-up-contents}
@@ -71,15 +75,15 @@ none-i set q i (suc m) f = go (q i) refl (none-i set q (suc i) m (λ x a b. f x 
 -- ---- the store
 
 -- a store read of r by t, as the table has it
-module _ (o required : List ℕ) (writes : List Event) (p : List ℕ) (t r v : ℕ) where
-  legal-read : getD required (t * 32 + r) 0 ≡ v + 1 → legalAt o required writes p t r ≡ eqb (contents (startOf o) writes (decode p) r) v
+module _ (o : List ℕ) (f : List (List ℕ)) (p : List ℕ) (t r v : ℕ) where
+  legal-read : requiredOf f t r ≡ v + 1 → legalAt o f p t r ≡ eqb (contents (startOf o) (writesIn f) (decode p) r) v
   unfolding legalAt
   legal-read q =
       let k : eqb (v + 1) 0 ≡ false = ne-eqb (v + 1) 0 (λ m. omega arith) in
       let d : v + 1 - 1 ≡ v = omega arith in
       rw (q, k, d)
 
-  legal-none : getD required (t * 32 + r) 0 ≡ 0 → legalAt o required writes p t r ≡ true
+  legal-none : requiredOf f t r ≡ 0 → legalAt o f p t r ≡ true
   unfolding legalAt
   legal-none q = rw q
 
@@ -95,11 +99,6 @@ below-two : (c : Bool) → digit c < 2
 below-two true = omega arith
 below-two false = omega arith
 
-and-true : (b : Bool) → (b and true) ≡ b
-unfolding _and_
-and-true true = refl
-and-true false = refl
-
 -- a rule of 3 allows nothing
 picks : (b c : Bool) (rule o : ℕ) → o < 2 → allowsOutcome (cond b (cond c rule 3) 3) o ≡ (allowsOutcome rule o and (b and c))
 unfolding _and_
@@ -114,15 +113,15 @@ module _ (o : List ℕ) (h : List Event) (good : Good h) (few : begins h ≤ 10)
   whole : take (length h) h ≡ h
   whole = take-all (length h) h (le-refl (length h))
 
-  real-time : noneIn (getD (tablesOf h .predecessors) t 0) u ≡ preceded h (decode p) t
+  real-time : noneIn (afterOf (tablesOf h .facts) t) u ≡ preceded h (decode p) t
   unfolding preceded free
   real-time = rw (st .left) (both-ways _ _ forth back)
     where
       set : ℕ
-      set = getD (tablesOf h .predecessors) t 0
+      set = afterOf (tablesOf h .facts) t
 
       holds : (x : ℕ) → bitAt x set ≡ digit (precedes h x t)
-      holds x = rw whole at (predecessors-holds h good (length h) (le-refl (length h)) t x (omega arith))
+      holds x = rw whole at (after-holds h good (length h) (le-refl (length h)) t x (omega arith))
 
       forth : noneIn set (keep (free (decode p)) (upFrom 0 (begins h))) ≡ true → every (λ x. precedes h x t implies placed x (decode p)) (begins h) ≡ true
       forth k = every-i _ _ (λ x l. imp-i _ _ (λ e. go x l e (placed x (decode p)) refl))
@@ -141,64 +140,62 @@ module _ (o : List ℕ) (h : List Event) (good : Good h) (few : begins h ≤ 10)
           go x l f true e = absurd (clash (imp-e _ _ (every-e _ _ k x l) e) f)
           go x l f false e = holds x ∙ ap digit e
 
-  allowed : (c : Bool) → allowsOutcome (getD (tablesOf h .allowed) t 0) (digit c) ≡ allows (status h t) c
+  allowed : (c : Bool) → allowsOutcome (allowedOf (tablesOf h .facts) t) (digit c) ≡ allows (status h t) c
   allowed c =
-      let holds : getD (tablesOf h .allowed) t 0 ≡ rule (status h t) = rw whole at (allowed-holds h good (length h) (le-refl (length h)) t (omega arith)) in
+      let holds : allowedOf (tablesOf h .facts) t ≡ rule (status h t) = rw whole at (allowed-holds h good (length h) (le-refl (length h)) t (omega arith)) in
       rw holds (allows-link (status h t) c)
 
-  module _ (fine : tablesOf h .contradictory ≡ false) where
+  module _ (fine : tablesOf h .contradictory ≡ 0) where
     store : legalReads (constraintsOf o (tablesOf h)) p t ≡ every (λ i. eqb (eventAt h i .transaction) t implies legalOver (startOf o) h (decode p) i) (length h)
     unfolding legalOver legalReads
     store = both-ways _ _ forth back
       where
-        K : List ℕ
-        K = tablesOf h .required
-
-        W : List Event
-        W = writesIn (tablesOf h .written)
+        F : List (List ℕ)
+        F = tablesOf h .facts
 
         set : ℕ
-        set = getD (tablesOf h .reads) t 0
+        set = readsAsked F 4294967295 t
 
-        reads : Reads h (length h) K (tablesOf h .contradictory)
+        reads : Reads h (length h) F (tablesOf h .contradictory)
         reads = rw whole at (reads-hold h good (length h) (le-refl (length h)))
 
-        marks : Marks h (length h) (tablesOf h .reads)
+        marks : Marks h (length h) F
         marks = rw whole at (marks-hold h good (length h) (le-refl (length h)))
 
-        content : (r : ℕ) → r < 32 → contents (startOf o) W (decode p) r ≡ contents (startOf o) h (decode p) r
+        clear : (x : ℕ) → bitAt x (tablesOf h .contradictory) ≡ 0
+        clear x = ap (bitAt x) fine ∙ bit-none x
+
+        content : (r : ℕ) → r < 32 → contents (startOf o) (writesIn F) (decode p) r ≡ contents (startOf o) h (decode p) r
         content r l = looked-up-contents o h good p (λ i k. omega (arith, st .known i k)) r l
 
-        forth : all (legalAt o K W p t) (members set) ≡ true
-            → every (λ i. eqb (eventAt h i .transaction) t implies (isStoreRead h i implies eqb (eventAt h i .value) (contents (startOf o) h (decode p) (eventAt h i .register)))) (length h) ≡ true
+        forth : all (legalAt o F p t) (members set) ≡ true → every (λ i. eqb (eventAt h i .transaction) t implies (isStoreRead h i implies eqb (eventAt h i .value) (contents (startOf o) h (decode p) (eventAt h i .register)))) (length h) ≡ true
         forth k = every-i _ _ (λ i l. imp-i _ _ (λ e. imp-i _ _ (λ s. go i l (eqb-true _ _ e) s)))
           where
             go : (i : ℕ) → i < length h → eventAt h i .transaction ≡ t → isStoreRead h i ≡ true → eqb (eventAt h i .value) (contents (startOf o) h (decode p) (eventAt h i .register)) ≡ true
             go i l e s =
                 let r = eventAt h i .register in
                 let lr : r < 32 = good i l .register in
-                let w : getD K (t * 32 + r) 0 ≡ eventAt h i .value + 1 = ap (λ (x : ℕ). getD K (x * 32 + r) 0) (sym e) ∙ reads .each fine i l s in
-                let m : bitAt r set ≡ 1 = ap (λ (x : ℕ). bitAt r (getD (tablesOf h .reads) x 0)) (sym e) ∙ marks .each i l s in
-                let a : legalAt o K W p t r ≡ true = member-passes (legalAt o K W p t) set k r (omega arith) m in
-                let b : contents (startOf o) W (decode p) r ≡ eventAt h i .value = eqb-true _ _ (sym (legal-read o K W p t r (eventAt h i .value) w) ∙ a) in
+                let w : requiredOf F t r ≡ eventAt h i .value + 1 = ap (λ (x : ℕ). requiredOf F x r) (sym e) ∙ reads .each i l (clear _) s in
+                let m : bitAt r (fact F t 2) ≡ 1 = ap (λ (x : ℕ). bitAt r (fact F x 2)) (sym e) ∙ marks .each i l s in
+                let a : legalAt o F p t r ≡ true = member-passes (legalAt o F p t) set k r (omega arith) (reads-asked-all F t r lr m) in
+                let b : contents (startOf o) (writesIn F) (decode p) r ≡ eventAt h i .value = eqb-true _ _ (sym (legal-read o F p t r (eventAt h i .value) w) ∙ a) in
                 eq-eqb _ _ (sym b ∙ content r lr)
 
-        back : every (λ i. eqb (eventAt h i .transaction) t implies (isStoreRead h i implies eqb (eventAt h i .value) (contents (startOf o) h (decode p) (eventAt h i .register)))) (length h) ≡ true
-            → all (legalAt o K W p t) (members set) ≡ true
-        back k = members-pass (legalAt o K W p t) set (λ r m. let l : r < 32 = marks .low t r (omega arith) m in ⊎-elim (legal-none o K W p t r 0) (go r l) (reads .some-read t r (omega arith) l))
+        back : every (λ i. eqb (eventAt h i .transaction) t implies (isStoreRead h i implies eqb (eventAt h i .value) (contents (startOf o) h (decode p) (eventAt h i .register)))) (length h) ≡ true → all (legalAt o F p t) (members set) ≡ true
+        back k = members-pass (legalAt o F p t) set (λ r m. let l : r < 32 = marks .low t r (omega arith) (asked-reads F t r m) in ⊎-elim (legal-none o F p t r 0) (go r l) (reads .some-read t r (omega arith) l))
           where
-            go : (r : ℕ) → r < 32 → Wanted h (length h) t r (getD K (t * 32 + r) 0) → legalAt o K W p t r ≡ true
+            go : (r : ℕ) → r < 32 → Wanted h (length h) t r (requiredOf F t r) → legalAt o F p t r ≡ true
             go r l w =
                 let i = w .event in
                 let a : eqb (eventAt h i .value) (contents (startOf o) h (decode p) (eventAt h i .register)) ≡ true =
                 imp-e _ _ (imp-e _ _ (every-e _ _ k i (w .inside)) (eq-eqb _ _ (w .transaction))) (w .store) in
                 let b : eventAt h i .value ≡ contents (startOf o) h (decode p) r = eqb-true _ _ a ∙ ap (contents (startOf o) h (decode p)) (w .register) in
-                legal-read o K W p t r (eventAt h i .value) (w .value) ∙ eq-eqb _ _ (content r l ∙ sym b)
+                legal-read o F p t r (eventAt h i .value) (w .value) ∙ eq-eqb _ _ (content r l ∙ sym b)
 
     pub agree : placed t (decode p) ≡ false → (c : Bool) → fitsAt (constraintsOf o (tablesOf h)) p u t (digit c) ≡ fits (startOf o) h (decode p) (place t c)
     unfolding fitsAt ruleNext fits _and_
     agree q c =
         let a : ltb t (begins h) ≡ true = lt-ltb t (begins h) lt in
         rw (real-time, store, a, q)
-        (picks (preceded h (decode p) t) (every (λ i. eqb (eventAt h i .transaction) t implies legalOver (startOf o) h (decode p) i) (length h)) (getD (tablesOf h .allowed) t 0) (digit c) (below-two c)
+        (picks (preceded h (decode p) t) (every (λ i. eqb (eventAt h i .transaction) t implies legalOver (startOf o) h (decode p) i) (length h)) (allowedOf (tablesOf h .facts) t) (digit c) (below-two c)
         ∙ ap (λ (b : Bool). b and (preceded h (decode p) t and every (λ i. eqb (eventAt h i .transaction) t implies legalOver (startOf o) h (decode p) i) (length h))) (allowed c))

@@ -16,8 +16,7 @@ use Rattle.lists.specs.Lists.{_and_, _or_, orElse, any, push, keep, lowestFrom}
 use Rattle.opacity.specs.Justification.{Place, isOf, placed}
 use Rattle.opacity.specs.Lowest.{place, lowestPlace, goOn}
 use Rattle.lists.proofs.ListLaws.{or-false, not-true, not-false, below-cases, any-append, lowest-upwards}
-use Rattle.places.specs.Tree as tree
-use Rattle.places.specs.Tree.{Constraints, Completion, remove, upFrom, fitsAt, firstOf, tryOne, tryBoth, fromCandidates}
+use Rattle.places.specs.Tree.{Constraints, Completion, remove, upFrom, legalReads, fitsAt, firstOf, tryOne, tryBoth, placingAll}
 use Rattle.places.specs.Places.{coded, decode}
 use Rattle.places.proofs.LookupLaws.{decode-snoc}
 use Rattle.tables.specs.Order.{decoded}
@@ -35,7 +34,7 @@ place-code t false =
     let b : (t * 2 + 0) % 2 ≡ 0 = omega arith in
     rw (a, b)
 
-decoded-else : (a b : Completion) → decoded (tree.orElse a b) ≡ orElse (decoded a) (decoded b)
+decoded-else : (a b : Completion) → decoded (orElse a b) ≡ orElse (decoded a) (decoded b)
 decoded-else none b = refl
 decoded-else (some x) b = refl
 
@@ -146,17 +145,18 @@ state-next n p u t c l s =
 
 module _ (D : Constraints) (ok : List Place → Place → Bool) (n : ℕ)
     (agree : (p u : List ℕ) → State n p u → (t : ℕ) → t < n → placed t (decode p) ≡ false → (c : Bool) → fitsAt D p u t (digit c) ≡ ok (decode p) (place t c))
-    (fresh : (P : List Place) (p : Place) → placed (p .transaction) P ≡ true → ok P p ≡ false) where
+    (fresh : (P : List Place) (p : Place) → placed (p .transaction) P ≡ true → ok P p ≡ false)
+    (ending : (p : List ℕ) → legalReads D p 10 ≡ true) where
   -- what the definition tries next after P
   tries : ℕ → List Place → Place → Option (List Place)
   tries k P p = cond (ok P p) (goOn ok n k (P ++ (p ∷ []))) none
 
-  pub trees : (k : ℕ) (p u : List ℕ) → State n p u → decoded (fromCandidates D k p u u) ≡ goOn ok n k (decode p)
-  unfolding fromCandidates goOn lowestPlace tries tryBoth tryOne free
-  trees zero p u s = refl
+  pub trees : (k : ℕ) (p u : List ℕ) → State n p u → decoded (placingAll D k p u u) ≡ goOn ok n k (decode p)
+  unfolding placingAll goOn lowestPlace tries tryBoth tryOne free
+  trees zero p u s = rw (ending p)
   trees (suc k) p u s =
-      ap (λ (l : List ℕ). decoded (firstOf (tryBoth D (λ p′ u′. fromCandidates D k p′ u′ u′) p u) l)) (s .left)
-      ∙ first-keep (free (decode p)) (tryBoth D (λ p′ u′. fromCandidates D k p′ u′ u′) p u)
+      ap (λ (l : List ℕ). decoded (firstOf (tryBoth D (λ p′ u′. placingAll D k p′ u′ u′) p u) l)) (s .left)
+      ∙ first-keep (free (decode p)) (tryBoth D (λ p′ u′. placingAll D k p′ u′ u′) p u)
       (λ t. orElse (tries k (decode p) (place t false)) (tries k (decode p) (place t true))) 0 n
       (λ t a b q. none-tried t (not-false _ q))
       (λ t a b q. both-tried t (λ c. trees k (p ++ ((t * 2 + digit c) ∷ [])) (remove t u) (state-next n p u t c (omega arith) s)) (omega arith) (not-true _ q))
@@ -166,17 +166,17 @@ module _ (D : Constraints) (ok : List Place → Place → Bool) (n : ℕ)
       none-tried t q = rw (fresh (decode p) (place t false) q, fresh (decode p) (place t true) q)
 
       one-tried : (t : ℕ) (c : Bool) → t < n → placed t (decode p) ≡ false
-          → decoded (fromCandidates D k (p ++ ((t * 2 + digit c) ∷ [])) (remove t u) (remove t u)) ≡ goOn ok n k (decode (p ++ ((t * 2 + digit c) ∷ [])))
-          → decoded (tryOne D (λ p′ u′. fromCandidates D k p′ u′ u′) p u t (digit c)) ≡ tries k (decode p) (place t c)
+          → decoded (placingAll D k (p ++ ((t * 2 + digit c) ∷ [])) (remove t u) (remove t u)) ≡ goOn ok n k (decode (p ++ ((t * 2 + digit c) ∷ [])))
+          → decoded (tryOne D (λ p′ u′. placingAll D k p′ u′ u′) p u t (digit c)) ≡ tries k (decode p) (place t c)
       one-tried t c l q ih =
           let d : decode (p ++ ((t * 2 + digit c) ∷ [])) ≡ decode p ++ (place t c ∷ []) =
           decode-snoc p (t * 2 + digit c) ∙ ap (λ (x : Place). decode p ++ (x ∷ [])) (place-code t c) in
           decoded-cond (fitsAt D p u t (digit c)) _
           ∙ ap₂ (λ (b : Bool) (o : Option (List Place)). cond b o none) (agree p u s t l q c) (ih ∙ ap (goOn ok n k) d)
 
-      both-tried : (t : ℕ) → ((c : Bool) → decoded (fromCandidates D k (p ++ ((t * 2 + digit c) ∷ [])) (remove t u) (remove t u)) ≡ goOn ok n k (decode (p ++ ((t * 2 + digit c) ∷ []))))
+      both-tried : (t : ℕ) → ((c : Bool) → decoded (placingAll D k (p ++ ((t * 2 + digit c) ∷ [])) (remove t u) (remove t u)) ≡ goOn ok n k (decode (p ++ ((t * 2 + digit c) ∷ []))))
           → t < n → placed t (decode p) ≡ false
-          → decoded (tryBoth D (λ p′ u′. fromCandidates D k p′ u′ u′) p u t) ≡ orElse (tries k (decode p) (place t false)) (tries k (decode p) (place t true))
+          → decoded (tryBoth D (λ p′ u′. placingAll D k p′ u′ u′) p u t) ≡ orElse (tries k (decode p) (place t false)) (tries k (decode p) (place t true))
       both-tried t ih l q =
-          decoded-else (tryOne D (λ p′ u′. fromCandidates D k p′ u′ u′) p u t 0) (tryOne D (λ p′ u′. fromCandidates D k p′ u′ u′) p u t 1)
+          decoded-else (tryOne D (λ p′ u′. placingAll D k p′ u′ u′) p u t 0) (tryOne D (λ p′ u′. placingAll D k p′ u′ u′) p u t 1)
           ∙ ap₂ orElse (one-tried t false l q (ih false)) (one-tried t true l q (ih true))

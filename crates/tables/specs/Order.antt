@@ -6,12 +6,13 @@ use Prim.Native.Nat.{ℕ, _≤_}
 use mathlib.Core.Bool.{true, cond}
 use mathlib.Core.List.{List}
 use mathlib.Core.Option.{Option, none, some}
+use lib.Dec.{eqb}
 use Rattle.events.specs.Questions.{readable}
 use Rattle.events.specs.declared.event.Event.{Event}
 use Rattle.events.specs.Events.{begins}
 use Rattle.opacity.specs.Justification.{Place}
 use Rattle.places.specs.Places.{decode}
-use Rattle.places.specs.Tree.{Constraints, constraints, Completion, firstCompletion, readAnswer}
+use Rattle.places.specs.Tree.{Constraints, constraints, Completion, firstWhole, readAnswer}
 use Rattle.tables.specs.Tables.{Tables, tablesOf}
 
 -- a completion as an order of places
@@ -20,10 +21,10 @@ decoded none = none
 decoded (some p) = some (decode p)
 
 abbrev pub constraintsOf : List ℕ → Tables → Constraints
-constraintsOf o s = constraints o (s .predecessors) (s .allowed) (s .reads) (s .required) (s .written)
+constraintsOf o s = constraints o (s .facts)
 
 unfoldable pub foundOrder : List ℕ → List Event → Option (List Place)
-foundOrder o h = cond (tablesOf h .contradictory) none (decoded (firstCompletion (constraintsOf o (tablesOf h)) (begins h)))
+foundOrder o h = cond (eqb (tablesOf h .contradictory) 0) (decoded (firstWhole (constraintsOf o (tablesOf h)) (begins h))) none
 
 -- what is judged: a readable history of at most ten transactions
 pub record Judged (h : List Event) : Type 0 where

@@ -1,117 +1,99 @@
 -- Vocabulary between crates: it need not be believed, the public contracts end in the paper's definitions.
--- The tables of a history, one event at a time.
+-- The facts of a history, one event at a time.
 -- Assumes nothing.
-use Prim.Native.Nat.{ℕ, _+_, _*_, _^_, _<_}
-use mathlib.Core.Bool.{Bool, false, not, cond}
+use Prim.Native.Nat.{ℕ, _+_, _^_, _<_}
+use mathlib.Core.Bool.{Bool, true, not, cond}
 use mathlib.Core.List.{List, [], _∷_}
-use lib.ListN.{getD, set, replicate}
+use lib.ListN.{replicate}
 use lib.Dec.{eqb}
 use lib.Bits.{bitOr}
-use Rattle.lists.specs.Lists.{_and_, _or_}
+use Rattle.lists.specs.Lists.{_and_}
 use Rattle.events.specs.declared.event.Event.{Event}
 use Rattle.events.specs.Events.{isBegin, isRead, isWrite, asksCommit, isCommit, isAbort, isEnd}
+use Rattle.places.specs.Facts.{fact, put, requiredOf, writtenOf}
 use Rattle.tables.specs.declared.Standing.{Standing}
 
--- at t: the transactions that ended before t began, its outcome, and the registers that it reads from the store; at 32 * t + r: what its
--- store reads of r return, and its last write to r, each as the value plus 1, with 0 for none
+-- the transactions that have ended, the facts that the search is told, and the transactions with a read that is wrong wherever they are
+-- placed
 pub record Tables : Type 0 where
   pub ended : ℕ
-  pub predecessors : List ℕ
-  pub allowed : List ℕ
-  pub reads : List ℕ
-  pub required : List ℕ
-  pub written : List ℕ
-  pub contradictory : Bool
+  pub facts : List (List ℕ)
+  pub contradictory : ℕ
 
 -- the tables, from the parts that the code has
-abbrev pub tablesBy : Standing → List ℕ → List ℕ → List ℕ → List ℕ → List ℕ → Tables
-tablesBy s b a x q w =
-    record {
-      ended = s .ended;
-      predecessors = b;
-      allowed = a;
-      reads = x;
-      required = q;
-      written = w;
-      contradictory = s .contradictory;
-    }
+abbrev pub tablesBy : Standing → List (List ℕ) → Tables
+tablesBy s f = record { ended = s .ended; facts = f; contradictory = s .contradictory }
 
--- where a table holds what the transaction of an event has at its register
-abbrev pub slotOf : Event → ℕ
-slotOf e = e .transaction * 32 + e .register
+-- the set, with t in it if it joins
+unfoldable pub joined : ℕ → Bool → ℕ → ℕ
+joined set joins t = cond joins (bitOr set (2 ^ t)) set
+
+-- where b, the number at k in the row of t becomes v
+unfoldable pub putIf : Bool → List (List ℕ) → ℕ → ℕ → ℕ → List (List ℕ)
+putIf b f t k v = cond b (put f t k v) f
 
 -- there is an entry, and it is another than v
 unfoldable pub clashes : ℕ → ℕ → Bool
 clashes old v = not (eqb old 0) and not (eqb old v)
 
--- the sets, with r in that at t
-unfoldable pub withRegister : List ℕ → ℕ → ℕ → List ℕ
-withRegister sets t r = set sets t (bitOr (getD sets t 0) (2 ^ r))
-
--- What an event makes of each table by itself: what it does to one says nothing of the others, so that an event may be several things at
--- once.
-
--- an end joins those that have ended
-abbrev pub endedWith : ℕ → Event → ℕ
-endedWith ended e = cond (isEnd e) (bitOr ended (2 ^ e .transaction)) ended
-
--- those that have ended come before one that begins
-abbrev pub predecessorsWith : ℕ → List ℕ → Event → List ℕ
-predecessorsWith ended predecessors e = cond (isBegin e) (set predecessors (e .transaction) ended) predecessors
-
--- the outcome is the recorded one, and free after a commit called and unanswered
-abbrev pub allowedWith : List ℕ → Event → List ℕ
-allowedWith allowed e =
-    cond (isCommit e) (set allowed (e .transaction) 1)
-    (cond (isAbort e) (set allowed (e .transaction) 0)
-    (cond (asksCommit e) (set allowed (e .transaction) 2)
-    allowed))
-
--- the transaction of the event has written its register
-abbrev pub hasOwn : List ℕ → Event → Bool
-hasOwn written e = not (eqb (getD written (slotOf e) 0) 0)
-
--- a register that is read from the store joins those read before it
-abbrev pub readsWith : List ℕ → List ℕ → Event → List ℕ
-readsWith written reads e = cond (isRead e) (cond (hasOwn written e) reads (withRegister reads (e .transaction) (e .register))) reads
-
--- and what the read returns is required there
-abbrev pub requiredWith : List ℕ → List ℕ → Event → List ℕ
-requiredWith written required e = cond (isRead e) (cond (hasOwn written e) required (set required (slotOf e) (e .value + 1))) required
-
-abbrev pub writtenWith : List ℕ → Event → List ℕ
-writtenWith written e = cond (isWrite e) (set written (slotOf e) (e .value + 1)) written
+-- what a read by the event's transaction of its register returns, as far as its own events say: its last write there, or what its store reads
+-- there returned; 0 if they say nothing
+unfoldable pub expected : List (List ℕ) → Event → ℕ
+expected f e =
+    cond (eqb (writtenOf f (e .transaction) (e .register)) 0)
+    (requiredOf f (e .transaction) (e .register))
+    (writtenOf f (e .transaction) (e .register))
 
 -- a read is wrong wherever its transaction is placed: it returns another value than its own write, or than a store read of the register
 -- before it
-abbrev pub contradicts : List ℕ → List ℕ → Event → Bool
-contradicts written required e =
-    cond (isRead e) (clashes (cond (hasOwn written e) (getD written (slotOf e) 0) (getD required (slotOf e) 0)) (e .value + 1)) false
+unfoldable pub contradicts : List (List ℕ) → Event → Bool
+contradicts f e = isRead e and clashes (expected f e) (e .value + 1)
+
+-- the event reads a register that its transaction has not written
+unfoldable pub readsStore : List (List ℕ) → Event → Bool
+readsStore f e = isRead e and eqb (writtenOf f (e .transaction) (e .register)) 0
+
+-- What an event makes of each column by itself: what it does to one says nothing of the others, so that an event may be several things at
+-- once.
+
+-- a register that is read from the store joins those read before it, and what the read returns is required there
+abbrev pub readWith : List (List ℕ) → Event → List (List ℕ)
+readWith f e =
+    putIf (readsStore f e)
+    (putIf (readsStore f e) f (e .transaction) 2 (bitOr (fact f (e .transaction) 2) (2 ^ e .register)))
+    (e .transaction) (3 + e .register) (e .value + 1)
+
+abbrev pub writtenWith : List (List ℕ) → Event → List (List ℕ)
+writtenWith f e = putIf (isWrite e) f (e .transaction) (35 + e .register) (e .value + 1)
+
+-- those that have ended come before one that begins, and that comes before the end
+abbrev pub endWith : List (List ℕ) → Event → List (List ℕ)
+endWith f e = putIf (isBegin e) f 10 0 (bitOr (fact f 10 0) (2 ^ e .transaction))
+
+abbrev pub afterWith : ℕ → List (List ℕ) → Event → List (List ℕ)
+afterWith ended f e = putIf (isBegin e) (endWith f e) (e .transaction) 0 ended
+
+-- the outcome is the recorded one, and free after a commit called and unanswered
+unfoldable pub ruleWith : ℕ → Event → ℕ
+ruleWith rule e = cond (isCommit e) 1 (cond (isAbort e) 0 (cond (asksCommit e) 2 rule))
+
+abbrev pub allowedWith : List (List ℕ) → Event → List (List ℕ)
+allowedWith f e = putIf true f (e .transaction) 1 (ruleWith (fact f (e .transaction) 1) e)
+
+abbrev pub factsWith : ℕ → List (List ℕ) → Event → List (List ℕ)
+factsWith ended f e = allowedWith (afterWith ended (writtenWith (readWith f e) e) e) e
 
 -- one event more
 unfoldable pub next : Tables → Event → Tables
 next s e =
     record {
-      ended = endedWith (s .ended) e;
-      predecessors = predecessorsWith (s .ended) (s .predecessors) e;
-      allowed = allowedWith (s .allowed) e;
-      reads = readsWith (s .written) (s .reads) e;
-      required = requiredWith (s .written) (s .required) e;
-      written = writtenWith (s .written) e;
-      contradictory = s .contradictory or contradicts (s .written) (s .required) e;
+      ended = joined (s .ended) (isEnd e) (e .transaction);
+      facts = factsWith (s .ended) (s .facts) e;
+      contradictory = joined (s .contradictory) (contradicts (s .facts) e) (e .transaction);
     }
 
 unfoldable pub empty : Tables
-empty =
-    record {
-      ended = 0;
-      predecessors = replicate 10 0;
-      allowed = replicate 10 0;
-      reads = replicate 10 0;
-      required = replicate 320 0;
-      written = replicate 320 0;
-      contradictory = false;
-    }
+empty = record { ended = 0; facts = replicate 11 (replicate 67 0); contradictory = 0 }
 
 unfoldable pub goThrough : Tables → List Event → Tables
 goThrough s [] = s

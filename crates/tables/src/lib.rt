@@ -1,17 +1,17 @@
-// What the search is told of a prefix: tables taken from its events, one event at a time.
+// What the search is told of a prefix: a table of facts taken from its events, one event at a time.
 ghost use mathlib.Core.Path.{_≡_};
 ghost use mathlib.Core.Bool.{cond};
 ghost use mathlib.Core.Option.{none};
-ghost use Prim.Native.Nat.{_+_, _*_, _≤_, _<_};
+ghost use Prim.Native.Nat.{_+_, _≤_, _<_};
+ghost use lib.Dec.{eqb};
 ghost use lib.ListN.{replicate};
-ghost use Rattle.lists.specs.Lists.{_or_};
 ghost use Rattle.log.specs.Rows.{logged};
 ghost use Rattle.log.specs.Starts.{startOf};
 ghost use Rattle.opacity.specs.Lowest.{lowestOf};
-ghost use Rattle.places.specs.Tree.{firstCompletion, Answers};
+ghost use Rattle.places.specs.Tree.{firstWhole, Answers, EndAsks};
 ghost use Rattle.tables.specs.Order.{constraintsOf, Judged, orderOf};
-ghost use Rattle.tables.specs.Tables.{tablesBy, Tabled, clashes, contradicts, next, empty};
-ghost use Rattle.tables.specs.Tables.{endedWith, predecessorsWith, allowedWith, readsWith, requiredWith, writtenWith};
+ghost use Rattle.tables.specs.Tables.{tablesBy, Tabled, clashes, expected, contradicts, readsStore, joined, next, empty};
+ghost use Rattle.tables.specs.Tables.{afterWith, ruleWith, allowedWith, readWith, writtenWith};
 use events::event::Event;
 use events::event::asks_commit;
 use events::event::is_abort;
@@ -21,42 +21,33 @@ use events::event::is_end;
 use events::event::is_read;
 use events::event::is_write;
 use log::rows::Row;
+use log::rows::event_at;
+use log::rows::transactions_begun;
+use places::facts::ABORTED;
+use places::facts::AFTER;
+use places::facts::ALLOWED;
+use places::facts::COMMITTED;
+use places::facts::EITHER;
+use places::facts::END;
+use places::facts::Facts;
+use places::facts::READS;
+use places::facts::REQUIRED;
+use places::facts::WRITTEN;
+use places::sets;
 
-const REGISTERS: usize = 32;
-
-// What a prefix says of its transactions stands in tables, which the loops hold and lend to each step, so that none is copied with an
-// event. At t: `predecessors`, the transactions that ended before t began, one bit each; `allowed`, its outcome, 0 aborted, 1 committed,
-// 2 either; `reads`, the registers that it reads from the store, one bit each. Two tables of registers stand below. What is left goes
-// by value: `ended` has the transactions that have ended; `contradictory` says that a read is wrong wherever its transaction is placed.
+// What a prefix says of its transactions stands in a table of facts, which the loops hold and lend to each step, so that it is not copied
+// with an event. What is left goes by value, as sets of one bit each: `ended` has the transactions that have ended, `contradictory` those
+// with a read that is wrong wherever they are placed.
 pub struct Standing {
     pub ended: u64,
-    pub contradictory: bool,
+    pub contradictory: u64,
 }
 
-// Where a table of registers holds what t has at r: `required`, what its store reads of r return, and `written`, its last write
-// to r, each as the value plus 1, with 0 for none.
-pub fn slot(t: u16, r: u16) -> usize
-    requires { ⌜ t < 10 ⌝ }
-    requires { ⌜ r < 32 ⌝ }
-    ensures { λ k. ⌜ (k ≡ t * 32 + r) × (k < 320) ⌝ }
-{
-    t as usize * REGISTERS + r as usize
-}
-
-// A value as a table holds it.
+// A value as the table holds it.
 fn stored(x: u32) -> u64
     ensures { λ r. ⌜ r ≡ x + 1 ⌝ }
 {
     x as u64 + 1
-}
-
-fn either(a: bool, b: bool) -> bool
-    ensures { λ r. ⌜ r ≡ (a or b) ⌝ }
-{
-    if a {
-        return true;
-    }
-    b
 }
 
 // Is there an entry, and is it another than v?
@@ -69,159 +60,157 @@ fn differs(old: u64, v: u64) -> bool
     old != v
 }
 
-// Those that have ended, with one event more.
-fn ended_with(ended: u64, e: Event) -> u64
-    requires { ⌜ Tabled e ⌝ }
-    ensures { λ r. ⌜ r ≡ endedWith ended e ⌝ }
+// The set, with t in it if it joins.
+fn join(set: u64, joins: bool, t: u16) -> u64
+    requires { ⌜ t < 10 ⌝ }
+    ensures { λ r. ⌜ r ≡ joined set joins t ⌝ }
 {
-    if is_end(e) {
-        return places::sets::with(ended, e.transaction as usize);
+    if joins {
+        return sets::with(set, t as usize);
     }
-    ended
+    set
 }
 
-// Those that have ended come before one that begins.
-fn note_begin(predecessors: &mut [u64; 10], ended: u64, e: Event)
+// What a read by the event's transaction of its register returns, as far as its own events say: its last write there, or what its
+// store reads there returned; 0 if they say nothing.
+fn expected_at(facts: &[Facts; 11], e: Event) -> u64
     requires { ⌜ Tabled e ⌝ }
-    ensures { λ _. ⌜ now (predecessors .exit) ≡ predecessorsWith ended (now (predecessors .entry)) e ⌝ }
+    ensures { λ r. ⌜ r ≡ expected (now (facts .entry)) e ⌝ }
 {
-    if is_begin(e) {
-        predecessors[e.transaction as usize] = ended;
-    }
-}
-
-// The outcome is the recorded one, and free after a commit called and unanswered.
-fn note_outcome(allowed: &mut [u8; 10], e: Event)
-    requires { ⌜ Tabled e ⌝ }
-    ensures { λ _. ⌜ now (allowed .exit) ≡ allowedWith (now (allowed .entry)) e ⌝ }
-{
-    let at = e.transaction as usize;
-    if is_commit(e) {
-        allowed[at] = 1;
-        return;
-    }
-    if is_abort(e) {
-        allowed[at] = 0;
-        return;
-    }
-    if asks_commit(e) {
-        allowed[at] = 2;
-    }
-}
-
-// A read of the store joins the registers that its transaction reads, and requires what it returns.
-fn note_read(reads: &mut [u32; 10], required: &mut [u64; 320], written: &[u64; 320], e: Event)
-    requires { ⌜ Tabled e ⌝ }
-    ensures { λ _. ⌜ now (reads .exit) ≡ readsWith (now (written .entry)) (now (reads .entry)) e ⌝ }
-    ensures { λ _. ⌜ now (required .exit) ≡ requiredWith (now (written .entry)) (now (required .entry)) e ⌝ }
-{
-    if !is_read(e) {
-        return;
-    }
-    let at = slot(e.transaction, e.register);
-    if written[at] != 0 {
-        return;
-    }
     let t = e.transaction as usize;
-    reads[t] = places::sets::with_register(reads[t], e.register as usize);
-    required[at] = stored(e.value);
-}
-
-// The last write of a transaction to a register.
-fn note_write(written: &mut [u64; 320], e: Event)
-    requires { ⌜ Tabled e ⌝ }
-    ensures { λ _. ⌜ now (written .exit) ≡ writtenWith (now (written .entry)) e ⌝ }
-{
-    if is_write(e) {
-        written[slot(e.transaction, e.register)] = stored(e.value);
+    let r = e.register as usize;
+    let own = facts[t][WRITTEN + r];
+    if own != 0 {
+        return own;
     }
+    facts[t][REQUIRED + r]
 }
 
 // Is the event a read that is wrong wherever its transaction is placed? It returns another value than its own write, or than a store
 // read of the register before it.
-fn read_contradicts(written: &[u64; 320], required: &[u64; 320], e: Event) -> bool
+fn read_contradicts(facts: &[Facts; 11], e: Event) -> bool
     requires { ⌜ Tabled e ⌝ }
-    ensures { λ r. ⌜ r ≡ contradicts (now (written .entry)) (now (required .entry)) e ⌝ }
+    ensures { λ r. ⌜ r ≡ contradicts (now (facts .entry)) e ⌝ }
 {
     if !is_read(e) {
         return false;
     }
-    let at = slot(e.transaction, e.register);
-    let own = written[at];
-    if own != 0 {
-        return differs(own, stored(e.value));
+    differs(expected_at(facts, e), stored(e.value))
+}
+
+// Is the event a read of a register that its transaction has not written?
+fn reads_store(facts: &[Facts; 11], e: Event) -> bool
+    requires { ⌜ Tabled e ⌝ }
+    ensures { λ r. ⌜ r ≡ readsStore (now (facts .entry)) e ⌝ }
+{
+    if !is_read(e) {
+        return false;
     }
-    differs(required[at], stored(e.value))
+    facts[e.transaction as usize][WRITTEN + e.register as usize] == 0
+}
+
+// A read of the store joins the registers that its transaction reads, and requires what it returns.
+fn note_read(facts: &mut [Facts; 11], e: Event)
+    requires { ⌜ Tabled e ⌝ }
+    ensures { λ _. ⌜ now (facts .exit) ≡ readWith (now (facts .entry)) e ⌝ }
+{
+    if !reads_store(facts, e) {
+        return;
+    }
+    let t = e.transaction as usize;
+    let r = e.register as usize;
+    facts[t][READS] = sets::with(facts[t][READS], r);
+    facts[t][REQUIRED + r] = stored(e.value);
+}
+
+// The last write of a transaction to a register.
+fn note_write(facts: &mut [Facts; 11], e: Event)
+    requires { ⌜ Tabled e ⌝ }
+    ensures { λ _. ⌜ now (facts .exit) ≡ writtenWith (now (facts .entry)) e ⌝ }
+{
+    if is_write(e) {
+        facts[e.transaction as usize][WRITTEN + e.register as usize] = stored(e.value);
+    }
+}
+
+// Those that have ended come before one that begins, and that comes before the end.
+fn note_begin(facts: &mut [Facts; 11], ended: u64, e: Event)
+    requires { ⌜ Tabled e ⌝ }
+    ensures { λ _. ⌜ now (facts .exit) ≡ afterWith ended (now (facts .entry)) e ⌝ }
+{
+    if !is_begin(e) {
+        return;
+    }
+    let t = e.transaction as usize;
+    facts[END][AFTER] = sets::with(facts[END][AFTER], t);
+    facts[t][AFTER] = ended;
+}
+
+// The rule of an outcome with one event more: the outcome is the recorded one, and free after a commit called and unanswered.
+fn rule_with(rule: u64, e: Event) -> u64
+    ensures { λ r. ⌜ r ≡ ruleWith rule e ⌝ }
+{
+    if is_commit(e) {
+        return COMMITTED;
+    }
+    if is_abort(e) {
+        return ABORTED;
+    }
+    if asks_commit(e) {
+        return EITHER;
+    }
+    rule
+}
+
+// The rule of the outcome of the event's transaction.
+fn note_outcome(facts: &mut [Facts; 11], e: Event)
+    requires { ⌜ Tabled e ⌝ }
+    ensures { λ _. ⌜ now (facts .exit) ≡ allowedWith (now (facts .entry)) e ⌝ }
+{
+    let t = e.transaction as usize;
+    facts[t][ALLOWED] = rule_with(facts[t][ALLOWED], e);
 }
 
 impl Standing {
-    // The standing and the tables with one event more.
-    pub fn step(
-        self,
-        predecessors: &mut [u64; 10],
-        allowed: &mut [u8; 10],
-        reads: &mut [u32; 10],
-        required: &mut [u64; 320],
-        written: &mut [u64; 320],
-        e: Event,
-    ) -> Standing
+    // The standing and the table with one event more.
+    pub fn step(self, facts: &mut [Facts; 11], e: Event) -> Standing
         requires { ⌜ Tabled e ⌝ }
-        ensures { λ s. ⌜
-            tablesBy s (now (predecessors .exit)) (now (allowed .exit)) (now (reads .exit)) (now (required .exit)) (now (written .exit))
-            ≡ next (tablesBy self (now (predecessors .entry)) (now (allowed .entry)) (now (reads .entry)) (now (required .entry))
-            (now (written .entry))) e ⌝ }
+        ensures { λ s. ⌜ tablesBy s (now (facts .exit)) ≡ next (tablesBy self (now (facts .entry))) e ⌝ }
     {
-        let contradictory = either(self.contradictory, read_contradicts(written, required, e));
-        note_begin(predecessors, self.ended, e);
-        note_outcome(allowed, e);
-        note_read(reads, required, written, e);
-        note_write(written, e);
+        let wrong = read_contradicts(facts, e);
+        note_read(facts, e);
+        note_write(facts, e);
+        note_begin(facts, self.ended, e);
+        note_outcome(facts, e);
         Standing {
-            ended: ended_with(self.ended, e),
-            contradictory,
+            ended: join(self.ended, is_end(e), e.transaction),
+            contradictory: join(self.contradictory, wrong, e.transaction),
         }
     }
 }
 
-// The standing before any event; the tables then hold 0.
+// The standing before any event; the table then holds 0.
 pub fn no_events() -> Standing
-    ensures { λ r. ⌜ tablesBy r (replicate 10 0) (replicate 10 0) (replicate 10 0) (replicate 320 0) (replicate 320 0) ≡ empty ⌝ }
+    ensures { λ r. ⌜ tablesBy r (replicate 11 (replicate 67 0)) ≡ empty ⌝ }
 {
     Standing {
         ended: 0,
-        contradictory: false,
+        contradictory: 0,
     }
 }
 
-// The first completion that the tables of so many transactions allow, as the search answers it.
-pub fn complete(
-    starts: &[u32; 32],
-    s: Standing,
-    predecessors: &[u64; 10],
-    allowed: &[u8; 10],
-    reads: &[u32; 10],
-    required: &[u64; 320],
-    written: &[u64; 320],
-    transactions: usize,
-) -> u64
+// The first completion that the facts of so many transactions allow, all of them before the end, as the search answers it.
+pub fn complete(starts: &[u32; 32], s: Standing, facts: &[Facts; 11], transactions: usize) -> u64
     requires { ⌜ transactions ≤ 10 ⌝ }
+    requires { ⌜ EndAsks (now facts) transactions ⌝ }
     ensures { λ r. ⌜
-        Answers transactions r (cond (s .contradictory) none (firstCompletion (constraintsOf (now (starts .entry))
-        (tablesBy s (now (predecessors .entry)) (now (allowed .entry)) (now (reads .entry)) (now (required .entry)) (now (written .entry))))
-        transactions)) ⌝ }
+        Answers transactions r (cond (eqb (s .contradictory) 0)
+        (firstWhole (constraintsOf (now (starts .entry)) (tablesBy s (now (facts .entry)))) transactions) none) ⌝ }
 {
-    if s.contradictory {
+    if s.contradictory != 0 {
         return 0;
     }
-    search::find(
-        starts,
-        predecessors,
-        allowed,
-        reads,
-        required,
-        written,
-        transactions,
-    )
+    search::find(starts, facts, transactions)
 }
 
 // The lowest justification of a log, as the search answers it.
@@ -229,34 +218,13 @@ pub fn find_order(starts: &[u32; 32], log: &[Row]) -> u64
     requires { ⌜ Judged (logged (now log)) ⌝ }
     ensures { λ r. ⌜ orderOf (logged (now (log .entry))) r ≡ lowestOf (startOf (now (starts .entry))) (logged (now (log .entry))) ⌝ }
 {
-    let mut predecessors = [0u64; 10];
-    let mut allowed = [0u8; 10];
-    let mut reads = [0u32; 10];
-    let mut required = [0u64; 320];
-    let mut written = [0u64; 320];
+    let mut facts = [[0u64; 67]; 11];
     let mut s = no_events();
     let mut i: usize = 0;
     while i < log.len() {
-        let e = log::rows::event_at(log, i);
-        s = s.step(
-            &mut predecessors,
-            &mut allowed,
-            &mut reads,
-            &mut required,
-            &mut written,
-            e,
-        );
+        let e = event_at(log, i);
+        s = s.step(&mut facts, e);
         i += 1;
     }
-    let begun = log::rows::transactions_begun(log);
-    complete(
-        starts,
-        s,
-        &predecessors,
-        &allowed,
-        &reads,
-        &required,
-        &written,
-        begun,
-    )
+    complete(starts, s, &facts, transactions_begun(log))
 }

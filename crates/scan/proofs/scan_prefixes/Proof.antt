@@ -12,17 +12,15 @@ use Rattle.log.proofs.RowLaws.{logged-length}
 use Rattle.tables.specs.Tables.{Tables, tablesBy}
 use Rattle.tables.proofs.GoodHistory.{tabled}
 use Rattle.scan.proofs.WitnessLaws.{judged-kept, judged-anew}
-use Rattle.scan.proofs.ScanLaws.{Scanning, scanning-none, few-before, may-carry, few-begun, scanning-more, scanning-fault, scanning-end}
+use Rattle.scan.proofs.ScanLaws.{Scanning, scanning-none, few-before, may-carry, few-begun, end-asked, scanning-more, scanning-fault, scanning-end}
 use Rattle.scan.proofs.scan_prefixes.Statement.{statement}
 use Rattle.scan.proofs.scan_prefixes.Tie as tie
 
 abbrev Inv-loop : tie.InvT-loop
-Inv-loop starts log before₀ allowed₀ reads₀ required₀ written₀ s₀ n₀ order₀ i₀ before allowed reads required written s n order i =
-    Scanning starts (logged log) i (tablesBy s before allowed reads required written) n order
+Inv-loop starts log facts₀ s₀ n₀ order₀ i₀ facts s n order i = Scanning starts (logged log) i (tablesBy s facts) n order
 
 abbrev μ-loop : tie.MeasureT-loop
-μ-loop starts log before₀ allowed₀ reads₀ required₀ written₀ s₀ n₀ order₀ i₀ before allowed reads required written s n order i =
-    length log - i
+μ-loop starts log facts₀ s₀ n₀ order₀ i₀ facts s n order i = length log - i
 
 -- the function's entry, the history given, and the tables where a turn begins
 abbrev entered : tie.At-loop Inv-loop μ-loop → tie.Start Inv-loop μ-loop
@@ -32,7 +30,7 @@ abbrev given : tie.Start Inv-loop μ-loop → List Event
 given s = logged (s .args .log .now)
 
 abbrev tables-at : tie.At-loop Inv-loop μ-loop → Tables
-tables-at l = tablesBy (l .loop .s) (l .loop .before) (l .loop .allowed) (l .loop .reads) (l .loop .required) (l .loop .written)
+tables-at l = tablesBy (l .loop .s) (l .loop .facts)
 
 -- in a turn: the event is read, the order carried on, the tables take the event, and the begins are counted
 abbrev turn : tie.After-event-at Inv-loop μ-loop → tie.At-loop Inv-loop μ-loop
@@ -42,7 +40,7 @@ abbrev event-read : tie.After-carry Inv-loop μ-loop → tie.After-event-at Inv-
 event-read a = a .before .before
 
 abbrev carried : tie.After-step Inv-loop μ-loop → tie.After-carry Inv-loop μ-loop
-carried a = a .before .before .before .before .before .before
+carried a = a .before .before
 
 -- the event is one of the history
 inside : (a : tie.After-event-at Inv-loop μ-loop) → turn a .loop .i < length (given (entered (turn a)))
@@ -66,7 +64,7 @@ carry-requires c κs =
 
 step-requires : tie.Need-step-requires Inv-loop μ-loop
 step-requires c κs =
-    let a = event-read (c .before .before .before .before .before) in
+    let a = event-read (c .before) in
     let s = entered (turn a) in
     tabled (given s) (s .pre) (turn a .loop .i) (inside a) (a .event-at .result) (a .event-at .ensures)
 
@@ -81,12 +79,15 @@ counted-requires c κs =
 
 complete-requires : tie.Need-complete-requires Inv-loop μ-loop
 complete-requires c κs =
-    let n = c .before .before .before .before .before .before in
+    let n = c .before .before in
     let a = event-read (carried (n .before)) in
     let l = turn a in
-    let s = entered l in
-    few-begun (s .args .starts .now) (given s) (s .pre) (l .loop .i) (inside a) (a .event-at .result) (a .event-at .ensures) (tables-at l) (l .loop .n) (l .loop .order) (l .loop .inv)
-    _ (n .counted .result) (n .before .step .ensures) (n .counted .ensures)
+    let s = entered l in (
+      few-begun (s .args .starts .now) (given s) (s .pre) (l .loop .i) (inside a) (a .event-at .result) (a .event-at .ensures) (tables-at l) (l .loop .n) (l .loop .order) (l .loop .inv)
+          _ (n .counted .result) (n .before .step .ensures) (n .counted .ensures),
+      end-asked (s .args .starts .now) (given s) (s .pre) (l .loop .i) (inside a) (a .event-at .result) (a .event-at .ensures) (tables-at l) (l .loop .n) (l .loop .order) (l .loop .inv)
+          _ (n .counted .result) (n .before .step .ensures) (n .counted .ensures),
+    )
 
 faulted-requires : tie.Need-faulted-requires Inv-loop μ-loop
 faulted-requires c κs = search needs
@@ -102,7 +103,7 @@ returns c =
     c .faulted .ensures
     ∙ scanning-fault (s .args .starts .now) (given s) (s .pre) (l .loop .i) (inside a) (a .event-at .result) (a .event-at .ensures) (tables-at l) (l .loop .n) (l .loop .order) (l .loop .inv)
     _ (n .counted .result) (n .before .step .ensures) (n .counted .ensures) (k .carry .result) (q .if1 .order) (k .carry .ensures)
-    (⊎-elim (λ w. judged-anew _ _ _ _ _ (w .0 .taken) (w .7) (w .6 .ensures)) (λ w. judged-kept _ _ _ _ (w .0 .left) (w .1)) (q .if1 .came)) (c .before .if2 .taken)
+    (⊎-elim (λ w. judged-anew _ _ _ _ _ (w .0 .taken) (w .3) (w .2 .ensures)) (λ w. judged-kept _ _ _ _ (w .0 .left) (w .1)) (q .if1 .came)) (c .before .if2 .taken)
 
 add-i : tie.Need-add-i Inv-loop μ-loop
 add-i c = search needs
@@ -120,7 +121,7 @@ loop-again c =
     let s = entered l in
     scanning-more (s .args .starts .now) (given s) (s .pre) (l .loop .i) (inside a) (a .event-at .result) (a .event-at .ensures) (tables-at l) (l .loop .n) (l .loop .order) (l .loop .inv)
     _ (n .counted .result) (n .before .step .ensures) (n .counted .ensures) (k .carry .result) (q .if1 .order) (k .carry .ensures)
-    (⊎-elim (λ w. judged-anew _ _ _ _ _ (w .0 .taken) (w .7) (w .6 .ensures)) (λ w. judged-kept _ _ _ _ (w .0 .left) (w .1)) (q .if1 .came)) (c .if2 .left)
+    (⊎-elim (λ w. judged-anew _ _ _ _ _ (w .0 .taken) (w .3) (w .2 .ensures)) (λ w. judged-kept _ _ _ _ (w .0 .left) (w .1)) (q .if1 .came)) (c .if2 .left)
 
 returns-2 : tie.Need-returns-2 Inv-loop μ-loop
 returns-2 c =

@@ -1,4 +1,4 @@
--- `tables::find_order` meets its contract: the standing and the tables are those of the events passed. Assumes nothing.
+-- `tables::find_order` meets its contract: the standing and the facts are those of the events passed. Assumes nothing.
 use borrow.Author.Needs.{needs}
 use mathlib.Core.Path.{_≡_, sym, ap, _∙_}
 use Prim.Native.Nat.{ℕ, _≤_, _<_, _-_}
@@ -14,27 +14,26 @@ use Rattle.tables.specs.Order.{decoded}
 use Rattle.tables.specs.Tables.{Tables, tablesBy, tablesOf, goThrough}
 use Rattle.tables.proofs.TableLaws.{tables-more}
 use Rattle.tables.proofs.GoodHistory.{tabled}
+use Rattle.tables.proofs.EndMeaning.{asks-by}
 use Rattle.tables.proofs.Link.{found-by}
 use Rattle.tables.proofs.find_order.Statement.{statement}
 use Rattle.tables.proofs.find_order.Tie as tie
 
 abbrev Inv-loop : tie.InvT-loop
-Inv-loop starts log predecessors₀ allowed₀ reads₀ required₀ written₀ s₀ i₀ predecessors allowed reads required written s i =
-    (i ≤ length log) × (tablesBy s predecessors allowed reads required written ≡ tablesOf (take i (logged log)))
+Inv-loop starts log facts₀ s₀ i₀ facts s i = (i ≤ length log) × (tablesBy s facts ≡ tablesOf (take i (logged log)))
 
 abbrev μ-loop : tie.MeasureT-loop
-μ-loop starts log predecessors₀ allowed₀ reads₀ required₀ written₀ s₀ i₀ predecessors allowed reads required written s i = length log - i
+μ-loop starts log facts₀ s₀ i₀ facts s i = length log - i
 
 -- the history, and the tables where a turn begins
 abbrev given : tie.Start Inv-loop μ-loop → List Event
 given s = logged (s .args .log .now)
 
 abbrev tabled-at : tie.At-loop Inv-loop μ-loop → Tables
-tabled-at l = tablesBy (l .loop .s) (l .loop .predecessors) (l .loop .allowed) (l .loop .reads) (l .loop .required) (l .loop .written)
+tabled-at l = tablesBy (l .loop .s) (l .loop .facts)
 
--- the turn in which an event is read
-abbrev turn : tie.After-written Inv-loop μ-loop → tie.After-event-at Inv-loop μ-loop
-turn a = a .before .before .before .before .before
+abbrev last-turn : tie.After-transactions-begun Inv-loop μ-loop → tie.At-loop Inv-loop μ-loop
+last-turn a = a .before .before .before
 
 -- an event of the log is one of the history
 inside : (a : tie.After-event-at Inv-loop μ-loop) → a .before .before .loop .i < length (given (a .before .before .before .before))
@@ -52,7 +51,7 @@ event-at-requires c κs = search needs
 
 step-requires : tie.Need-step-requires Inv-loop μ-loop
 step-requires c κs =
-    let a = turn c in
+    let a = c .before in
     let start = a .before .before .before .before in
     tabled (given start) (start .pre) (a .before .before .loop .i) (inside a) (a .event-at .result) (a .event-at .ensures)
 
@@ -64,7 +63,7 @@ loop-less c = search needs
 
 loop-again : tie.Need-loop-again Inv-loop μ-loop
 loop-again c =
-    let a = turn (c .before) in
+    let a = c .before .before in
     let l = a .before .before in
     let h = given (l .before .before) in
     (omega (arith, a .before .loop-test .taken), tables-more h (l .loop .i) (inside a) (tabled-at l) _ (a .event-at .result) (l .loop .inv .1) (a .event-at .ensures) (c .step .ensures))
@@ -72,19 +71,26 @@ loop-again c =
 transactions-begun-requires : tie.Need-transactions-begun-requires Inv-loop μ-loop
 transactions-begun-requires c κs = search needs
 
+-- where the begins are counted all events are passed: the tables are those of the history
+whole : (a : tie.After-transactions-begun Inv-loop μ-loop) → tabled-at (last-turn a) ≡ tablesOf (given (last-turn a .before .before))
+whole a =
+    let l = last-turn a in
+    let s = l .before .before in
+    l .loop .inv .1 ∙ ap tablesOf (take-all (l .loop .i) (given s) (omega (arith, a .before .before .loop-test .left, logged-length (s .args .log .now))))
+
 complete-requires : tie.Need-complete-requires Inv-loop μ-loop
-complete-requires c κs = search needs
+complete-requires c κs =
+    let s = last-turn c .before .before in
+    let count = c .transactions-begun .ensures in
+    (omega (arith, s .pre .few), asks-by (given s) (tabled-at (last-turn c)) _ (s .pre) (whole c) count)
 
 returns : tie.Need-returns Inv-loop μ-loop
 returns c =
-    let counted = c .before .before .before .before .before .before in
-    let l = counted .before .before in
-    let start = l .before .before in
-    let h = given start in
-    let all : take (l .loop .i) h ≡ h = take-all (l .loop .i) h (omega (arith, counted .before .loop-test .left, logged-length (start .args .log .now))) in
+    let counted = c .before in
+    let start = last-turn counted .before .before in
     let count = counted .transactions-begun .ensures in
     ap (λ (k : ℕ). decoded (readAnswer k (c .complete .result))) (sym count)
-    ∙ found-by (start .args .starts .now) h _ _ _ (start .pre) (l .loop .inv .1 ∙ ap tablesOf all) count (c .complete .ensures .completion)
+    ∙ found-by (start .args .starts .now) (given start) _ _ _ (start .pre) (whole counted) count (c .complete .ensures .completion)
 
 pub find-order-spec : {M : Type 1} → statement M
 find-order-spec =

@@ -47,7 +47,7 @@ add-result c = omega (arith, room (c .before), c .before .before .before .pre .t
 returns : tie.Need-returns
 returns c =
     let a = c .before .before .before .args in
-    kept-begin (a .starts .now) (a .written .now) (a .count) (a .order) (a .e) (begins-here (c .before))
+    kept-begin (a .starts .now) (a .facts .now) (a .count) (a .order) (a .e) (begins-here (c .before))
 
 is-read-requires : tie.Need-is-read-requires
 is-read-requires c κs = search needs
@@ -58,8 +58,8 @@ seen-by-requires c κs =
     let s = b .before .before in
     (s .pre .ordered, (s .pre .known (not-begin b), s .pre .register))
 
-value-of-requires : tie.Need-value-of-requires
-value-of-requires c κs = search needs
+wide-requires : tie.Need-wide-requires
+wide-requires c κs = search needs
 
 order-if-requires : tie.Need-order-if-requires
 order-if-requires c κs = search needs
@@ -69,8 +69,8 @@ returns-2 c =
     let t = c .before .before .before in
     let b = t .before .before in
     let a = b .before .before .args in
-    c .order-if .ensures ∙ ap₂ (λ (x y : ℕ). cond (eqb x y) (a .order) 0) (c .before .before .seen-by .ensures) (c .before .value-of .ensures)
-    ∙ kept-read (a .starts .now) (a .written .now) (a .count) (a .order) (a .e) (not-begin b) (sym (t .before .is-read .ensures) ∙ t .if2 .taken)
+    c .order-if .ensures ∙ ap₂ (λ (x y : ℕ). cond (eqb x y) (a .order) 0) (c .before .before .seen-by .ensures) (c .before .wide .ensures)
+    ∙ kept-read (a .starts .now) (a .facts .now) (a .count) (a .order) (a .e) (not-begin b) (sym (t .before .is-read .ensures) ∙ t .if2 .taken)
 
 is-commit-requires : tie.Need-is-commit-requires
 is-commit-requires c κs = search needs
@@ -91,7 +91,7 @@ returns-3 c =
     let b = r .before .before in
     let a = b .before .before .args in
     c .order-if2 .ensures ∙ ap (λ (x : Bool). cond x (a .order) 0) (c .before .is-committed .ensures)
-    ∙ kept-commit (a .starts .now) (a .written .now) (a .count) (a .order) (a .e) (not-begin b) (not-read r) (sym (t .before .is-commit .ensures) ∙ t .if3 .taken)
+    ∙ kept-commit (a .starts .now) (a .facts .now) (a .count) (a .order) (a .e) (not-begin b) (not-read r) (sym (t .before .is-commit .ensures) ∙ t .if3 .taken)
 
 is-abort-requires : tie.Need-is-abort-requires
 is-abort-requires c κs = search needs
@@ -113,7 +113,7 @@ returns-4 c =
     let b = r .before .before in
     let a = b .before .before .args in
     c .order-if3 .ensures ∙ ap (λ (x : Bool). cond (not x) (a .order) 0) (c .before .is-committed2 .ensures)
-    ∙ kept-abort (a .starts .now) (a .written .now) (a .count) (a .order) (a .e) (not-begin b) (not-read r) (not-commit d) (sym (t .before .is-abort .ensures) ∙ t .if4 .taken)
+    ∙ kept-abort (a .starts .now) (a .facts .now) (a .count) (a .order) (a .e) (not-begin b) (not-read r) (not-commit d) (sym (t .before .is-abort .ensures) ∙ t .if4 .taken)
 
 returns-5 : tie.Need-returns-5
 returns-5 c =
@@ -121,7 +121,7 @@ returns-5 c =
     let r = d .before .before in
     let b = r .before .before in
     let a = b .before .before .args in
-    kept-other (a .starts .now) (a .written .now) (a .count) (a .order) (a .e) (not-begin b) (not-read r) (not-commit d) (sym (c .before .is-abort .ensures) ∙ c .if4 .left)
+    kept-other (a .starts .now) (a .facts .now) (a .count) (a .order) (a .e) (not-begin b) (not-read r) (not-commit d) (sym (c .before .is-abort .ensures) ∙ c .if4 .left)
 
 pub carry-spec : {M : Type 1} → statement M
 carry-spec =
@@ -135,7 +135,7 @@ carry-spec =
     returns
     is-read-requires
     seen-by-requires
-    value-of-requires
+    wide-requires
     order-if-requires
     returns-2
     is-commit-requires

@@ -1,33 +1,22 @@
--- `tables::Standing::step` meets its contract: each table by itself. Assumes nothing.
+-- `tables::Standing::step` meets its contract: each column by itself. Assumes nothing.
 use mathlib.Core.Path.{ap, _∙_}
+use Prim.Native.Nat.{ℕ}
 use mathlib.Core.Bool.{Bool}
-use Rattle.lists.specs.Lists.{_or_}
-use Rattle.tables.specs.Tables.{next}
+use mathlib.Core.List.{List}
+use Rattle.tables.specs.Tables.{joined, readWith, writtenWith, afterWith, allowedWith, next}
 use borrow.Author.Needs.{needs}
 use Rattle.tables.proofs.Standing.step.Statement.{statement}
 use Rattle.tables.proofs.Standing.step.Tie as tie
 
--- where the tables of reads are filled, and before them those of begins and outcomes
-abbrev read-noted : tie.After-ended-with → tie.After-note-read
-read-noted a = a .before .before .before
+-- where the outcome is noted, and before it the begin
+abbrev settled : tie.After-join2 → tie.After-note-outcome
+settled a = a .before .before .before
 
-abbrev outcome-noted : tie.After-ended-with → tie.After-note-outcome
-outcome-noted a = read-noted a .before .before .before .before
-
-abbrev judged : tie.After-ended-with → tie.After-either
-judged a = outcome-noted a .before .before .before .before
+abbrev begun : tie.After-join2 → tie.After-note-begin
+begun a = settled a .before .before
 
 read-contradicts-requires : tie.Need-read-contradicts-requires
 read-contradicts-requires c κs = search needs
-
-either-requires : tie.Need-either-requires
-either-requires c κs = search needs
-
-note-begin-requires : tie.Need-note-begin-requires
-note-begin-requires c κs = search needs
-
-note-outcome-requires : tie.Need-note-outcome-requires
-note-outcome-requires c κs = search needs
 
 note-read-requires : tie.Need-note-read-requires
 note-read-requires c κs = search needs
@@ -35,21 +24,35 @@ note-read-requires c κs = search needs
 note-write-requires : tie.Need-note-write-requires
 note-write-requires c κs = search needs
 
-ended-with-requires : tie.Need-ended-with-requires
-ended-with-requires c κs = search needs
+note-begin-requires : tie.Need-note-begin-requires
+note-begin-requires c κs = search needs
+
+note-outcome-requires : tie.Need-note-outcome-requires
+note-outcome-requires c κs = search needs
+
+is-end-requires : tie.Need-is-end-requires
+is-end-requires c κs = search needs
+
+join-requires : tie.Need-join-requires
+join-requires c κs = search needs
+
+join-requires-2 : tie.Need-join-requires-2
+join-requires-2 c κs = search needs
 
 returns : tie.Need-returns
 unfolding next
 returns c =
-    let s = judged c .before .before .before .before .args .self in
+    let written = begun c .before .before in
+    let read = written .before .before in
+    let judged = read .before .before in
+    let a = judged .before .before .args in
     λ i. record {
-      ended = c .ended-with .ensures i;
-      predecessors = outcome-noted c .before .before .note-begin .ensures i;
-      allowed = outcome-noted c .note-outcome .ensures i;
-      reads = read-noted c .note-read .ensures .0 i;
-      required = read-noted c .note-read .ensures .1 i;
-      written = c .before .note-write .ensures i;
-      contradictory = (judged c .either .ensures ∙ ap (λ (b : Bool). s .contradictory or b) (judged c .before .read-contradicts .ensures)) i;
+      ended = (c .before .join .ensures ∙ ap (λ (b : Bool). joined (a .self .ended) b (a .e .transaction)) (c .before .before .is-end .ensures)) i;
+      facts = (settled c .note-outcome .ensures
+          ∙ ap (λ (f : List (List ℕ)). allowedWith f (a .e)) (begun c .note-begin .ensures
+          ∙ ap (λ (f : List (List ℕ)). afterWith (a .self .ended) f (a .e)) (written .note-write .ensures
+          ∙ ap (λ (f : List (List ℕ)). writtenWith f (a .e)) (read .note-read .ensures)))) i;
+      contradictory = (c .join2 .ensures ∙ ap (λ (b : Bool). joined (a .self .contradictory) b (a .e .transaction)) (judged .read-contradicts .ensures)) i;
     }
 
 pub step-spec : {M : Type 1} → statement M
@@ -57,10 +60,11 @@ step-spec =
     tie.close
     (tie.spec
     read-contradicts-requires
-    either-requires
-    note-begin-requires
-    note-outcome-requires
     note-read-requires
     note-write-requires
-    ended-with-requires
+    note-begin-requires
+    note-outcome-requires
+    is-end-requires
+    join-requires
+    join-requires-2
     returns)

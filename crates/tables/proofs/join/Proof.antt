@@ -1,0 +1,19 @@
+-- `tables::join` meets its contract: by the test. Assumes nothing.
+use Rattle.tables.specs.Tables.{joined}
+use borrow.Author.Needs.{needs}
+use Rattle.tables.proofs.join.Statement.{statement}
+use Rattle.tables.proofs.join.Tie as tie
+
+with-requires : tie.Need-with-requires
+with-requires c κs = search needs
+
+returns : tie.Need-returns
+unfolding joined
+returns c = rw (c .before .if1 .taken) (c .with .ensures)
+
+returns-2 : tie.Need-returns-2
+unfolding joined
+returns-2 c = rw (c .if1 .left)
+
+pub join-spec : {M : Type 1} → statement M
+join-spec = tie.close (tie.spec with-requires returns returns-2)
