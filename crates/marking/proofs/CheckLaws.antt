@@ -8,7 +8,7 @@ use mathlib.Core.Path.{_≡_, refl, sym, ap, _∙_, fun-ext}
 use mathlib.Core.Bool.{Bool, true, false, not, cond, true≢false, false≢true}
 use mathlib.Core.List.{List, [], _∷_, _++_, map, map-append}
 use lib.Dec.{eqb}
-use lib.ListN.{length, getD, take, List·getD-eq-default}
+use lib.ListN.{length, getD, List·getD-eq-default}
 use Rattle.events.specs.declared.event.Event.{Event}
 use Rattle.lists.specs.Lists.{_and_, keep, push, range}
 use Rattle.lists.specs.Filled.{Filled}
@@ -16,12 +16,7 @@ use Rattle.lists.proofs.ListLaws.{keep-append}
 use Rattle.lists.proofs.FilledLaws.{filled-at, filled-beyond}
 use Rattle.events.specs.Events.{eventAt, noEvent, begins, isRead}
 use Rattle.events.specs.Questions.{readable}
-use Rattle.log.specs.declared.admit.Checked.{Checked}
-use Rattle.log.specs.declared.admit.Checked.the-variants.{Readable, Refused}
-use Rattle.log.specs.Answer.{historyAnswer}
-use Rattle.log.specs.Columns.{Columns, history}
-use Rattle.log.specs.Rows.{logged, Admitted}
-use Rattle.log.specs.Starts.{startOf}
+use Rattle.log.specs.Rows.{logged}
 use Rattle.log.proofs.RowLaws.{logged-length}
 use Rattle.opacity.specs.Transactions.{isStoreRead, storeReads}
 use Rattle.opacity.specs.Marking.{Point}
@@ -29,7 +24,6 @@ use Rattle.links.specs.Writes.{Linked}
 use Rattle.links.proofs.LogLaws.{in-log}
 use Rattle.rules.specs.Judge.{content as inArrays, Given}
 use Rattle.marking.specs.declared.read.Reading.{Reading}
-use Rattle.marking.specs.Answer.{afterColumns, verdictAnswer}
 use Rattle.marking.specs.File.{Known, known, content, refused, fileRead}
 use Rattle.marking.specs.State.{knownBy, pointsOf, soFar, readAs, Kept}
 use Rattle.marking.proofs.WalkLaws.{refused-as, content-as}

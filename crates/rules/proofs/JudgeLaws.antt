@@ -1,11 +1,11 @@
 -- From the tables to the verdict of the definition.
 -- Assumes nothing.
-use Prim.Native.Nat.{ℕ, _-_, _≤_, _<_, min, max}
+use Prim.Native.Nat.{ℕ, _-_, _≤_, _<_}
 use native.Mathlib.Omega.{arith}
 use mathlib.Core.Path.{_≡_, refl, sym, ap, _∙_, subst}
 use mathlib.Core.Bool.{Bool, true, false, not, cond}
 use mathlib.Core.List.{List}
-use mathlib.Core.Option.{Option, none, some, Option·getD}
+use mathlib.Core.Option.{Option, none, Option·getD}
 use lib.Dec.{eqb, ltb}
 use lib.ListN.{length, getD, take}
 use borrow.Author.Tests.{ltb-true}
@@ -18,7 +18,7 @@ use Rattle.opacity.specs.declared.verdict.Rule.{Rule}
 use Rattle.opacity.specs.declared.verdict.Rule.the-variants.{A, B, C, D, E}
 use Rattle.opacity.specs.Transactions.{Status, committed, aborted, pending, live, statusNumber, status, allows, precedes, isStoreRead, ownRight}
 use Rattle.opacity.specs.Justification.{Place, placed, before, written, outcomeKept, preceded, realTimeKept}
-use Rattle.opacity.specs.Marking.{Marking, gapOf, placeOf, others, between, noWriterBetween, valueAtGap, ruleHolds, broke, tries, verdict, lastEvent, beginOf}
+use Rattle.opacity.specs.Marking.{Marking, gapOf, placeOf, others, between, noWriterBetween, valueAtGap, ruleHolds, broke, tries, verdict}
 use Rattle.opacity.proofs.Bounds.{at-most-64, transaction-known}
 use Rattle.opacity.proofs.Finder.{gap-marked, before-le}
 use Rattle.links.specs.declared.tables.Fact.the-variants.{LastEvent, LastWrite, LastBegin, FirstBegin, FirstEnd, Standing}
@@ -26,7 +26,7 @@ use Rattle.links.specs.Tables.{Tabled, slot, earlier}
 use Rattle.links.proofs.TableLaws.{precedes-table, status-table, last-event, first-begin}
 use Rattle.links.proofs.WriteLaws.{head-le}
 use Rattle.rules.specs.Orders.{placesOf, Inverse, Apart, writerAt, Writers, broken, allowsBy, outcomeBy, pairBy, realTimeBy}
-use Rattle.rules.specs.Walks.{lastIn, Walkable, Pointable, hasPoint, noWriter, rightValue, pointRule}
+use Rattle.rules.specs.Walks.{Pointable, noWriter, rightValue, pointRule}
 use Rattle.rules.specs.Judge.{content, Given, tried, readsVerdict}
 use Rattle.rules.proofs.Numbers.{none-of, some-of, every-ext, first-ext}
 use Rattle.rules.proofs.OrderLaws.{places-length, before-lower, outcome-of, inverse-place, order-low, order-apart}

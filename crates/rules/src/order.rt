@@ -1,7 +1,7 @@
 // Rules A and B, of transactions.
 ghost use mathlib.Core.Path.{_≡_};
 ghost use Prim.Native.Nat.{ℕ, _≤_, _<_};
-ghost use lib.ListN.{length, getD};
+ghost use lib.ListN.{getD};
 ghost use lib.Dec.{eqb};
 ghost use Rattle.rules.specs.Orders.{broken, allowsBy, outcomeBy, pairBy, realTimeBy};
 use links::tables::wide;

@@ -1,7 +1,7 @@
 // Tables by place and by transaction of an order that stands in an array.
 ghost use mathlib.Core.Path.{_≡_};
-ghost use Prim.Native.Nat.{ℕ, _≤_, _<_};
-ghost use lib.ListN.{length, getD};
+ghost use Prim.Native.Nat.{_<_};
+ghost use lib.ListN.{getD};
 ghost use Rattle.rules.specs.Orders.{Apart, Inverse, writerAt, Writers};
 use links::tables::wide;
 

@@ -38,7 +38,7 @@ use Rattle.marking.proofs.WriteBack.{content-bytes}
 use Rattle.marking.proofs.Theorems.{by-verdict, accepted-iff, bytes-judged}
 use Rattle.straighten.specs.declared.Straightening.{Straightening}
 use Rattle.straighten.specs.declared.Straightening.the-variants.{Straightened, Broken, Refused, MarkingRefused}
-use Rattle.straighten.specs.Straight.{straightened, movedEvents, Rises, FirstIllegal}
+use Rattle.straighten.specs.Straight.{straightened, movedEvents, FirstIllegal}
 use Rattle.straighten.specs.Answer.{Given, gives, settled, judged, roomy, afterFile, afterColumns, straightenedAnswer, firstEditionAnswer, said, Passes, Short}
 use Rattle.straighten.specs.Words.{Written}
 use Rattle.straighten.proofs.StraightLaws.{moved-rise, straight-readable, straight-accepted, straight-length}
@@ -168,7 +168,10 @@ module _ (edition : ℕ) (starts : List ℕ) (c : Columns) (n : ℕ) (file outpu
     )
 
     pub written-accepted : verdictAnswer edition starts c n (take k (given .output)) ≡ Ruled Accepted
-    written-accepted = ap (verdictAnswer edition starts c n) bytes-written ∙ bytes-judged edition starts c n (straightened (startOf starts) events (done .marking)) (done .passes .fine) written-readable ∙ ap Ruled (done .accepted)
+    written-accepted =
+        ap (verdictAnswer edition starts c n) bytes-written
+        ∙ bytes-judged edition starts c n (straightened (startOf starts) events (done .marking)) (done .passes .fine) written-readable
+        ∙ ap Ruled (done .accepted)
 
     pub written : Bytes file → Written edition starts c n file output list k l
     written by =

@@ -9,7 +9,6 @@ ghost use Prim.Native.Nat.{_≤_};
 ghost use lib.Dec.{leb};
 ghost use lib.ListN.{length, take};
 ghost use Rattle.lists.specs.Lists.{_and_};
-ghost use Rattle.events.specs.Events.{begins};
 ghost use Rattle.events.specs.Questions.{readable};
 ghost use Rattle.log.specs.declared.admit.Checked.the-variants.{Readable};
 ghost use Rattle.log.specs.Columns.{columns};

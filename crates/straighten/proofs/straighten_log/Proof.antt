@@ -1,6 +1,6 @@
 -- `straighten_log` meets its contract: the questions in their order, and then the points.
 -- Assumes nothing.
-use Prim.Native.Nat.{ℕ, _≤_}
+use Prim.Native.Nat.{ℕ}
 use mathlib.Core.Path.{_≡_, sym, ap, _∙_, subst}
 use mathlib.Core.Bool.{Bool}
 use native.Mathlib.Omega.{arith}

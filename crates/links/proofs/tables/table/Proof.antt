@@ -1,11 +1,10 @@
 -- `table` meets its contract: after i events the slots are those of the first i.
 -- Assumes nothing.
 use Prim.Native.Nat.{ℕ, _-_, _≤_, _<_}
-use mathlib.Core.Path.{_≡_, refl, sym, ap, _∙_, subst}
+use mathlib.Core.Path.{_≡_, subst}
 use native.Mathlib.Omega.{arith}
 use borrow.Author.Needs.{needs}
-use lib.ListN.{length, getD}
-use Rattle.events.specs.Events.{eventAt}
+use lib.ListN.{length}
 use Rattle.log.specs.Rows.{logged}
 use Rattle.log.proofs.RowLaws.{logged-length}
 use Rattle.links.proofs.LogLaws.{log-most, transaction-below}

@@ -1,6 +1,5 @@
 -- `broken_at` meets its contract: the transaction is that of the event.
 -- Assumes nothing.
-use Prim.Native.Nat.{ℕ}
 use mathlib.Core.Path.{ap, _∙_}
 use Rattle.events.specs.declared.event.Event.{Event}
 use Rattle.opacity.specs.declared.verdict.Verdict.the-variants.{Broken}

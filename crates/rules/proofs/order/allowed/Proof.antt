@@ -1,6 +1,5 @@
 -- `rules::order::allowed` meets its contract.
 -- Assumes nothing.
-use Prim.Native.Nat.{_-_}
 use borrow.Author.Tests.{eq-eqb, ne-eqb}
 use Rattle.rules.specs.Orders.{allowsBy}
 use Rattle.rules.proofs.order.allowed.Statement.{statement}

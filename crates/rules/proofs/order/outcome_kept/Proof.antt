@@ -1,6 +1,5 @@
 -- `rules::order::outcome_kept` meets its contract.
 -- Assumes nothing.
-use Prim.Native.Nat.{_-_}
 use mathlib.Core.Path.{_∙_}
 use native.Mathlib.Omega.{arith}
 use Rattle.rules.specs.Orders.{outcomeBy}

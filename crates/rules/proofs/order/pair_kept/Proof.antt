@@ -1,6 +1,5 @@
 -- `rules::order::pair_kept` meets its contract.
 -- Assumes nothing.
-use Prim.Native.Nat.{_-_}
 use borrow.Author.Tests.{eq-eqb, ne-eqb, lt-ltb, le-ltb}
 use Rattle.lists.specs.Lists.{_implies_}
 use Rattle.links.specs.Tables.{earlier}

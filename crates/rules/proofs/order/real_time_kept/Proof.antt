@@ -1,6 +1,6 @@
 -- `real_time_kept` meets its contract: the transactions below t are placed before u, if they ended before it began.
 -- Assumes nothing.
-use Prim.Native.Nat.{ℕ, _-_, _≤_, _<_}
+use Prim.Native.Nat.{ℕ, _-_}
 use mathlib.Core.Bool.{Bool}
 use native.Mathlib.Omega.{arith}
 use borrow.Author.Needs.{needs}
@@ -28,7 +28,9 @@ pair-kept-requires c κs = let t = c .before in (t .before .pre .1, omega (arith
 
 returns : tie.Need-returns Inv-loop μ-loop
 unfolding realTimeBy
-returns c = let t = c .before .before .before in not-every (holds (t .before)) (t .loop .inv) (c .before .before .loop-test .taken) (c .before .pair-kept .ensures) (not-true _ (c .if1 .taken))
+returns c =
+    let t = c .before .before .before in
+    not-every (holds (t .before)) (t .loop .inv) (c .before .before .loop-test .taken) (c .before .pair-kept .ensures) (not-true _ (c .if1 .taken))
 
 add-t : tie.Need-add-t Inv-loop μ-loop
 add-t c = search needs
@@ -37,7 +39,9 @@ loop-less : tie.Need-loop-less Inv-loop μ-loop
 loop-less c = search needs
 
 loop-again : tie.Need-loop-again Inv-loop μ-loop
-loop-again c = let t = c .before .before .before in passing-more (holds (t .before)) (t .loop .inv) (c .before .before .loop-test .taken) (c .before .pair-kept .ensures) (not-false _ (c .if1 .left))
+loop-again c =
+    let t = c .before .before .before in
+    passing-more (holds (t .before)) (t .loop .inv) (c .before .before .loop-test .taken) (c .before .pair-kept .ensures) (not-false _ (c .if1 .left))
 
 returns-2 : tie.Need-returns-2 Inv-loop μ-loop
 unfolding realTimeBy

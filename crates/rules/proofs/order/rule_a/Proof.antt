@@ -1,6 +1,6 @@
 -- `rule_a` meets its contract: the outcomes of the transactions below t are allowed.
 -- Assumes nothing.
-use Prim.Native.Nat.{ℕ, _-_, _≤_, _<_}
+use Prim.Native.Nat.{ℕ, _-_}
 use mathlib.Core.Bool.{Bool}
 use native.Mathlib.Omega.{arith}
 use borrow.Author.Needs.{needs}
@@ -27,7 +27,9 @@ outcome-kept-requires : tie.Need-outcome-kept-requires Inv-loop μ-loop
 outcome-kept-requires c κs = let t = c .before in (omega (arith, t .before .pre .0), t .before .pre .1 (t .loop .t))
 
 returns : tie.Need-returns Inv-loop μ-loop
-returns c = let t = c .before .before .before in fails-here (holds (t .before)) (t .loop .inv) (c .before .before .loop-test .taken) (c .before .outcome-kept .ensures) (not-true _ (c .if1 .taken))
+returns c =
+    let t = c .before .before .before in
+    fails-here (holds (t .before)) (t .loop .inv) (c .before .before .loop-test .taken) (c .before .outcome-kept .ensures) (not-true _ (c .if1 .taken))
 
 add-t : tie.Need-add-t Inv-loop μ-loop
 add-t c = search needs
@@ -36,7 +38,9 @@ loop-less : tie.Need-loop-less Inv-loop μ-loop
 loop-less c = search needs
 
 loop-again : tie.Need-loop-again Inv-loop μ-loop
-loop-again c = let t = c .before .before .before in passing-more (holds (t .before)) (t .loop .inv) (c .before .before .loop-test .taken) (c .before .outcome-kept .ensures) (not-false _ (c .if1 .left))
+loop-again c =
+    let t = c .before .before .before in
+    passing-more (holds (t .before)) (t .loop .inv) (c .before .before .loop-test .taken) (c .before .outcome-kept .ensures) (not-false _ (c .if1 .left))
 
 returns-2 : tie.Need-returns-2 Inv-loop μ-loop
 returns-2 c = none-fails (holds (c .before .before)) (c .before .loop .inv) (c .loop-test .left)

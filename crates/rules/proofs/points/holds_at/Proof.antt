@@ -1,12 +1,11 @@
 -- `holds_at` meets its contract: by the point, and then by the rule.
 -- Assumes nothing.
-use Prim.Native.Nat.{ℕ, _≤_, _<_}
+use Prim.Native.Nat.{_≤_, _<_}
 use mathlib.Core.Path.{_≡_, refl, sym, ap, _∙_}
 use mathlib.Core.Bool.{Bool, true, not}
 use native.Mathlib.Omega.{arith}
 use borrow.Author.Needs.{needs}
 use borrow.Author.Tests.{ne-eqb}
-use lib.ListN.{length, getD}
 use Rattle.opacity.specs.declared.verdict.Rule.{Rule}
 use Rattle.log.specs.Rows.{logged}
 use Rattle.log.specs.Starts.{startOf}

@@ -2,7 +2,6 @@
 -- Assumes nothing.
 use Prim.Native.Nat.{min, max}
 use mathlib.Core.Path.{_≡_, sym, _∙_}
-use native.Mathlib.Omega.{arith}
 use borrow.Author.Needs.{needs}
 use Rattle.log.specs.Rows.{logged}
 use Rattle.links.specs.Writes.{plusOne}

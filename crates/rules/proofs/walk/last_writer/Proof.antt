@@ -1,8 +1,8 @@
 -- `last_writer` meets its contract: what is found from the place and the write reached is what is found from the start.
 -- Assumes nothing.
-use Prim.Native.Nat.{_-_, _≤_, _<_}
+use Prim.Native.Nat.{_-_, _<_}
 use native.Mathlib.Omega.{arith}
-use mathlib.Core.Path.{_≡_, refl}
+use mathlib.Core.Path.{refl}
 use lib.ListN.{length}
 use Rattle.log.specs.Rows.{logged}
 use Rattle.links.proofs.LogLaws.{in-log, log-most}
