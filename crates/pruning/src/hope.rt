@@ -270,23 +270,10 @@ pub fn hopeful(
         return true;
     }
     let ready = ready_among(starts, facts, asked, s);
-    if bereft(
-        starts,
-        facts,
-        effects,
-        asked,
-        s,
-        before_end(facts, s.unplaced ^ ready),
-    ) {
+    let unready = before_end(facts, s.unplaced ^ ready);
+    if bereft(starts, facts, effects, asked, s, unready) {
         return false;
     }
-    possible(
-        starts,
-        facts,
-        effects,
-        asked,
-        s,
-        before_end(facts, candidates),
-        ready,
-    )
+    let need = before_end(facts, candidates);
+    possible(starts, facts, effects, asked, s, need, ready)
 }
