@@ -99,6 +99,12 @@ module _ (edition : ℕ) (starts : List ℕ) (c : Columns) (count : ℕ) where
 
   -- ---- the questions one after the other, as `scan_history` puts them
 
+  pub events-decide : historyAnswer edition starts c count ≡ Checked.Readable
+      → decided (sizeRefusal (history c count) count) (scan (startOf starts) (history c count)) ≡ scanAnswer edition starts c count
+  unfolding scanAnswer scanRefusal
+  events-decide x = ap (λ (y : Checked). decided y (scan (startOf starts) (history c count))) (sym (then-readable _ x))
+
+  -- and after them, of a history that is that of the columns
   pub scan-after : (x : Checked) (h : List Event) → x ≡ historyAnswer edition starts c count → (x ≡ Checked.Readable → h ≡ history c count)
       → scanAfter x starts h count ≡ scanAnswer edition starts c count
   unfolding scanAfter scanAnswer scanRefusal
