@@ -40,13 +40,13 @@ pub fn placed_by(codes: [u8; 10], count: usize) -> Placed
 }
 
 // The place of t among the first so many, or their number.
-fn place_of(places: [u8; 10], count: usize, t: u16) -> usize
+fn place_of(codes: [u8; 10], count: usize, t: u16) -> usize
     requires { ⌜ count ≤ 10 ⌝ }
-    ensures { λ r. ⌜ (r ≡ placeOf t (decode (take count places))) × (r ≤ count) ⌝ }
+    ensures { λ r. ⌜ (r ≡ placeOf t (decode (take count codes))) × (r ≤ count) ⌝ }
 {
     let mut i: usize = 0;
     while i < count {
-        let code = wide(places[i]);
+        let code = wide(codes[i]);
         if code / 2 == t {
             return i;
         }

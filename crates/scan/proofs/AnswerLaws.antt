@@ -96,7 +96,6 @@ module _ (edition : ℕ) (starts : List ℕ) (c : Columns) (count : ℕ) where
   passes p =
       then-readable _ (fine-answer edition starts c count (p .admitted) (readable-columns c count (hold-e c count (p .held)) (p .readable)))
       ∙ passes-31 (history c count) count (p .few)
-  -- ---- the questions one after the other, as `scan_history` puts them
 
 -- a refusal is the answer, whatever the scan would say
 pub after-refused : {x : Checked} {r : Refusal} (starts : List ℕ) (h : List Event) (count : ℕ) → x ≡ Checked.Refused r → Scanning.Refused r ≡ scanAfter x starts h count

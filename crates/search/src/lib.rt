@@ -54,13 +54,13 @@ fn allows(rule: u64, outcome: u64) -> bool
     rule == EITHER
 }
 
-// May an order end with the places filled: not while one that must come before the end has no place, or if a store read of the end is not
-// legal.
+// May an order end with the places filled: not while there is something still to be placed, which the ones of those unplaced that must come
+// before the end count, or if a store read of the end is not legal.
 fn ends(starts: &[u32; 32], facts: &[Facts; 11], asked: u32, s: Search) -> bool
     requires { ⌜ Sound s ⌝ }
     ensures { λ r. ⌜ r ≡ endsAt (asking (now (starts .entry)) (now (facts .entry)) asked) (placedOf s) (members (s .unplaced)) ⌝ }
 {
-    if facts[END][AFTER] & s.unplaced != 0 {
+    if sets::count(facts[END][AFTER] & s.unplaced) != 0 {
         return false;
     }
     legal_reads(starts, facts, asked, s, END)

@@ -14,10 +14,10 @@ use Rattle.finder.proofs.arrays.place_of.Statement.{statement}
 use Rattle.finder.proofs.arrays.place_of.Tie as tie
 
 abbrev Inv-loop : tie.InvT-loop
-Inv-loop count t places i₀ i = (i ≤ count) × (placed t (decode (take i places)) ≡ false)
+Inv-loop count t codes i₀ i = (i ≤ count) × (placed t (decode (take i codes)) ≡ false)
 
 abbrev μ-loop : tie.MeasureT-loop
-μ-loop count t places i₀ i = count - i
+μ-loop count t codes i₀ i = count - i
 
 loop-holds : tie.Need-loop-holds Inv-loop μ-loop
 unfolding placed any decode
