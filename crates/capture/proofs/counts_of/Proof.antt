@@ -1,0 +1,27 @@
+-- `counts_of` meets its contract: each number is counted from the log. Assumes nothing.
+use mathlib.Core.Path.{_≡_, sym}
+use borrow.Author.Needs.{needs}
+use Rattle.log.proofs.RowLaws.{logged-length}
+use Rattle.opacity.specs.Counts.{counts}
+use Rattle.capture.specs.Report.{countsOf}
+use Rattle.capture.proofs.counts_of.Statement.{statement}
+use Rattle.capture.proofs.counts_of.Tie as tie
+
+transactions-begun-requires : tie.Need-transactions-begun-requires
+transactions-begun-requires c κs = search needs
+
+count-store-reads-requires : tie.Need-count-store-reads-requires
+count-store-reads-requires c κs = search needs
+
+returns : tie.Need-returns
+unfolding countsOf counts
+returns c =
+    λ i. record {
+      events = sym (logged-length (c .before .before .args .log .now)) i;
+      transactions = c .before .transactions-begun .ensures i;
+      reads = c .count-store-reads .ensures i;
+    }
+
+pub counts-of-spec : {M : Type 1} → statement M
+counts-of-spec =
+    tie.close (tie.spec transactions-begun-requires count-store-reads-requires returns)

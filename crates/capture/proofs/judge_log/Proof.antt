@@ -1,0 +1,30 @@
+-- `judge_log` meets its contract: each line by its function. Assumes nothing.
+use mathlib.Core.Path.{_≡_}
+use borrow.Author.Needs.{needs}
+use Rattle.scan.specs.Logs.{scanOf}
+use Rattle.capture.specs.declared.Report.{Report}
+use Rattle.capture.specs.Report.{opacityOf, judged}
+use Rattle.capture.proofs.judge_log.Statement.{statement}
+use Rattle.capture.proofs.judge_log.Tie as tie
+
+counts-of-requires : tie.Need-counts-of-requires
+counts-of-requires c κs = search needs
+
+tally-of-requires : tie.Need-tally-of-requires
+tally-of-requires c κs = search needs
+
+marking-of-requires : tie.Need-marking-of-requires
+marking-of-requires c κs = search needs
+
+scan-log-requires : tie.Need-scan-log-requires
+scan-log-requires c κs = search needs
+
+returns : tie.Need-returns
+unfolding judged opacityOf scanOf
+returns c =
+    λ i. Report.Judged (c .before .before .before .counts-of .ensures i) (c .before .before .tally-of .ensures i) (c .before .marking-of .ensures i) (c .scan-log .ensures i)
+
+pub judge-log-spec : {M : Type 1} → statement M
+judge-log-spec =
+    tie.close
+    (tie.spec counts-of-requires tally-of-requires marking-of-requires scan-log-requires returns)
