@@ -138,7 +138,9 @@ pub fn scan_history(
     values: &[u32],
     count: usize,
 ) -> Scanning
-    ensures { λ r. ⌜ r ≡ scanAnswer edition (now (starts .entry)) (columns (now (kinds .entry)) (now (transactions .entry)) (now (registers .entry)) (now (values .entry))) count ⌝ }
+    ensures { λ r. ⌜
+        r ≡ scanAnswer edition (now (starts .entry))
+        (columns (now (kinds .entry)) (now (transactions .entry)) (now (registers .entry)) (now (values .entry))) count ⌝ }
 {
     if count <= 64 {
         let mut few = [[0u32; 4]; 64];

@@ -36,8 +36,8 @@ putIf b f t k v = cond b (put f t k v) f
 unfoldable pub clashes : ℕ → ℕ → Bool
 clashes old v = not (eqb old 0) and not (eqb old v)
 
--- what a read by the event's transaction of its register returns, as far as its own events say: its last write there, or what its store reads
--- there returned; 0 if they say nothing
+-- what a read by the event's transaction of its register returns, as far as its own events say: its last write there, or what its store
+-- reads there returned; 0 if they say nothing
 unfoldable pub expected : List (List ℕ) → Event → ℕ
 expected f e =
     cond (eqb (writtenOf f (e .transaction) (e .register)) 0)
