@@ -176,10 +176,6 @@ bit-all (suc k) (suc n) l =
 
 -- ---- the count
 
-pub none-counted : (d n : ℕ) → n < 2 ^ d → ones n ≡ 0 → n ≡ 0
-none-counted zero n l e = omega arith
-none-counted (suc d) n l e = let s = ones-step n in let r = none-counted d (n / 2) (half-lt n d l) (omega arith) in omega arith
-
 pub ones-off : (k n : ℕ) → bitAt k n ≡ 1 → ones n ≡ suc (ones (n - 2 ^ k))
 unfolding bitAt
 ones-off zero n h =

@@ -10,7 +10,7 @@ use lib.ListN.{length, getD, set, length-set}
 use lib.Seq.{getD-set-same, getD-set-other}
 use borrow.Author.Tests.{eqb-true, eqb-false}
 use Rattle.places.specs.Bits.{bitAt}
-use Rattle.places.specs.Facts.{fact, put, readsAsked, Shaped}
+use Rattle.places.specs.Facts.{allRegisters, fact, put, readsOf, readsAsked, Shaped}
 use Rattle.places.proofs.BitLaws.{and-member, member-and, bit-all}
 
 module _ (f : List (List ℕ)) (h : Shaped f) (t k v : ℕ) (l : t < 11) where
@@ -32,8 +32,8 @@ module _ (f : List (List ℕ)) (h : Shaped f) (t k v : ℕ) (l : t < 11) where
 
 -- where all registers are asked about, those that t reads are
 module _ (f : List (List ℕ)) (t r : ℕ) where
-  pub asked-reads : bitAt r (readsAsked f 4294967295 t) ≡ 1 → bitAt r (fact f t 2) ≡ 1
-  asked-reads h = and-member r (fact f t 2) 4294967295 h .0
+  pub asked-reads : bitAt r (readsAsked f allRegisters t) ≡ 1 → bitAt r (readsOf f t) ≡ 1
+  asked-reads h = and-member r (readsOf f t) allRegisters h .0
 
-  pub reads-asked-all : r < 32 → bitAt r (fact f t 2) ≡ 1 → bitAt r (readsAsked f 4294967295 t) ≡ 1
-  reads-asked-all l h = member-and r (fact f t 2) 4294967295 h (bit-all r 32 l)
+  pub reads-asked-all : r < 32 → bitAt r (readsOf f t) ≡ 1 → bitAt r (readsAsked f allRegisters t) ≡ 1
+  reads-asked-all l h = member-and r (readsOf f t) allRegisters h (bit-all r 32 l)

@@ -10,6 +10,13 @@ use mathlib.Core.List.{List, []}
 use lib.Bits.{bitAnd}
 use lib.ListN.{length, getD, set}
 
+-- the row of the end, and the set of all registers
+abbrev pub endRow : ℕ
+endRow = 10
+
+abbrev pub allRegisters : ℕ
+allRegisters = 4294967295
+
 -- a number of a row, and the rows with one number put
 abbrev pub fact : List (List ℕ) → ℕ → ℕ → ℕ
 fact f t k = getD (getD f t []) k 0
@@ -23,9 +30,12 @@ afterOf f t = fact f t 0
 abbrev pub allowedOf : List (List ℕ) → ℕ → ℕ
 allowedOf f t = fact f t 1
 
+abbrev pub readsOf : List (List ℕ) → ℕ → ℕ
+readsOf f t = fact f t 2
+
 -- those of the registers asked about that t reads
 abbrev pub readsAsked : List (List ℕ) → ℕ → ℕ → ℕ
-readsAsked f asked t = bitAnd (fact f t 2) asked
+readsAsked f asked t = bitAnd (readsOf f t) asked
 
 abbrev pub requiredOf : List (List ℕ) → ℕ → ℕ → ℕ
 requiredOf f t r = fact f t (3 + r)

@@ -9,7 +9,7 @@ use mathlib.Core.Option.{Option, none, some}
 use lib.Dec.{eqb}
 use Rattle.lists.specs.Lists.{orElse, all}
 use Rattle.places.specs.Bits.{bitAt, members}
-use Rattle.places.specs.Facts.{afterOf, allowedOf, readsAsked, requiredOf}
+use Rattle.places.specs.Facts.{endRow, allRegisters, afterOf, allowedOf, readsAsked, requiredOf}
 use Rattle.places.specs.Places.{codesOf, contentAt}
 
 -- What the search is told: the value of each register before any writer, the facts of the transactions, and the registers whose reads are
@@ -24,7 +24,7 @@ asking o f m = record { starts = o; facts = f; asked = m }
 
 -- all registers are asked about
 abbrev pub constraints : List ℕ → List (List ℕ) → Constraints
-constraints o f = asking o f 4294967295
+constraints o f = asking o f allRegisters
 
 -- the places of all transactions, each as its transaction times 2 plus its outcome, or none
 abbrev pub Completion : Type 0
@@ -80,7 +80,7 @@ tryBoth D k p u t = orElse (tryOne D k p u t 0) (tryOne D k p u t 1)
 
 -- may an order end after the places p, before the rest of u: none of them must come before the end, and its store reads are legal
 unfoldable pub endsAt : Constraints → List ℕ → List ℕ → Bool
-endsAt D p u = cond (noneIn (afterOf (D .facts) 10) u) (legalReads D p 10) false
+endsAt D p u = cond (noneIn (afterOf (D .facts) endRow) u) (legalReads D p endRow) false
 
 -- the first completion of the places p with the n unplaced transactions u, where the next is one of c: it ends as soon as it may
 unfoldable pub fromCandidates : Constraints → ℕ → List ℕ → List ℕ → List ℕ → Completion
@@ -99,11 +99,11 @@ firstCompletion D n = fromCandidates D n [] (upFrom 0 n) (upFrom 0 n)
 
 -- All n transactions must come before the end.
 abbrev pub EndAsks : List (List ℕ) → ℕ → Type 0
-EndAsks f n = (k : ℕ) → k < n → bitAt k (afterOf f 10) ≡ 1
+EndAsks f n = (k : ℕ) → k < n → bitAt k (afterOf f endRow) ≡ 1
 
 -- the first completion of the places p with the n unplaced transactions u, where the next is one of c: it ends when all are placed
 unfoldable pub placingAll : Constraints → ℕ → List ℕ → List ℕ → List ℕ → Completion
-placingAll D zero p u c = cond (legalReads D p 10) (some p) none
+placingAll D zero p u c = cond (legalReads D p endRow) (some p) none
 placingAll D (suc n) p u c = firstOf (tryBoth D (λ p′ u′. placingAll D n p′ u′ u′) p u) c
 
 -- the first completion that places all of the transactions below n

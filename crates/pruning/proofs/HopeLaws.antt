@@ -17,7 +17,7 @@ use Rattle.opacity.specs.Justification.{written}
 use Rattle.opacity.proofs.Contents.{contents-more}
 use Rattle.places.specs.declared.state.Search.{Search}
 use Rattle.places.specs.Bits.{bitAt, members}
-use Rattle.places.specs.Facts.{afterOf, allowedOf, readsAsked}
+use Rattle.places.specs.Facts.{endRow, afterOf, allowedOf, readsAsked}
 use Rattle.places.specs.Places.{coded, decode, writesIn}
 use Rattle.places.specs.State.{placedOf, Sound, Placeable, Keeps, Extends}
 use Rattle.places.specs.Tree.{Constraints, legalAt, legalReads, noneIn, ruleNext, allowsOutcome, fitsAt, fromCandidates}
@@ -190,12 +190,12 @@ module _ (D : Constraints) (s : Search) (need ready : ℕ) (low : need < 2 ^ 64)
 -- what is needed is unplaced, and must come before the end
 pub record Needs (D : Constraints) (s : Search) (need : ℕ) : Type 0 where
   pub unplaced : (k : ℕ) → bitAt k need ≡ 1 → bitAt k (s .unplaced) ≡ 1
-  pub asked : (k : ℕ) → bitAt k need ≡ 1 → bitAt k (afterOf (D .facts) 10) ≡ 1
+  pub asked : (k : ℕ) → bitAt k need ≡ 1 → bitAt k (afterOf (D .facts) endRow) ≡ 1
 
-pub needs-of : (D : Constraints) (s : Search) (set need : ℕ) → need ≡ bitAnd set (afterOf (D .facts) 10) → ((k : ℕ) → bitAt k set ≡ 1 → bitAt k (s .unplaced) ≡ 1)
+pub needs-of : (D : Constraints) (s : Search) (set need : ℕ) → need ≡ bitAnd set (afterOf (D .facts) endRow) → ((k : ℕ) → bitAt k set ≡ 1 → bitAt k (s .unplaced) ≡ 1)
     → Needs D s need
 needs-of D s set need e f =
-    record { unplaced = λ k h. f k (and-member k set (afterOf (D .facts) 10) (rw e at h) .0); asked = λ k h. and-member k set (afterOf (D .facts) 10) (rw e at h) .1 }
+    record { unplaced = λ k h. f k (and-member k set (afterOf (D .facts) endRow) (rw e at h) .0); asked = λ k h. and-member k set (afterOf (D .facts) endRow) (rw e at h) .1 }
 
 -- where it is certain that no run is waited for, nothing completes the state
 pub hopeless : (D : Constraints) (s : Search) (c need : ℕ) (r : Bool) → Sound s → c ≡ s .unplaced → Needs D s need → Hope D s need r → r ≡ false

@@ -11,7 +11,7 @@ use borrow.Author.Tests.{eqb-true, eqb-false, eq-eqb}
 use Rattle.lists.proofs.ListLaws.{not-true, clash}
 use Rattle.places.specs.declared.state.Search.{Search}
 use Rattle.places.specs.Bits.{bitAt}
-use Rattle.places.specs.Facts.{afterOf, allowedOf, readsAsked, requiredOf, writtenOf}
+use Rattle.places.specs.Facts.{endRow, afterOf, allowedOf, readsAsked, requiredOf, writtenOf}
 use Rattle.places.specs.State.{Sound}
 use Rattle.places.specs.Choice.{among}
 use Rattle.places.specs.Tree.{Constraints, legalAt, legalReads}
@@ -23,7 +23,7 @@ use Rattle.pruning.proofs.RunLaws.{Step, step-of, run-ends}
 use Rattle.pruning.proofs.HopeLaws.{Fits, fits-parts, not-other, aborted-place, Needs, hopeless}
 
 module _ (D : Constraints) (t r set : ℕ) (low : r < 32) (isRead : bitAt r (readsAsked (D .facts) (D .asked) t) ≡ 1)
-    (asked : bitAt t (afterOf (D .facts) 10) ≡ 1)
+    (asked : bitAt t (afterOf (D .facts) endRow) ≡ 1)
     (unsourced : (k : ℕ) → bitAt k set ≡ 1 → NoSource (D .facts) t r (requiredOf (D .facts) t r) k) where
   -- the read is legal after these places
   abbrev legal-after : List ℕ → Bool

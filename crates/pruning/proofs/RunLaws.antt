@@ -12,7 +12,7 @@ use borrow.Author.Tests.{eqb-true, eq-eqb}
 use Rattle.lists.specs.Lists.{orElse, isNone, all}
 use Rattle.lists.proofs.ListLaws.{and-l, and-r, and-i, isNone-none, none-isNone}
 use Rattle.places.specs.Bits.{bitAt, members}
-use Rattle.places.specs.Facts.{afterOf}
+use Rattle.places.specs.Facts.{endRow, afterOf}
 use Rattle.places.specs.Tree.{Constraints, Completion, noneIn, legalReads, fitsAt, endsAt, firstOf, tryOne, tryBoth, fromCandidates}
 use Rattle.pruning.specs.Runs.{runs}
 use Rattle.places.proofs.BitLaws.{no-member, member-and, ones-off, none-in-members}
@@ -60,14 +60,14 @@ both-none e f = rw e f
 
 module _ (D : Constraints) where
   -- a run that has no place left to fill ends: none that must come before the end is in u
-  pub run-ends : (p : List ℕ) (u k : ℕ) → u < 1024 → runs D p u [] ≡ true → bitAt k u ≡ 1 → bitAt k (afterOf (D .facts) 10) ≡ 1 → ⊥
+  pub run-ends : (p : List ℕ) (u k : ℕ) → u < 1024 → runs D p u [] ≡ true → bitAt k u ≡ 1 → bitAt k (afterOf (D .facts) endRow) ≡ 1 → ⊥
   unfolding runs endsAt
-  run-ends p u k few e isIn asked = go (noneIn (afterOf (D .facts) 10) (members u)) refl e
+  run-ends p u k few e isIn asked = go (noneIn (afterOf (D .facts) endRow) (members u)) refl e
     where
-      go : (b : Bool) → noneIn (afterOf (D .facts) 10) (members u) ≡ b → cond b (legalReads D p 10) false ≡ true → ⊥
+      go : (b : Bool) → noneIn (afterOf (D .facts) endRow) (members u) ≡ b → cond b (legalReads D p endRow) false ≡ true → ⊥
       go true q g =
-          no-member k (bitAnd (afterOf (D .facts) 10) u) (eqb-true _ _ (sym (none-in-members (afterOf (D .facts) 10) u (omega arith)) ∙ q))
-          (member-and k (afterOf (D .facts) 10) u asked isIn)
+          no-member k (bitAnd (afterOf (D .facts) endRow) u) (eqb-true _ _ (sym (none-in-members (afterOf (D .facts) endRow) u (omega arith)) ∙ q))
+          (member-and k (afterOf (D .facts) endRow) u asked isIn)
       go false q g = false≢true g
 
   not-ended : (p : List ℕ) (u : ℕ) → ((l : List ℕ) → runs D p u l ≡ true → ⊥) → endsAt D p (members u) ≡ false

@@ -16,7 +16,7 @@ use Rattle.log.specs.Starts.{startOf}
 use Rattle.lists.proofs.ListLaws.{and-l, and-r, and-i, both-ways}
 use Rattle.opacity.specs.Justification.{contents}
 use Rattle.places.specs.Bits.{bitAt, members}
-use Rattle.places.specs.Facts.{fact, readsAsked, writtenOf}
+use Rattle.places.specs.Facts.{endRow, allRegisters, readsOf, readsAsked, writtenOf}
 use Rattle.places.specs.Places.{decode, writesIn, writeOf}
 use Rattle.places.specs.Tree.{Constraints, Completion, asking, constraints, remove, upFrom, legalAt, legalReads, ruleNext, fitsAt, endsAt, firstOf, tryOne, tryBoth, fromCandidates, firstCompletion}
 use Rattle.pruning.specs.Runs.{Written, WrittenByAny, NoOther, Codes, Asked}
@@ -62,25 +62,25 @@ SameReads o F asked t = (p : List ℕ) → Codes p → legalReads (asking o F as
 
 -- so that registers that nobody writes need not be asked about
 module _ (o : List ℕ) (F : List (List ℕ)) (any t : ℕ) (other : NoOther F any) (few : any < 2 ^ 32) where
-  pub asked-same : legalReads (asking o F (bitXor 4294967295 any)) [] t ≡ true → SameReads o F any t
+  pub asked-same : legalReads (asking o F (bitXor allRegisters any)) [] t ≡ true → SameReads o F any t
   unfolding legalReads
   asked-same h p c =
       both-ways _ _
-      (λ g. members-pass _ (readsAsked F 4294967295 t) (λ k b.
-      let m = and-member k (fact F t 2) 4294967295 b in
-      go k (m .0) (member-lt k 4294967295 32 (m .1) (omega arith)) g (eqb (bitAt k any) 1) refl))
+      (λ g. members-pass _ (readsAsked F allRegisters t) (λ k b.
+      let m = and-member k (readsOf F t) allRegisters b in
+      go k (m .0) (member-lt k allRegisters 32 (m .1) (omega arith)) g (eqb (bitAt k any) 1) refl))
       (λ g. members-pass _ (readsAsked F any t) (λ k b.
-      let m = and-member k (fact F t 2) any b in
+      let m = and-member k (readsOf F t) any b in
       let l = member-lt k any 32 (m .1) few in
-      member-passes _ (readsAsked F 4294967295 t) g k (omega arith) (member-and k (fact F t 2) 4294967295 (m .0) (bit-all k 32 l))))
+      member-passes _ (readsAsked F allRegisters t) g k (omega arith) (member-and k (readsOf F t) allRegisters (m .0) (bit-all k 32 l))))
     where
-      go : (k : ℕ) → bitAt k (fact F t 2) ≡ 1 → k < 32 → all (legalAt o F p t) (members (readsAsked F any t)) ≡ true
+      go : (k : ℕ) → bitAt k (readsOf F t) ≡ 1 → k < 32 → all (legalAt o F p t) (members (readsAsked F any t)) ≡ true
           → (d : Bool) → eqb (bitAt k any) 1 ≡ d → legalAt o F p t k ≡ true
-      go k b l g true e = member-passes _ (readsAsked F any t) g k (omega arith) (member-and k (fact F t 2) any b (eqb-true _ _ e))
+      go k b l g true e = member-passes _ (readsAsked F any t) g k (omega arith) (member-and k (readsOf F t) any b (eqb-true _ _ e))
       go k b l g false e =
           legal-after o F any other k l (eqb-false _ _ e) t p c
-          (member-passes _ (readsAsked F (bitXor 4294967295 any) t) h k (omega arith)
-          (member-and k (fact F t 2) (bitXor 4294967295 any) b (member-xor k 4294967295 any (bit-all k 32 l) (eqb-false _ _ e))))
+          (member-passes _ (readsAsked F (bitXor allRegisters any) t) h k (omega arith)
+          (member-and k (readsOf F t) (bitXor allRegisters any) b (member-xor k allRegisters any (bit-all k 32 l) (eqb-false _ _ e))))
 
 -- ---- the same tree
 
@@ -148,4 +148,4 @@ module _ (D E : Constraints) (same : (p u : List ℕ) (t z : ℕ) → Codes p �
 pub asked-completion : (o : List ℕ) (F : List (List ℕ)) (m : ℕ) → Asked o F m → (n : ℕ) → n ≤ 10 → firstCompletion (asking o F m) n ≡ firstCompletion (constraints o F) n
 unfolding fitsAt ruleNext endsAt
 asked-completion o F m f n l =
-    same-completion (asking o F m) (constraints o F) (λ p u t z g low. rw (f .same t p (omega arith) g)) (λ p u g. rw (f .same 10 p (omega arith) g)) n l
+    same-completion (asking o F m) (constraints o F) (λ p u t z g low. rw (f .same t p (omega arith) g)) (λ p u g. rw (f .same endRow p (omega arith) g)) n l

@@ -11,7 +11,7 @@ use lib.Dec.{eqb}
 use Rattle.lists.specs.Lists.{_and_}
 use Rattle.places.specs.declared.state.Search.{Search}
 use Rattle.places.specs.Bits.{bitAt, members}
-use Rattle.places.specs.Facts.{afterOf, allowedOf, readsAsked, requiredOf, writtenOf}
+use Rattle.places.specs.Facts.{endRow, afterOf, allowedOf, readsAsked, requiredOf, writtenOf}
 use Rattle.places.specs.Places.{contentAt}
 use Rattle.places.specs.State.{placedOf, Within, Keeps}
 use Rattle.places.specs.Tree.{Constraints, asking, constraints, noneIn, legalAt, legalReads, fitsAt, endsAt}
@@ -31,7 +31,7 @@ pub record Awaited (D : Constraints) (s : Search) (need u : ℕ) (p l : List ℕ
   pub few : u < 1024
   pub alike : (r : ℕ) → holds D p r ≡ holds D (placedOf s) r
   pub needed : (k : ℕ) → bitAt k need ≡ 1 → bitAt k u ≡ 1
-  pub asked : (k : ℕ) → bitAt k need ≡ 1 → bitAt k (afterOf (D .facts) 10) ≡ 1
+  pub asked : (k : ℕ) → bitAt k need ≡ 1 → bitAt k (afterOf (D .facts) endRow) ≡ 1
   pub unplaced : (k : ℕ) → bitAt k u ≡ 1 → bitAt k (s .unplaced) ≡ 1
   pub run : runs D p u l ≡ true
 

@@ -7,7 +7,7 @@ ghost use mathlib.Core.Option.{none};
 ghost use Prim.Native.Nat.{_-_, _^_, _<_};
 ghost use lib.Bits.{bitAnd};
 ghost use Rattle.places.specs.Bits.{bitAt};
-ghost use Rattle.places.specs.Facts.{afterOf};
+ghost use Rattle.places.specs.Facts.{endRow, afterOf};
 ghost use Rattle.places.specs.State.{placedOf, Sound, Placeable, Keeps};
 ghost use Rattle.places.specs.Tree.{asking, legalReads};
 ghost use Rattle.places.specs.Choice.{among};
@@ -242,7 +242,7 @@ fn bereft(
 
 // Those of a set that must come before the end.
 pub fn before_end(facts: &[Facts; 11], set: u64) -> u64
-    ensures { λ r. ⌜ r ≡ bitAnd set (afterOf (now (facts .entry)) 10) ⌝ }
+    ensures { λ r. ⌜ r ≡ bitAnd set (afterOf (now (facts .entry)) endRow) ⌝ }
 {
     set & facts[END][AFTER]
 }
@@ -270,23 +270,10 @@ pub fn hopeful(
         return true;
     }
     let ready = ready_among(starts, facts, asked, s);
-    if bereft(
-        starts,
-        facts,
-        effects,
-        asked,
-        s,
-        before_end(facts, s.unplaced ^ ready),
-    ) {
+    let unready = before_end(facts, s.unplaced ^ ready);
+    if bereft(starts, facts, effects, asked, s, unready) {
         return false;
     }
-    possible(
-        starts,
-        facts,
-        effects,
-        asked,
-        s,
-        before_end(facts, candidates),
-        ready,
-    )
+    let need = before_end(facts, candidates);
+    possible(starts, facts, effects, asked, s, need, ready)
 }

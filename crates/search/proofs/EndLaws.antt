@@ -14,7 +14,7 @@ use lib.Pow.{pow-pos}
 use borrow.Author.Tests.{eqb-true, eqb-false, ne-eqb}
 use Rattle.lists.specs.Lists.{orElse}
 use Rattle.places.specs.Bits.{bitAt}
-use Rattle.places.specs.Facts.{fact, afterOf, readsAsked}
+use Rattle.places.specs.Facts.{endRow, afterOf, readsOf, readsAsked}
 use Rattle.places.specs.Places.{codesOf}
 use Rattle.places.specs.Tree.{Constraints, Completion, remove, upFrom, noneIn, legalReads, fitsAt, endsAt, firstOf, tryOne, tryBoth, fromCandidates, firstCompletion}
 use Rattle.places.specs.Tree.{EndAsks, placingAll, firstWhole, readAnswer, Answers, Answered}
@@ -72,20 +72,20 @@ first-has P f h (t ∷ c) q e = go (f t) refl e (first-has P f h c q)
 -- ---- the trees
 
 -- one that reads nothing from the store, as the end mostly does, is legal anywhere
-pub reads-none : (D : Constraints) (t : ℕ) → fact (D .facts) t 2 ≡ 0 → (p : List ℕ) → legalReads D p t ≡ true
+pub reads-none : (D : Constraints) (t : ℕ) → readsOf (D .facts) t ≡ 0 → (p : List ℕ) → legalReads D p t ≡ true
 unfolding legalReads
 reads-none D t e p = none-left _ (readsAsked (D .facts) (D .asked) t) (rw e (and-zero-l (D .asked)))
 
 module _ (D : Constraints) (n : ℕ) (asks : EndAsks (D .facts) n) where
   -- the end may come where none is left, if its store reads are legal
-  pub ends-last : (p : List ℕ) → endsAt D p [] ≡ legalReads D p 10
+  pub ends-last : (p : List ℕ) → endsAt D p [] ≡ legalReads D p endRow
   unfolding endsAt noneIn
   ends-last p = refl
 
   -- and not before
   pub ends-not : (p : List ℕ) (x : ℕ) (u : List ℕ) → x < n → endsAt D p (x ∷ u) ≡ false
   unfolding endsAt noneIn
-  ends-not p x u l = let one : bitAt x (afterOf (D .facts) 10) ≡ 1 = asks x l in rw one
+  ends-not p x u l = let one : bitAt x (afterOf (D .facts) endRow) ≡ 1 = asks x l in rw one
 
   trees-alike : (k : ℕ) (p u : List ℕ) → length u ≡ k → ((t : ℕ) → List·Memᴰ t u → t < n) → (c : List ℕ) → ((t : ℕ) → List·Memᴰ t c → List·Memᴰ t u)
       → fromCandidates D k p u c ≡ placingAll D k p u c
@@ -111,7 +111,7 @@ module _ (D : Constraints) (n : ℕ) (asks : EndAsks (D .facts) n) where
 -- so many places more
 long-by : (D : Constraints) (k : ℕ) (p u c q : List ℕ) → placingAll D k p u c ≡ some q → length q ≡ length p + k
 unfolding placingAll tryBoth tryOne
-long-by D zero p u c q e = go (legalReads D p 10) e
+long-by D zero p u c q e = go (legalReads D p endRow) e
   where
     go : (b : Bool) → cond b (some p) none ≡ some q → length q ≡ length p + 0
     go true d = let s : p ≡ q = cc in omega (arith, ap length s)

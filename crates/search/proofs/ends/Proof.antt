@@ -6,7 +6,7 @@ use native.Mathlib.Omega.{arith}
 use lib.Bits.{bitAnd}
 use lib.Dec.{eqb}
 use Rattle.places.specs.Bits.{members}
-use Rattle.places.specs.Facts.{afterOf}
+use Rattle.places.specs.Facts.{endRow, afterOf}
 use Rattle.places.specs.Tree.{endsAt, noneIn}
 use Rattle.places.proofs.BitLaws.{none-in-members}
 use borrow.Author.Needs.{needs}
@@ -14,8 +14,8 @@ use Rattle.search.proofs.ends.Statement.{statement}
 use Rattle.search.proofs.ends.Tie as tie
 
 -- none of the unplaced must come before the end exactly if the sets have no common member
-unplaced-before : (c : tie.Start) → let set = afterOf (c .args .facts .now) 10 in noneIn set (members (c .args .s .unplaced)) ≡ eqb (bitAnd set (c .args .s .unplaced)) 0
-unplaced-before c = none-in-members (afterOf (c .args .facts .now) 10) (c .args .s .unplaced) (omega (arith, c .pre .few))
+unplaced-before : (c : tie.Start) → let set = afterOf (c .args .facts .now) endRow in noneIn set (members (c .args .s .unplaced)) ≡ eqb (bitAnd set (c .args .s .unplaced)) 0
+unplaced-before c = none-in-members (afterOf (c .args .facts .now) endRow) (c .args .s .unplaced) (omega (arith, c .pre .few))
 
 index-1-if1 : tie.Need-index-1-if1
 index-1-if1 c = search needs

@@ -6,7 +6,7 @@ use native.Mathlib.Omega.{arith}
 use lib.Bits.{and-le-l}
 use lib.Pow.{pow-pos}
 use Rattle.places.specs.declared.state.Search.{Search}
-use Rattle.places.specs.Facts.{afterOf}
+use Rattle.places.specs.Facts.{endRow, allRegisters, afterOf}
 use Rattle.places.specs.Places.{codesOf}
 use Rattle.places.specs.State.{Sound}
 use Rattle.places.specs.Tree.{asking, constraints}
@@ -37,7 +37,7 @@ sub-t10 : tie.Need-sub-t10
 sub-t10 c = omega (arith, c .bit .ensures, pow-pos (c .before .args .n))
 
 choose-transaction-requires : tie.Need-choose-transaction-requires
-choose-transaction-requires c κs = let b = c .before .before in (sound b, (within-self _, nothing-known (b .before .args .facts .now) 4294967295))
+choose-transaction-requires c κs = let b = c .before .before in (sound b, (within-self _, nothing-known (b .before .args .facts .now) allRegisters))
 
 returns : tie.Need-returns
 unfolding codesOf
@@ -52,7 +52,7 @@ before-end-requires c κs = search needs
 stranded-requires : tie.Need-stranded-requires
 stranded-requires c κs =
     let b = c .before .before in
-    (sound b, omega (arith, sound b .few, c .before-end .ensures, and-le-l (b .bit .result - 1) (afterOf (b .before .args .facts .now) 10)))
+    (sound b, omega (arith, sound b .few, c .before-end .ensures, and-le-l (b .bit .result - 1) (afterOf (b .before .args .facts .now) endRow)))
 
 returns-2 : tie.Need-returns-2
 unfolding codesOf

@@ -3,7 +3,7 @@
 use mathlib.Core.Path.{ap}
 use native.Mathlib.Omega.{arith}
 use lib.Bits.{bitAnd, and-le-r}
-use Rattle.places.specs.Facts.{fact}
+use Rattle.places.specs.Facts.{readsOf}
 use borrow.Author.Needs.{needs}
 use Rattle.places.proofs.facts.reads_asked.Statement.{statement}
 use Rattle.places.proofs.facts.reads_asked.Tie as tie
@@ -23,10 +23,10 @@ wide-requires c κs = search needs
 cast-result : tie.Need-cast-result
 cast-result c =
     let a = c .before .before .args in
-    omega (arith, and-le-r (fact (a .facts .now) (a .t) 2) (c .wide .result), c .wide .ensures, c .before .before .fits .asked .fits)
+    omega (arith, and-le-r (readsOf (a .facts .now) (a .t)) (c .wide .result), c .wide .ensures, c .before .before .fits .asked .fits)
 
 returns : tie.Need-returns
-returns c = let a = c .before .before .args in ap (bitAnd (fact (a .facts .now) (a .t) 2)) (c .wide .ensures)
+returns c = let a = c .before .before .args in ap (bitAnd (readsOf (a .facts .now) (a .t))) (c .wide .ensures)
 
 pub reads-asked-spec : {M : Type 1} → statement M
 reads-asked-spec =

@@ -8,7 +8,7 @@ use native.Mathlib.Omega.{arith}
 use lib.Bits.{bitAnd}
 use lib.Pow.{pow-pos}
 use Rattle.places.specs.Bits.{bitAt}
-use Rattle.places.specs.Facts.{fact}
+use Rattle.places.specs.Facts.{readsOf}
 use Rattle.places.specs.State.{Within}
 use Rattle.places.proofs.BitLaws.{member-le, member-lt, and-member, member-and}
 use Rattle.places.proofs.SetLaws.{lowest-member, within-self, within-rest}
@@ -68,12 +68,12 @@ returns c =
     let a = asked .before .before .before .args in
     let t = asked .lowest .result in
     let found = c .before .orphan .ensures (c .if1 .taken) in
-    let read = and-member (found .register) (fact (a .facts .now) t 2) _ (rw (c .before .before .reads-asked .ensures) at (found .isRead)) in
+    let read = and-member (found .register) (readsOf (a .facts .now) t) _ (rw (c .before .before .reads-asked .ensures) at (found .isRead)) in
     let known = and-member (found .register) (a .asked) (c .before .before .before .overwritten .result) (read .1) in
     λ e. record {
       t = t;
       needed = asked .before .before .loop .inv .isIn t (isIn asked);
-      orphan = record { register = found .register; low = found .low; isRead = member-and (found .register) (fact (a .facts .now) t 2) (a .asked) (read .0) (known .0); lost = found .lost };
+      orphan = record { register = found .register; low = found .low; isRead = member-and (found .register) (readsOf (a .facts .now) t) (a .asked) (read .0) (known .0); lost = found .lost };
     }
 
 without-requires : tie.Need-without-requires Inv-loop μ-loop

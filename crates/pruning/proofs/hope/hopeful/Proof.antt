@@ -4,7 +4,7 @@ use mathlib.Core.Path.{_≡_}
 use mathlib.Core.Bool.{true≢false}
 use native.Mathlib.Omega.{arith}
 use lib.Bits.{bitXor, and-le-l, xor-lt}
-use Rattle.places.specs.Facts.{afterOf}
+use Rattle.places.specs.Facts.{endRow, afterOf}
 use Rattle.places.specs.Tree.{Constraints, asking}
 use Rattle.places.proofs.BitLaws.{xor-member}
 use Rattle.pruning.proofs.HopeLaws.{needs-of, hopeless}
@@ -47,7 +47,7 @@ bereft-requires c κs =
     let start = entered r in
     let u = start .args .s .unplaced in
     let low = xor-lt 10 u (r .ready-among .result) (start .pre .0 .few) (omega (arith, r .ready-among .ensures .within .few, start .pre .0 .few)) in
-    (start .pre .0, omega (arith, c .before-end .ensures, and-le-l (bitXor u (r .ready-among .result)) (afterOf (start .args .facts .now) 10), low))
+    (start .pre .0, omega (arith, c .before-end .ensures, and-le-l (bitXor u (r .ready-among .result)) (afterOf (start .args .facts .now) endRow), low))
 
 -- one that is not ready is unplaced
 returns-4 : tie.Need-returns-4
