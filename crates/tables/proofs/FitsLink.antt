@@ -20,7 +20,7 @@ use Rattle.opacity.specs.Justification.{Place, placed, contents, preceded, lega
 use Rattle.opacity.specs.Lowest.{place, fits}
 use Rattle.lists.proofs.ListLaws.{and-false-r, imp-e, imp-i, not-true, clash, every-e, every-i, both-ways}
 use Rattle.places.specs.Bits.{bitAt, members}
-use Rattle.places.specs.Facts.{fact, afterOf, allowedOf, readsAsked, requiredOf}
+use Rattle.places.specs.Facts.{allRegisters, afterOf, allowedOf, readsOf, readsAsked, requiredOf}
 use Rattle.places.specs.Places.{decode, writesIn}
 use Rattle.places.specs.Tree.{upFrom, legalAt, legalReads, noneIn, ruleNext, allowsOutcome, fitsAt}
 use Rattle.places.proofs.BitLaws.{bit-none}
@@ -161,7 +161,7 @@ module _ (o : List ℕ) (h : List Event) (good : Good h) (few : begins h ≤ 10)
         F = tablesOf h .facts
 
         set : ℕ
-        set = readsAsked F 4294967295 t
+        set = readsAsked F allRegisters t
 
         reads : Reads h (length h) F (tablesOf h .contradictory)
         reads = rw whole at (reads-hold h good (length h) (le-refl (length h)))
@@ -183,7 +183,7 @@ module _ (o : List ℕ) (h : List Event) (good : Good h) (few : begins h ≤ 10)
                 let r = eventAt h i .register in
                 let lr : r < 32 = good i l .register in
                 let w : requiredOf F t r ≡ eventAt h i .value + 1 = ap (λ (x : ℕ). requiredOf F x r) (sym e) ∙ reads .each i l (clear _) s in
-                let m : bitAt r (fact F t 2) ≡ 1 = ap (λ (x : ℕ). bitAt r (fact F x 2)) (sym e) ∙ marks .each i l s in
+                let m : bitAt r (readsOf F t) ≡ 1 = ap (λ (x : ℕ). bitAt r (readsOf F x)) (sym e) ∙ marks .each i l s in
                 let a : legalAt o F p t r ≡ true = member-passes (legalAt o F p t) set k r (omega arith) (reads-asked-all F t r lr m) in
                 let b : contents (startOf o) (writesIn F) (decode p) r ≡ eventAt h i .value = eqb-true _ _ (sym (legal-read o F p t r (eventAt h i .value) w) ∙ a) in
                 eq-eqb _ _ (sym b ∙ content r lr)
