@@ -99,7 +99,8 @@ module _ (edition : ℕ) (starts : List ℕ) (c : Columns) (count : ℕ) where
       cause-never-four (startOf starts) (history c count) (passed edition starts c count (s .0) .readable) e (s .1)
 
 -- What stands in the columns past the count makes no difference: columns that hold the same events below the count give the same answer.
-pub past-count : (edition : ℕ) (starts : List ℕ) (c d : Columns) (count : ℕ) → hold c count ≡ hold d count → history c count ≡ history d count → scanAnswer edition starts c count ≡ scanAnswer edition starts d count
+pub past-count : (edition : ℕ) (starts : List ℕ) (c d : Columns) (count : ℕ) → hold c count ≡ hold d count → history c count ≡ history d count
+    → scanAnswer edition starts c count ≡ scanAnswer edition starts d count
 unfolding scanAnswer scanRefusal historyAnswer
 past-count edition starts c d count e f = rw (e, f)
 

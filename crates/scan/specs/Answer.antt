@@ -59,4 +59,5 @@ scanAnswer edition starts c count = decided (scanRefusal edition starts c count)
 -- The answer of edition 1, where every register starts at 0, as it was before there were start values: 17 and no 3, and 0 in every
 -- register before any writer.
 unfoldable pub firstEditionAnswer : Columns → ℕ → Scanning
-firstEditionAnswer c count = decided (thenChecked (columnsAnswer c count) (sizeRefusal (history c count) count)) (scan zeros (history c count))
+firstEditionAnswer c count =
+    decided (thenChecked (columnsAnswer c count) (sizeRefusal (history c count) count)) (scan zeros (history c count))

@@ -18,7 +18,7 @@ use Rattle.events.specs.Questions.{readable}
 use Rattle.events.proofs.EventLaws.{begins-snoc, begins-same}
 use Rattle.events.proofs.QuestionLaws.{asked-at}
 use Rattle.places.specs.Bits.{bitAt}
-use Rattle.places.specs.Facts.{fact}
+use Rattle.places.specs.Facts.{endRow, afterOf, readsOf}
 use Rattle.places.specs.Tree.{EndAsks}
 use Rattle.tables.specs.Tables.{Tables, next, tablesOf}
 use Rattle.tables.specs.Order.{Judged}
@@ -27,9 +27,9 @@ use Rattle.tables.proofs.Meaning.{Good, tab, tab-suc, has-room, shaped,
 use Rattle.tables.proofs.GoodHistory.{good}
 
 module _ (h : List Event) (fine : Good h) where
-  pub end-reads : (n : ℕ) → n ≤ length h → fact (tab h fine n .facts) 10 2 ≡ 0
+  pub end-reads : (n : ℕ) → n ≤ length h → readsOf (tab h fine n .facts) endRow ≡ 0
   unfolding next
-  end-reads zero l = fact-zero 10 2 (omega arith) (omega arith)
+  end-reads zero l = fact-zero endRow 2 (omega arith) (omega arith)
   end-reads (suc n) l =
       rw (tab-suc h fine n l)
       (end-reads-next (tab h fine n .ended) (tab h fine n .facts) (shaped h fine n (le-of-lt l)) (eventAt h n) (has-room h fine n l) ∙ end-reads n (le-of-lt l))
@@ -45,7 +45,7 @@ module _ (h : List Event) (fine : Good h) where
     end-after (suc n) l k m =
         rw (tab-suc h fine n l)
         (ap (bitAt k) (end-next (s .ended) (s .facts) (shaped h fine n (le-of-lt l)) e (has-room h fine n l))
-        ∙ bit-joined (fact (s .facts) 10 0) (isBegin e) (e .transaction) k ∙ go (isBegin e) refl (eqb (e .transaction) k) refl (end-after n (le-of-lt l) k))
+        ∙ bit-joined (afterOf (s .facts) endRow) (isBegin e) (e .transaction) k ∙ go (isBegin e) refl (eqb (e .transaction) k) refl (end-after n (le-of-lt l) k))
       where
         s : Tables
         s = tab h fine n
@@ -53,8 +53,8 @@ module _ (h : List Event) (fine : Good h) where
         e : Event
         e = eventAt h n
 
-        go : (b : Bool) → isBegin e ≡ b → (d : Bool) → eqb (e .transaction) k ≡ d → (k < begins (take n h) → bitAt k (fact (s .facts) 10 0) ≡ 1)
-            → cond (d and b) 1 (bitAt k (fact (s .facts) 10 0)) ≡ 1
+        go : (b : Bool) → isBegin e ≡ b → (d : Bool) → eqb (e .transaction) k ≡ d → (k < begins (take n h) → bitAt k (afterOf (s .facts) endRow) ≡ 1)
+            → cond (d and b) 1 (bitAt k (afterOf (s .facts) endRow)) ≡ 1
         go true p true q ih = refl
         go true p false q ih =
             let c : begins (take (suc n) h) ≡ begins (take n h) + 1 = ap begins (take-suc h n noEvent l) ∙ begins-snoc (take n h) e p in

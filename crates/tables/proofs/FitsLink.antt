@@ -20,7 +20,7 @@ use Rattle.opacity.specs.Justification.{Place, placed, contents, preceded, lega
 use Rattle.opacity.specs.Lowest.{place, fits}
 use Rattle.lists.proofs.ListLaws.{and-false-r, imp-e, imp-i, not-true, clash, every-e, every-i, both-ways}
 use Rattle.places.specs.Bits.{bitAt, members}
-use Rattle.places.specs.Facts.{fact, afterOf, allowedOf, readsAsked, requiredOf}
+use Rattle.places.specs.Facts.{allRegisters, afterOf, allowedOf, readsOf, readsAsked, requiredOf}
 use Rattle.places.specs.Places.{decode, writesIn}
 use Rattle.places.specs.Tree.{upFrom, legalAt, legalReads, noneIn, ruleNext, allowsOutcome, fitsAt}
 use Rattle.places.proofs.BitLaws.{bit-none}
@@ -145,8 +145,15 @@ module _ (o : List ℕ) (h : List Event) (good : Good h) (few : begins h ≤ 10)
       let holds : allowedOf (tablesOf h .facts) t ≡ rule (status h t) = rw whole at (allowed-holds h good (length h) (le-refl (length h)) t (omega arith)) in
       rw holds (allows-link (status h t) c)
 
+  -- what event i reads from the store is what its register holds after the places p, and that of all events of t
+  abbrev returns-held : ℕ → Bool
+  returns-held i = eqb (eventAt h i .value) (contents (startOf o) h (decode p) (eventAt h i .register))
+
+  abbrev all-legal : Bool
+  all-legal = every (λ i. eqb (eventAt h i .transaction) t implies legalOver (startOf o) h (decode p) i) (length h)
+
   module _ (fine : tablesOf h .contradictory ≡ 0) where
-    store : legalReads (constraintsOf o (tablesOf h)) p t ≡ every (λ i. eqb (eventAt h i .transaction) t implies legalOver (startOf o) h (decode p) i) (length h)
+    store : legalReads (constraintsOf o (tablesOf h)) p t ≡ all-legal
     unfolding legalOver legalReads
     store = both-ways _ _ forth back
       where
@@ -154,7 +161,7 @@ module _ (o : List ℕ) (h : List Event) (good : Good h) (few : begins h ≤ 10)
         F = tablesOf h .facts
 
         set : ℕ
-        set = readsAsked F 4294967295 t
+        set = readsAsked F allRegisters t
 
         reads : Reads h (length h) F (tablesOf h .contradictory)
         reads = rw whole at (reads-hold h good (length h) (le-refl (length h)))
@@ -168,26 +175,28 @@ module _ (o : List ℕ) (h : List Event) (good : Good h) (few : begins h ≤ 10)
         content : (r : ℕ) → r < 32 → contents (startOf o) (writesIn F) (decode p) r ≡ contents (startOf o) h (decode p) r
         content r l = looked-up-contents o h good p (λ i k. omega (arith, st .known i k)) r l
 
-        forth : all (legalAt o F p t) (members set) ≡ true → every (λ i. eqb (eventAt h i .transaction) t implies (isStoreRead h i implies eqb (eventAt h i .value) (contents (startOf o) h (decode p) (eventAt h i .register)))) (length h) ≡ true
+        forth : all (legalAt o F p t) (members set) ≡ true → all-legal ≡ true
         forth k = every-i _ _ (λ i l. imp-i _ _ (λ e. imp-i _ _ (λ s. go i l (eqb-true _ _ e) s)))
           where
-            go : (i : ℕ) → i < length h → eventAt h i .transaction ≡ t → isStoreRead h i ≡ true → eqb (eventAt h i .value) (contents (startOf o) h (decode p) (eventAt h i .register)) ≡ true
+            go : (i : ℕ) → i < length h → eventAt h i .transaction ≡ t → isStoreRead h i ≡ true → returns-held i ≡ true
             go i l e s =
                 let r = eventAt h i .register in
                 let lr : r < 32 = good i l .register in
                 let w : requiredOf F t r ≡ eventAt h i .value + 1 = ap (λ (x : ℕ). requiredOf F x r) (sym e) ∙ reads .each i l (clear _) s in
-                let m : bitAt r (fact F t 2) ≡ 1 = ap (λ (x : ℕ). bitAt r (fact F x 2)) (sym e) ∙ marks .each i l s in
+                let m : bitAt r (readsOf F t) ≡ 1 = ap (λ (x : ℕ). bitAt r (readsOf F x)) (sym e) ∙ marks .each i l s in
                 let a : legalAt o F p t r ≡ true = member-passes (legalAt o F p t) set k r (omega arith) (reads-asked-all F t r lr m) in
                 let b : contents (startOf o) (writesIn F) (decode p) r ≡ eventAt h i .value = eqb-true _ _ (sym (legal-read o F p t r (eventAt h i .value) w) ∙ a) in
                 eq-eqb _ _ (sym b ∙ content r lr)
 
-        back : every (λ i. eqb (eventAt h i .transaction) t implies (isStoreRead h i implies eqb (eventAt h i .value) (contents (startOf o) h (decode p) (eventAt h i .register)))) (length h) ≡ true → all (legalAt o F p t) (members set) ≡ true
-        back k = members-pass (legalAt o F p t) set (λ r m. let l : r < 32 = marks .low t r (omega arith) (asked-reads F t r m) in ⊎-elim (legal-none o F p t r 0) (go r l) (reads .some-read t r (omega arith) l))
+        back : all-legal ≡ true → all (legalAt o F p t) (members set) ≡ true
+        back k =
+            members-pass (legalAt o F p t) set
+            (λ r m. let l : r < 32 = marks .low t r (omega arith) (asked-reads F t r m) in ⊎-elim (legal-none o F p t r 0) (go r l) (reads .some-read t r (omega arith) l))
           where
             go : (r : ℕ) → r < 32 → Wanted h (length h) t r (requiredOf F t r) → legalAt o F p t r ≡ true
             go r l w =
                 let i = w .event in
-                let a : eqb (eventAt h i .value) (contents (startOf o) h (decode p) (eventAt h i .register)) ≡ true =
+                let a : returns-held i ≡ true =
                 imp-e _ _ (imp-e _ _ (every-e _ _ k i (w .inside)) (eq-eqb _ _ (w .transaction))) (w .store) in
                 let b : eventAt h i .value ≡ contents (startOf o) h (decode p) r = eqb-true _ _ a ∙ ap (contents (startOf o) h (decode p)) (w .register) in
                 legal-read o F p t r (eventAt h i .value) (w .value) ∙ eq-eqb _ _ (content r l ∙ sym b)
@@ -197,5 +206,5 @@ module _ (o : List ℕ) (h : List Event) (good : Good h) (few : begins h ≤ 10)
     agree q c =
         let a : ltb t (begins h) ≡ true = lt-ltb t (begins h) lt in
         rw (real-time, store, a, q)
-        (picks (preceded h (decode p) t) (every (λ i. eqb (eventAt h i .transaction) t implies legalOver (startOf o) h (decode p) i) (length h)) (allowedOf (tablesOf h .facts) t) (digit c) (below-two c)
-        ∙ ap (λ (b : Bool). b and (preceded h (decode p) t and every (λ i. eqb (eventAt h i .transaction) t implies legalOver (startOf o) h (decode p) i) (length h))) (allowed c))
+        (picks (preceded h (decode p) t) all-legal (allowedOf (tablesOf h .facts) t) (digit c) (below-two c)
+        ∙ ap (λ (b : Bool). b and (preceded h (decode p) t and all-legal)) (allowed c))

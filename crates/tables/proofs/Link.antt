@@ -21,7 +21,7 @@ use Rattle.opacity.specs.Lowest.{fits, lowestOf}
 use Rattle.lists.proofs.ListLaws.{and-false-l, and-false-r, imp-e, clash, every-i}
 use Rattle.opacity.proofs.Least.{none-iff}
 use Rattle.places.specs.Bits.{bitAt}
-use Rattle.places.specs.Facts.{fact}
+use Rattle.places.specs.Facts.{endRow, readsOf}
 use Rattle.places.specs.Places.{decode}
 use Rattle.places.specs.Tree.{Completion, upFrom, firstWhole}
 use Rattle.places.proofs.BitLaws.{bit-none, lowest-in}
@@ -55,7 +55,7 @@ module _ (o : List ℕ) (h : List Event) (good : Good h) (begun : (i : ℕ) → 
   reads = rw (take-all (length h) h (le-refl (length h))) at (reads-hold h good (length h) (le-refl (length h)))
 
   -- the end reads nothing
-  end : fact (tablesOf h .facts) 10 2 ≡ 0
+  end : readsOf (tablesOf h .facts) endRow ≡ 0
   end = rw (take-all (length h) h (le-refl (length h))) at (end-reads h good (length h) (le-refl (length h)))
 
   -- a read that is wrong everywhere
@@ -74,7 +74,7 @@ module _ (o : List ℕ) (h : List Event) (good : Good h) (begun : (i : ℕ) → 
       rw own
       (trees (constraintsOf o (tablesOf h)) (fits (startOf o) h) (begins h)
       (λ p u s t l f c. agree o h good few p u s t l q f c)
-      (not-fresh (startOf o) h) (reads-none (constraintsOf o (tablesOf h)) 10 end) (begins h) [] (upFrom 0 (begins h)) (state-start (begins h)))
+      (not-fresh (startOf o) h) (reads-none (constraintsOf o (tablesOf h)) endRow end) (begins h) [] (upFrom 0 (begins h)) (state-start (begins h)))
 
   pub found-lowest : foundOrder o h ≡ lowestOf (startOf o) h
   unfolding foundOrder

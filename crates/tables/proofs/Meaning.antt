@@ -205,7 +205,8 @@ module _ (h : List Event) (good : Good h) where
 
         go : (d : Bool) → eqb (e .transaction) t ≡ d → (c : Bool) → isCommit e ≡ c → (x : Bool) → isAbort e ≡ x → (a : Bool) → asksCommit e ≡ a
             → cond d (cond c 1 (cond x 0 (cond a 2 (fact (s .facts) t 1)))) (fact (s .facts) t 1)
-            ≡ rule (cond (has isCommit t past or by isCommit t e) Status.committed (cond (has isAbort t past or by isAbort t e) Status.aborted (cond (has asksCommit t past or by asksCommit t e) Status.pending Status.live)))
+            ≡ rule (cond (has isCommit t past or by isCommit t e) Status.committed
+            (cond (has isAbort t past or by isAbort t e) Status.aborted (cond (has asksCommit t past or by asksCommit t e) Status.pending Status.live)))
         go false f c u x v a w = simp (by-other isCommit t e f, by-other isAbort t e f, by-other asksCommit t e f, or-false) q
         go true f true u x v a w = simp (by-same isCommit t e f, u, or-true)
         go true f false u true v a w =

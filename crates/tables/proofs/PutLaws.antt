@@ -168,7 +168,11 @@ module _ (ended : ℕ) (f : List (List ℕ)) (h : Shaped f) (e : Event) (its : T
   end-next =
       past-outcome 10 0 (λ n. omega arith)
       ∙ put-if-at (isBegin e) (endWith (writtenWith (readWith f e) e) e) end-shaped (e .transaction) 0 ended low (omega arith) 10
-      ∙ (rw (not-end, put-if-at (isBegin e) (writtenWith (readWith f e) e) written-shaped 10 0 (bitOr (fact (writtenWith (readWith f e) e) 10 0) (2 ^ e .transaction)) (omega arith) (omega arith) 10, after-before 10))
+      ∙ (rw (
+        not-end,
+        put-if-at (isBegin e) (writtenWith (readWith f e) e) written-shaped 10 0 (bitOr (fact (writtenWith (readWith f e) e) 10 0) (2 ^ e .transaction)) (omega arith) (omega arith) 10,
+        after-before 10,
+      ))
 
   pub end-reads-next : fact (factsWith ended f e) 10 2 ≡ fact f 10 2
   unfolding _and_

@@ -102,4 +102,5 @@ module _ (h : List Event) (good : Good h) where
       set : (u : ℕ) → fact (next s e .facts) u 2 ≡ cond (eqb (e .transaction) u and isStoreRead h n) (bitOr (fact (s .facts) (e .transaction) 2) (2 ^ e .register)) (fact (s .facts) u 2)
       set u =
           reads-next (s .ended) (s .facts) (shaped h good n (le-of-lt l)) e (has-room h good n l) u
-          ∙ ap (λ (b : Bool). cond (eqb (e .transaction) u and b) (bitOr (fact (s .facts) (e .transaction) 2) (2 ^ e .register)) (fact (s .facts) u 2)) (store-same h n (s .facts) (own-held h good n l))
+          ∙ ap (λ (b : Bool). cond (eqb (e .transaction) u and b) (bitOr (fact (s .facts) (e .transaction) 2) (2 ^ e .register)) (fact (s .facts) u 2))
+          (store-same h n (s .facts) (own-held h good n l))

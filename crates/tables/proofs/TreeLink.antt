@@ -17,6 +17,7 @@ use Rattle.opacity.specs.Justification.{Place, isOf, placed}
 use Rattle.opacity.specs.Lowest.{place, lowestPlace, goOn}
 use Rattle.lists.proofs.ListLaws.{or-false, not-true, not-false, below-cases, any-append, lowest-upwards}
 use Rattle.places.specs.Tree.{Constraints, Completion, remove, upFrom, legalReads, fitsAt, firstOf, tryOne, tryBoth, placingAll}
+use Rattle.places.specs.Facts.{endRow}
 use Rattle.places.specs.Places.{coded, decode}
 use Rattle.places.proofs.LookupLaws.{decode-snoc}
 use Rattle.tables.specs.Order.{decoded}
@@ -146,7 +147,7 @@ state-next n p u t c l s =
 module _ (D : Constraints) (ok : List Place → Place → Bool) (n : ℕ)
     (agree : (p u : List ℕ) → State n p u → (t : ℕ) → t < n → placed t (decode p) ≡ false → (c : Bool) → fitsAt D p u t (digit c) ≡ ok (decode p) (place t c))
     (fresh : (P : List Place) (p : Place) → placed (p .transaction) P ≡ true → ok P p ≡ false)
-    (ending : (p : List ℕ) → legalReads D p 10 ≡ true) where
+    (ending : (p : List ℕ) → legalReads D p endRow ≡ true) where
   -- what the definition tries next after P
   tries : ℕ → List Place → Place → Option (List Place)
   tries k P p = cond (ok P p) (goOn ok n k (P ++ (p ∷ []))) none

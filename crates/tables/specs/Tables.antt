@@ -10,7 +10,7 @@ use lib.Bits.{bitOr}
 use Rattle.lists.specs.Lists.{_and_}
 use Rattle.events.specs.declared.event.Event.{Event}
 use Rattle.events.specs.Events.{isBegin, isRead, isWrite, asksCommit, isCommit, isAbort, isEnd}
-use Rattle.places.specs.Facts.{fact, put, requiredOf, writtenOf}
+use Rattle.places.specs.Facts.{endRow, put, afterOf, allowedOf, readsOf, requiredOf, writtenOf}
 use Rattle.tables.specs.declared.Standing.{Standing}
 
 -- the transactions that have ended, the facts that the search is told, and the transactions with a read that is wrong wherever they are
@@ -36,8 +36,8 @@ putIf b f t k v = cond b (put f t k v) f
 unfoldable pub clashes : ℕ → ℕ → Bool
 clashes old v = not (eqb old 0) and not (eqb old v)
 
--- what a read by the event's transaction of its register returns, as far as its own events say: its last write there, or what its store reads
--- there returned; 0 if they say nothing
+-- what a read by the event's transaction of its register returns, as far as its own events say: its last write there, or what its store
+-- reads there returned; 0 if they say nothing
 unfoldable pub expected : List (List ℕ) → Event → ℕ
 expected f e =
     cond (eqb (writtenOf f (e .transaction) (e .register)) 0)
@@ -60,7 +60,7 @@ readsStore f e = isRead e and eqb (writtenOf f (e .transaction) (e .register)) 0
 abbrev pub readWith : List (List ℕ) → Event → List (List ℕ)
 readWith f e =
     putIf (readsStore f e)
-    (putIf (readsStore f e) f (e .transaction) 2 (bitOr (fact f (e .transaction) 2) (2 ^ e .register)))
+    (putIf (readsStore f e) f (e .transaction) 2 (bitOr (readsOf f (e .transaction)) (2 ^ e .register)))
     (e .transaction) (3 + e .register) (e .value + 1)
 
 abbrev pub writtenWith : List (List ℕ) → Event → List (List ℕ)
@@ -68,7 +68,7 @@ writtenWith f e = putIf (isWrite e) f (e .transaction) (35 + e .register) (e .va
 
 -- those that have ended come before one that begins, and that comes before the end
 abbrev pub endWith : List (List ℕ) → Event → List (List ℕ)
-endWith f e = putIf (isBegin e) f 10 0 (bitOr (fact f 10 0) (2 ^ e .transaction))
+endWith f e = putIf (isBegin e) f endRow 0 (bitOr (afterOf f endRow) (2 ^ e .transaction))
 
 abbrev pub afterWith : ℕ → List (List ℕ) → Event → List (List ℕ)
 afterWith ended f e = putIf (isBegin e) (endWith f e) (e .transaction) 0 ended
@@ -78,7 +78,7 @@ unfoldable pub ruleWith : ℕ → Event → ℕ
 ruleWith rule e = cond (isCommit e) 1 (cond (isAbort e) 0 (cond (asksCommit e) 2 rule))
 
 abbrev pub allowedWith : List (List ℕ) → Event → List (List ℕ)
-allowedWith f e = putIf true f (e .transaction) 1 (ruleWith (fact f (e .transaction) 1) e)
+allowedWith f e = putIf true f (e .transaction) 1 (ruleWith (allowedOf f (e .transaction)) e)
 
 abbrev pub factsWith : ℕ → List (List ℕ) → Event → List (List ℕ)
 factsWith ended f e = allowedWith (afterWith ended (writtenWith (readWith f e) e) e) e

@@ -32,7 +32,8 @@ returns-2 c =
     let a = told .before .before .args in
     let h = logged (take (a .count) (a .rows .now)) in
     c .scan-log .ensures
-    ∙ after-readable (a .starts .now) h (a .count) (logged-length _ ∙ length-take-le (a .count) (a .rows .now) (told .before .before .pre .room (told .enum-told .given .1))) (told .enum-told .given .1)
+    ∙ after-readable (a .starts .now) h (a .count) (logged-length _ ∙ length-take-le (a .count) (a .rows .now) (told .before .before .pre .room (told .enum-told .given .1)))
+    (told .enum-told .given .1)
 
 pub scan-admitted-spec : {M : Type 1} → statement M
 scan-admitted-spec =
