@@ -12,7 +12,7 @@ use mathlib.Core.Option.{Option, none, some}
 use lib.Dec.{eqb}
 use lib.ListN.{length, take, getD, set, replicate, length-set, length-replicate, getD-replicate}
 use lib.Seq.{take-suc, getD-set-same, getD-set-other}
-use borrow.Author.Tests.{eqb-true, eqb-false}
+use borrow.Author.Tests.{eqb-true, eqb-false, ne-eqb}
 use Rattle.lists.specs.Lists.{_and_, _implies_, isNone, orElse, keep, latest, range}
 use Rattle.lists.proofs.ListLaws.{and-false-l, and-false-r, eqb-self, latest-snoc, below-cases}
 use Rattle.events.specs.declared.event.Event.{Event}
@@ -22,7 +22,7 @@ use Rattle.opacity.specs.Transactions.{lastWrite, ownWrite, isOwnRead, isStoreR
 use Rattle.opacity.specs.Counts.{one}
 use Rattle.opacity.proofs.Bounds.{transaction-low, register-low}
 use Rattle.opacity.proofs.HowMany.{how-many-more, how-many-low}
-use Rattle.reads.specs.Own.{Low, slotOf, notedAt, valueBefore, OwnWrites}
+use Rattle.reads.specs.Own.{Low, slotOf, notedAt, readsStore, valueBefore, OwnWrites}
 
 pub low : (h : List Event) → readable h ≡ true → (i : ℕ) → i < length h → Low (eventAt h i)
 low h r i l = record { transaction = transaction-low h r i l; register = register-low h r i l }
@@ -203,6 +203,13 @@ module _ (h : List Event) (own : List ℕ) (o : OwnWrites h own) (i : ℕ) (l : 
   unfolding isStoreRead
   some-own n = and-false-r (isRead (eventAt h i)) _ (some-before (getD own i 0) (o .holds i l) n)
 
+  pub store-read : isStoreRead h i ≡ readsStore (eventAt h i) (getD own i 0)
+  store-read = go (eqb (getD own i 0) 0) refl
+    where
+      go : (b : Bool) → eqb (getD own i 0) 0 ≡ b → isStoreRead h i ≡ cond b (isRead (eventAt h i)) false
+      go true e = no-own (eqb-true _ 0 e)
+      go false e = some-own (eqb-false _ 0 e)
+
   -- rule C: without an own write nothing is asked, nor of what is no read
   pub right-none : getD own i 0 ≡ 0 → ownRight h i ≡ true
   unfolding ownRight isOwnRead _implies_
@@ -224,9 +231,58 @@ module _ (h : List Event) (own : List ℕ) (o : OwnWrites h own) (i : ℕ) (l : 
 
 -- ---- how many there are
 
+pub one-low : (b : Bool) → one b ≤ 1
+one-low true = omega arith
+one-low false = omega arith
+
+-- how far the count has come: the last writes are those of the events before i, as own writes of event i would be
+pub record Numbering (h : List Event) (last : List ℕ) (reads i : ℕ) : Type 0 where
+  pub own : List ℕ
+  pub noting : Noting h last own i
+  pub total : reads ≡ length (keep (isStoreRead h) (range i))
+
+pub numbering-first : (h : List Event) → Numbering h (replicate 2048 0) 0 0
+unfolding keep range
+numbering-first h = record { own = replicate 2048 0; noting = noting-first h; total = refl }
+
+-- event i is a store read by what the table has at its slot
+pub its-read : (h : List Event) (last own : List ℕ) (i : ℕ) → Noting h last own i → i < length h → Low (eventAt h i)
+    → isStoreRead h i ≡ readsStore (eventAt h i) (getD last (slotOf (eventAt h i)) 0)
+unfolding isStoreRead ownWrite _and_
+its-read h last own i w l low =
+    go (getD last (slotOf (eventAt h i)) 0) (w .slots _ _ (low .transaction) (low .register))
+  where
+    plain : (b : Bool) → (b and true) ≡ b
+    plain true = refl
+    plain false = refl
+
+    go : (x : ℕ) → valueBefore h x ≡ ownWrite h i → (isRead (eventAt h i) and isNone (ownWrite h i)) ≡ readsStore (eventAt h i) x
+    go zero v = rw (← v) (plain (isRead (eventAt h i)))
+    go (suc j) v = rw (← v, ne-eqb (suc j) 0 (λ z. omega arith)) (and-false-r (isRead (eventAt h i)) false refl)
+
 pub reads-more : (h : List Event) (i : ℕ)
     → length (keep (isStoreRead h) (range (i + 1))) ≡ length (keep (isStoreRead h) (range i)) + one (isStoreRead h i)
 reads-more h i = how-many-more (isStoreRead h) i
 
 pub reads-few : (h : List Event) (i : ℕ) → length (keep (isStoreRead h) (range i)) ≤ i
 reads-few h i = how-many-low (isStoreRead h) i
+
+pub numbering-more : (h : List Event) (last : List ℕ) (reads i : ℕ) → Numbering h last reads i → i < length h → i < 2048 → Low (eventAt h i)
+    → (e : Event) (k x n : ℕ) → e ≡ eventAt h i → k ≡ slotOf e → x ≡ notedAt e i (getD last k 0) → n ≡ one (readsStore e (getD last k 0))
+    → Numbering h (set last k x) (reads + n) (i + 1)
+numbering-more h last reads i w l few low e k x n same at noted adds =
+    record {
+      own = set (w .own) i (getD last k 0);
+      noting = noting-more h last (w .own) i (w .noting) l few low e k x same at noted;
+      total =
+          let q : readsStore e (getD last k 0) ≡ isStoreRead h i =
+          (λ j. readsStore (same j) (getD last ((at ∙ ap slotOf same) j) 0)) ∙ sym (its-read h last (w .own) i (w .noting) l low) in
+          omega (arith, w .total, adds, ap one q, reads-more h i);
+    }
+
+pub numbering-few : (h : List Event) (last : List ℕ) (reads i : ℕ) → Numbering h last reads i → reads ≤ i
+numbering-few h last reads i w = omega (arith, w .total, reads-few h i)
+
+pub numbering-done : (h : List Event) (last : List ℕ) (reads i : ℕ) → Numbering h last reads i → length h ≤ i → reads ≡ length (storeReads h)
+unfolding storeReads
+numbering-done h last reads i w l = let e : i ≡ length h = omega (arith, w .noting .inside) in rw e at (w .total)

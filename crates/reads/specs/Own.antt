@@ -3,12 +3,13 @@
 -- Assumes nothing.
 use Prim.Native.Nat.{ℕ, zero, suc, _+_, _*_, _≤_, _<_}
 use mathlib.Core.Path.{_≡_}
-use mathlib.Core.Bool.{Bool, cond}
+use mathlib.Core.Bool.{Bool, false, cond}
 use mathlib.Core.List.{List}
 use mathlib.Core.Option.{Option, none, some}
+use lib.Dec.{eqb}
 use lib.ListN.{length, getD}
 use Rattle.events.specs.declared.event.Event.{Event}
-use Rattle.events.specs.Events.{isWrite, eventAt}
+use Rattle.events.specs.Events.{isRead, isWrite, eventAt}
 use Rattle.opacity.specs.Transactions.{ownWrite}
 
 -- an event of a transaction and a register for which there is a slot
@@ -22,6 +23,10 @@ slotOf e = e .transaction * 32 + e .register
 -- one past event i, if it writes
 abbrev pub notedAt : Event → ℕ → ℕ → ℕ
 notedAt e i before = cond (isWrite e) (i + 1) before
+
+-- a read, where nothing stands for an own write
+abbrev pub readsStore : Event → ℕ → Bool
+readsStore e own = cond (eqb own 0) (isRead e) false
 
 -- the value that is written by the event before a number, none before 0
 abbrev pub valueBefore : List Event → ℕ → Option ℕ

@@ -10,7 +10,7 @@ ghost use Rattle.events.specs.Questions.{readable};
 ghost use Rattle.log.specs.Rows.{logged};
 ghost use Rattle.opacity.specs.Transactions.{isStoreRead, storeReads, ownRight};
 ghost use Rattle.opacity.specs.Counts.{one};
-ghost use Rattle.reads.specs.Own.{OwnWrites, Low, slotOf, notedAt};
+ghost use Rattle.reads.specs.Own.{OwnWrites, Low, slotOf, notedAt, readsStore};
 use events::event::Event;
 use events::event::is_read;
 use events::event::is_write;
@@ -54,16 +54,23 @@ pub fn own_writes(log: &[Row]) -> [u16; 2048]
     own
 }
 
+// Is it a read of the store, where this is what its transaction wrote last to its register?
+fn reads_store(e: Event, own: u16) -> bool
+    ensures { λ r. ⌜ r ≡ readsStore e own ⌝ }
+{
+    if own != 0 {
+        return false;
+    }
+    is_read(e)
+}
+
 // Is event i a read of the store?
 fn is_store_read(log: &[Row], own: &[u16; 2048], i: usize) -> bool
     requires { ⌜ OwnWrites (logged (now log)) (now own) ⌝ }
     requires { ⌜ (i < length (now log)) × (length (now log) ≤ 2048) ⌝ }
     ensures { λ r. ⌜ r ≡ isStoreRead (logged (now (log .entry))) i ⌝ }
 {
-    if own[i] != 0 {
-        return false;
-    }
-    is_read(event_at(log, i))
+    reads_store(event_at(log, i), own[i])
 }
 
 // Which events are reads of the store.
@@ -108,16 +115,20 @@ fn one_if(holds: bool) -> usize
     0
 }
 
-// How many reads of the store the log has.
+// How many reads of the store the log has. It goes by the last writes alone, since a copy of the table by
+// event would take longer than the events of a short log.
 pub fn count_store_reads(log: &[Row]) -> usize
     requires { ⌜ readable (logged (now log)) ≡ true ⌝ }
     ensures { λ r. ⌜ r ≡ length (storeReads (logged (now (log .entry)))) ⌝ }
 {
-    let own = own_writes(log);
+    let mut last = [0u16; 2048];
     let mut reads: usize = 0;
     let mut i: usize = 0;
     while i < log.len() {
-        reads += one_if(is_store_read(log, &own, i));
+        let e = event_at(log, i);
+        let k = slot_of(e);
+        reads += one_if(reads_store(e, last[k]));
+        last[k] = noted_at(e, i, last[k]);
         i += 1;
     }
     reads
