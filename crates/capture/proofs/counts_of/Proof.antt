@@ -7,12 +7,6 @@ use Rattle.capture.specs.Report.{countsOf}
 use Rattle.capture.proofs.counts_of.Statement.{statement}
 use Rattle.capture.proofs.counts_of.Tie as tie
 
-transactions-begun-requires : tie.Need-transactions-begun-requires
-transactions-begun-requires c κs = search needs
-
-count-store-reads-requires : tie.Need-count-store-reads-requires
-count-store-reads-requires c κs = search needs
-
 returns : tie.Need-returns
 unfolding countsOf counts
 returns c =
@@ -24,4 +18,4 @@ returns c =
 
 pub counts-of-spec : {M : Type 1} → statement M
 counts-of-spec =
-    tie.close (tie.spec transactions-begun-requires count-store-reads-requires returns)
+    tie.close (tie.spec (λ c κs. search needs) (λ c κs. search needs) returns)

@@ -7,18 +7,6 @@ use Rattle.capture.specs.Report.{opacityOf, judged}
 use Rattle.capture.proofs.judge_log.Statement.{statement}
 use Rattle.capture.proofs.judge_log.Tie as tie
 
-counts-of-requires : tie.Need-counts-of-requires
-counts-of-requires c κs = search needs
-
-tally-of-requires : tie.Need-tally-of-requires
-tally-of-requires c κs = search needs
-
-marking-of-requires : tie.Need-marking-of-requires
-marking-of-requires c κs = search needs
-
-scan-log-requires : tie.Need-scan-log-requires
-scan-log-requires c κs = search needs
-
 returns : tie.Need-returns
 unfolding judged opacityOf scanOf
 returns c =
@@ -27,4 +15,5 @@ returns c =
 pub judge-log-spec : {M : Type 1} → statement M
 judge-log-spec =
     tie.close
-    (tie.spec counts-of-requires tally-of-requires marking-of-requires scan-log-requires returns)
+    (tie.spec (λ c κs. search needs) (λ c κs. search needs) (λ c κs. search needs)
+    (λ c κs. search needs) returns)

@@ -19,15 +19,6 @@ line a =
     let h = logged (s .log .now) in
     ap lineOf (a .check-log .ensures) ∙ ruled-line (startOf (s .starts .now)) h (fileRead (known h) (s .file .now))
 
-check-log-requires : tie.Need-check-log-requires
-check-log-requires c κs = search needs
-
-enum-known-ruling : tie.Need-enum-known-ruling
-enum-known-ruling c = search needs
-
-enum-known-ruling-2 : tie.Need-enum-known-ruling-2
-enum-known-ruling-2 c = search needs
-
 returns : tie.Need-returns
 returns c = ap lineOf (sym (c .before .ruling .given .1)) ∙ line (c .before .before .before)
 
@@ -36,4 +27,5 @@ returns-2 c = ap lineOf (sym (c .before .ruling2 .given .1)) ∙ line (c .before
 
 pub marking-of-spec : {M : Type 1} → statement M
 marking-of-spec =
-    tie.close (tie.spec check-log-requires enum-known-ruling enum-known-ruling-2 returns returns-2)
+    tie.close (tie.spec (λ c κs. search needs) (λ c. search needs) (λ c. search needs) returns
+    returns-2)

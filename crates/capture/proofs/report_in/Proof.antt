@@ -24,12 +24,6 @@ count t = t .reading .given .0 .0
 its-rows : (t : tie.After-reading) → Admitted (eventsIn (entered (read t) .args .history .now)) (count t) (read t .read-log .last .1 .0)
 its-rows t = read t .read-log .ensures .1 (count t) (t .reading .given .1)
 
-read-log-requires : tie.Need-read-log-requires
-read-log-requires c κs = search needs
-
-enum-known-reading : tie.Need-enum-known-reading
-enum-known-reading c = search needs
-
 slice-reshare-prefix-judge-log : tie.Need-slice-reshare-prefix-judge-log
 slice-reshare-prefix-judge-log c = its-rows (c .before .before) .room
 
@@ -38,9 +32,6 @@ slice-aggregate-judge-log c = sym (length-take-le _ _ (its-rows (c .before .befo
 
 judge-log-requires : tie.Need-judge-log-requires
 judge-log-requires c κs = let a = its-rows (c .before .before .before) in ap readable (a .same) ∙ a .readable
-
-enum-known-reading-2 : tie.Need-enum-known-reading-2
-enum-known-reading-2 c = search needs
 
 same-length : tie.Need-same-length
 same-length c = read (c .before .before .before .before) .read-log .kept .1 .0
@@ -65,14 +56,6 @@ returns-2 c =
 pub report-in-spec : {M : Type 1} → statement M
 report-in-spec =
     tie.close
-    (tie.spec
-    read-log-requires
-    enum-known-reading
-    slice-reshare-prefix-judge-log
-    slice-aggregate-judge-log
-    judge-log-requires
-    enum-known-reading-2
-    same-length
-    returns
-    same-length-2
-    returns-2)
+    (tie.spec (λ c κs. search needs) (λ c. search needs) slice-reshare-prefix-judge-log
+    slice-aggregate-judge-log judge-log-requires (λ c. search needs) same-length returns
+    same-length-2 returns-2)

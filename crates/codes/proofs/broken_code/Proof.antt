@@ -6,12 +6,6 @@ use borrow.Author.Needs.{needs}
 use Rattle.codes.proofs.broken_code.Statement.{statement}
 use Rattle.codes.proofs.broken_code.Tie as tie
 
-rule-code-requires : tie.Need-rule-code-requires
-rule-code-requires c κs = search needs
-
-join-requires : tie.Need-join-requires
-join-requires c κs = search needs
-
 pack-requires : tie.Need-pack-requires
 pack-requires c κs = c .join .ensures .1
 
@@ -20,4 +14,5 @@ unfolding coded
 returns c = c .pack .ensures ∙ ap₂ packed (c .before .before .rule-code .ensures) (c .before .join .ensures .0)
 
 pub broken-code-spec : {M : Type 1} → statement M
-broken-code-spec = tie.close (tie.spec rule-code-requires join-requires pack-requires returns)
+broken-code-spec = tie.close (tie.spec (λ c κs. search needs) (λ c κs. search needs) pack-requires
+    returns)

@@ -8,22 +8,13 @@ use borrow.Author.Needs.{needs}
 use Rattle.codes.proofs.check_code.Statement.{statement}
 use Rattle.codes.proofs.check_code.Tie as tie
 
-enum-known-answer : tie.Need-enum-known-answer
-enum-known-answer c = search needs
-
 verdict-code-requires : tie.Need-verdict-code-requires
 unfolding said
 verdict-code-requires c κs = subst (λ (x : Checking). Known (said x)) (c .before .answer .given .1) (c .before .before .before .pre)
 
-enum-known-answer-2 : tie.Need-enum-known-answer-2
-enum-known-answer-2 c = search needs
-
 refusal-code-requires : tie.Need-refusal-code-requires
 unfolding said
 refusal-code-requires c κs = subst (λ (x : Checking). Known (said x)) (c .before .answer2 .given .1) (c .before .before .before .pre) .1
-
-enum-known-answer-3 : tie.Need-enum-known-answer-3
-enum-known-answer-3 c = search needs
 
 refusal-code-requires-2 : tie.Need-refusal-code-requires-2
 unfolding said
@@ -44,13 +35,5 @@ returns-3 c = c .refusal-code2 .ensures ∙ sym (ap (λ (x : Checking). coded (s
 pub check-code-spec : {M : Type 1} → statement M
 check-code-spec =
     tie.close
-    (tie.spec
-    enum-known-answer
-    verdict-code-requires
-    enum-known-answer-2
-    refusal-code-requires
-    enum-known-answer-3
-    refusal-code-requires-2
-    returns
-    returns-2
-    returns-3)
+    (tie.spec (λ c. search needs) verdict-code-requires (λ c. search needs) refusal-code-requires
+    (λ c. search needs) refusal-code-requires-2 returns returns-2 returns-3)

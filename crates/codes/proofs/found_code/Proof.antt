@@ -8,21 +8,9 @@ use borrow.Author.Needs.{needs}
 use Rattle.codes.proofs.found_code.Statement.{statement}
 use Rattle.codes.proofs.found_code.Tie as tie
 
-enum-known-answer : tie.Need-enum-known-answer
-enum-known-answer c = search needs
-
 pack-requires : tie.Need-pack-requires
 unfolding said
 pack-requires c κs = subst (λ (x : Finding). Known (said x)) (c .before .answer .given .1) (c .before .before .before .pre)
-
-enum-told : tie.Need-enum-told
-enum-told c = search needs
-
-pack-requires-2 : tie.Need-pack-requires-2
-pack-requires-2 c κs = search needs
-
-enum-known-answer-2 : tie.Need-enum-known-answer-2
-enum-known-answer-2 c = search needs
 
 refusal-code-requires : tie.Need-refusal-code-requires
 unfolding said
@@ -43,13 +31,5 @@ returns-3 c = c .refusal-code .ensures ∙ sym (ap (λ (x : Finding). coded (sai
 pub found-code-spec : {M : Type 1} → statement M
 found-code-spec =
     tie.close
-    (tie.spec
-    enum-known-answer
-    pack-requires
-    enum-told
-    pack-requires-2
-    enum-known-answer-2
-    refusal-code-requires
-    returns
-    returns-2
-    returns-3)
+    (tie.spec (λ c. search needs) pack-requires (λ c. search needs) (λ c κs. search needs)
+    (λ c. search needs) refusal-code-requires returns returns-2 returns-3)

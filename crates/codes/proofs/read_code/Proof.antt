@@ -8,21 +8,12 @@ use borrow.Author.Needs.{needs}
 use Rattle.codes.proofs.read_code.Statement.{statement}
 use Rattle.codes.proofs.read_code.Tie as tie
 
-cast-edition : tie.Need-cast-edition
-cast-edition c = search needs
-
-enum-known-reading : tie.Need-enum-known-reading
-enum-known-reading c = search needs
-
 join-requires : tie.Need-join-requires
 unfolding said
 join-requires c κs = subst (λ (x : Reading). Known (saidOf (c .before .before .before .before .args .answer .edition) x)) (c .before .reading .given .1) (c .before .before .before .before .pre)
 
 pack-requires : tie.Need-pack-requires
 pack-requires c κs = c .join .ensures .1
-
-enum-known-reading-2 : tie.Need-enum-known-reading-2
-enum-known-reading-2 c = search needs
 
 refusal-code-requires : tie.Need-refusal-code-requires
 unfolding said
@@ -39,12 +30,5 @@ returns-2 c = c .refusal-code .ensures ∙ sym (ap (λ (x : Reading). coded (sai
 pub read-code-spec : {M : Type 1} → statement M
 read-code-spec =
     tie.close
-    (tie.spec
-    cast-edition
-    enum-known-reading
-    join-requires
-    pack-requires
-    enum-known-reading-2
-    refusal-code-requires
-    returns
-    returns-2)
+    (tie.spec (λ c. search needs) (λ c. search needs) join-requires pack-requires
+    (λ c. search needs) refusal-code-requires returns returns-2)

@@ -8,15 +8,9 @@ use borrow.Author.Needs.{needs}
 use Rattle.codes.proofs.scan_code.Statement.{statement}
 use Rattle.codes.proofs.scan_code.Tie as tie
 
-enum-known-answer : tie.Need-enum-known-answer
-enum-known-answer c = search needs
-
 scanned-code-requires : tie.Need-scanned-code-requires
 unfolding said
 scanned-code-requires c κs = subst (λ (x : Scanning). Known (said x)) (c .before .answer .given .1) (c .before .before .before .pre)
-
-enum-known-answer-2 : tie.Need-enum-known-answer-2
-enum-known-answer-2 c = search needs
 
 refusal-code-requires : tie.Need-refusal-code-requires
 unfolding said
@@ -33,10 +27,5 @@ returns-2 c = c .refusal-code .ensures ∙ sym (ap (λ (x : Scanning). coded (sa
 pub scan-code-spec : {M : Type 1} → statement M
 scan-code-spec =
     tie.close
-    (tie.spec
-    enum-known-answer
-    scanned-code-requires
-    enum-known-answer-2
-    refusal-code-requires
-    returns
-    returns-2)
+    (tie.spec (λ c. search needs) scanned-code-requires (λ c. search needs) refusal-code-requires
+    returns returns-2)

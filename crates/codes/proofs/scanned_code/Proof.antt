@@ -9,15 +9,6 @@ use borrow.Author.Needs.{needs}
 use Rattle.codes.proofs.scanned_code.Statement.{statement}
 use Rattle.codes.proofs.scanned_code.Tie as tie
 
-enum-told : tie.Need-enum-told
-enum-told c = search needs
-
-pack-requires : tie.Need-pack-requires
-pack-requires c κs = search needs
-
-enum-known-scanned : tie.Need-enum-known-scanned
-enum-known-scanned c = search needs
-
 add-pack : tie.Need-add-pack
 add-pack c = let k = subst (λ (x : Scanned). Known (scannedSaid x)) (c .before .scanned .given .1) (c .before .before .before .pre) in omega (arith, k .0 .most)
 
@@ -35,11 +26,5 @@ returns-2 c = c .pack2 .ensures ∙ sym (ap (λ (x : Scanned). coded (scannedSai
 pub scanned-code-spec : {M : Type 1} → statement M
 scanned-code-spec =
     tie.close
-    (tie.spec
-    enum-told
-    pack-requires
-    enum-known-scanned
-    add-pack
-    pack-requires-2
-    returns
-    returns-2)
+    (tie.spec (λ c. search needs) (λ c κs. search needs) (λ c. search needs) add-pack
+    pack-requires-2 returns returns-2)

@@ -8,9 +8,6 @@ use borrow.Author.Needs.{needs}
 use Rattle.codes.proofs.straighten_code.Statement.{statement}
 use Rattle.codes.proofs.straighten_code.Tie as tie
 
-enum-known-answer : tie.Need-enum-known-answer
-enum-known-answer c = search needs
-
 join-requires : tie.Need-join-requires
 unfolding said
 join-requires c κs = subst (λ (x : Straightening). Known (said x)) (c .before .answer .given .1) (c .before .before .before .pre)
@@ -18,22 +15,13 @@ join-requires c κs = subst (λ (x : Straightening). Known (said x)) (c .before 
 pack-requires : tie.Need-pack-requires
 pack-requires c κs = c .join .ensures .1
 
-enum-known-answer-2 : tie.Need-enum-known-answer-2
-enum-known-answer-2 c = search needs
-
 broken-code-requires : tie.Need-broken-code-requires
 unfolding said
 broken-code-requires c κs = subst (λ (x : Straightening). Known (said x)) (c .before .answer2 .given .1) (c .before .before .before .pre) .1
 
-enum-known-answer-3 : tie.Need-enum-known-answer-3
-enum-known-answer-3 c = search needs
-
 refusal-code-requires : tie.Need-refusal-code-requires
 unfolding said
 refusal-code-requires c κs = subst (λ (x : Straightening). Known (said x)) (c .before .answer3 .given .1) (c .before .before .before .pre) .1
-
-enum-known-answer-4 : tie.Need-enum-known-answer-4
-enum-known-answer-4 c = search needs
 
 refusal-code-requires-2 : tie.Need-refusal-code-requires-2
 unfolding said
@@ -58,17 +46,6 @@ returns-4 c = c .refusal-code2 .ensures ∙ sym (ap (λ (x : Straightening). cod
 pub straighten-code-spec : {M : Type 1} → statement M
 straighten-code-spec =
     tie.close
-    (tie.spec
-    enum-known-answer
-    join-requires
-    pack-requires
-    enum-known-answer-2
-    broken-code-requires
-    enum-known-answer-3
-    refusal-code-requires
-    enum-known-answer-4
-    refusal-code-requires-2
-    returns
-    returns-2
-    returns-3
-    returns-4)
+    (tie.spec (λ c. search needs) join-requires pack-requires (λ c. search needs)
+    broken-code-requires (λ c. search needs) refusal-code-requires (λ c. search needs)
+    refusal-code-requires-2 returns returns-2 returns-3 returns-4)

@@ -8,18 +8,12 @@ use borrow.Author.Needs.{needs}
 use Rattle.codes.proofs.tally_code.Statement.{statement}
 use Rattle.codes.proofs.tally_code.Tie as tie
 
-enum-known-answer : tie.Need-enum-known-answer
-enum-known-answer c = search needs
-
 tally-place-requires : tie.Need-tally-place-requires
 unfolding tallySaid
 tally-place-requires c κs = subst (λ (x : Tallying). Known (tallySaid x)) (c .before .answer .given .1) (c .before .before .before .pre)
 
 pack-requires : tie.Need-pack-requires
 pack-requires c κs = c .tally-place .ensures .1
-
-enum-known-answer-2 : tie.Need-enum-known-answer-2
-enum-known-answer-2 c = search needs
 
 refusal-code-requires : tie.Need-refusal-code-requires
 unfolding tallySaid
@@ -36,11 +30,5 @@ returns-2 c = c .refusal-code .ensures ∙ sym (ap (λ (x : Tallying). coded (ta
 pub tally-code-spec : {M : Type 1} → statement M
 tally-code-spec =
     tie.close
-    (tie.spec
-    enum-known-answer
-    tally-place-requires
-    pack-requires
-    enum-known-answer-2
-    refusal-code-requires
-    returns
-    returns-2)
+    (tie.spec (λ c. search needs) tally-place-requires pack-requires (λ c. search needs)
+    refusal-code-requires returns returns-2)

@@ -8,15 +8,6 @@ use borrow.Author.Needs.{needs}
 use Rattle.codes.proofs.verdict_code.Statement.{statement}
 use Rattle.codes.proofs.verdict_code.Tie as tie
 
-enum-told : tie.Need-enum-told
-enum-told c = search needs
-
-pack-requires : tie.Need-pack-requires
-pack-requires c κs = search needs
-
-enum-known-verdict : tie.Need-enum-known-verdict
-enum-known-verdict c = search needs
-
 broken-code-requires : tie.Need-broken-code-requires
 broken-code-requires c κs = subst (λ (x : Verdict). Known (verdictSaid x)) (c .before .verdict .given .1) (c .before .before .before .pre) .1
 
@@ -30,4 +21,5 @@ returns-2 c = c .broken-code .ensures ∙ sym (ap (λ (x : Verdict). coded (verd
 pub verdict-code-spec : {M : Type 1} → statement M
 verdict-code-spec =
     tie.close
-    (tie.spec enum-told pack-requires enum-known-verdict broken-code-requires returns returns-2)
+    (tie.spec (λ c. search needs) (λ c κs. search needs) (λ c. search needs) broken-code-requires
+    returns returns-2)

@@ -8,20 +8,11 @@ use Rattle.counts.specs.Answer.{transactionsOf}
 use Rattle.counts.proofs.count_begun.Statement.{statement}
 use Rattle.counts.proofs.count_begun.Tie as tie
 
-enum-known-checked : tie.Need-enum-known-checked
-enum-known-checked c = search needs
-
 returns : tie.Need-returns
 returns c = rw (c .before .checked .given .1)
 
-enum-told : tie.Need-enum-told
-enum-told c = search needs
-
 slice-aggregate-transactions-begun : tie.Need-slice-aggregate-transactions-begun
 slice-aggregate-transactions-begun c = sym (length-take-le _ _ (c .before .before .before .pre .room (c .before .enum-told .given .1)))
-
-transactions-begun-requires : tie.Need-transactions-begun-requires
-transactions-begun-requires c κs = search needs
 
 returns-2 : tie.Need-returns-2
 unfolding counts
@@ -30,10 +21,5 @@ returns-2 c = rw (c .before .before .enum-told .given .1, c .transactions-begun 
 pub count-begun-spec : {M : Type 1} → statement M
 count-begun-spec =
     tie.close
-    (tie.spec
-    enum-known-checked
-    returns
-    enum-told
-    slice-aggregate-transactions-begun
-    transactions-begun-requires
-    returns-2)
+    (tie.spec (λ c. search needs) returns (λ c. search needs) slice-aggregate-transactions-begun
+    (λ c κs. search needs) returns-2)

@@ -8,14 +8,8 @@ use Rattle.counts.specs.Answer.{storeReadsOf}
 use Rattle.counts.proofs.count_reads.Statement.{statement}
 use Rattle.counts.proofs.count_reads.Tie as tie
 
-enum-known-checked : tie.Need-enum-known-checked
-enum-known-checked c = search needs
-
 returns : tie.Need-returns
 returns c = rw (c .before .checked .given .1)
-
-enum-told : tie.Need-enum-told
-enum-told c = search needs
 
 slice-aggregate-count-store-reads : tie.Need-slice-aggregate-count-store-reads
 slice-aggregate-count-store-reads c = sym (length-take-le _ _ (c .before .before .before .pre .room (c .before .enum-told .given .1)))
@@ -30,10 +24,5 @@ returns-2 c = rw (c .before .before .enum-told .given .1, c .count-store-reads .
 pub count-reads-spec : {M : Type 1} → statement M
 count-reads-spec =
     tie.close
-    (tie.spec
-    enum-known-checked
-    returns
-    enum-told
-    slice-aggregate-count-store-reads
-    count-store-reads-requires
-    returns-2)
+    (tie.spec (λ c. search needs) returns (λ c. search needs) slice-aggregate-count-store-reads
+    count-store-reads-requires returns-2)

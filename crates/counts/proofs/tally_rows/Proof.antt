@@ -8,14 +8,8 @@ use Rattle.counts.specs.Answer.{tallyOf}
 use Rattle.counts.proofs.tally_rows.Statement.{statement}
 use Rattle.counts.proofs.tally_rows.Tie as tie
 
-enum-known-checked : tie.Need-enum-known-checked
-enum-known-checked c = search needs
-
 returns : tie.Need-returns
 returns c = rw (c .before .checked .given .1)
-
-enum-told : tie.Need-enum-told
-enum-told c = search needs
 
 slice-aggregate-tally-of : tie.Need-slice-aggregate-tally-of
 slice-aggregate-tally-of c = sym (length-take-le _ _ (c .before .before .before .pre .room (c .before .enum-told .given .1)))
@@ -29,10 +23,5 @@ returns-2 c = rw (c .before .before .enum-told .given .1, c .tally-of .ensures)
 pub tally-rows-spec : {M : Type 1} → statement M
 tally-rows-spec =
     tie.close
-    (tie.spec
-    enum-known-checked
-    returns
-    enum-told
-    slice-aggregate-tally-of
-    tally-of-requires
-    returns-2)
+    (tie.spec (λ c. search needs) returns (λ c. search needs) slice-aggregate-tally-of
+    tally-of-requires returns-2)

@@ -13,16 +13,10 @@ use Rattle.finder.proofs.find_admitted.Tie as tie
 abbrev entered : tie.After-enum-told → tie.Start
 entered a = a .before .before .before
 
-enum-known-checked : tie.Need-enum-known-checked
-enum-known-checked c = search needs
-
 returns : tie.Need-returns
 returns c =
     let a = c .before .before .before .before .args in
     after-refused (a .starts .now) (logged (take (a .prefix) (a .rows .now))) (a .count) (a .output .now) (c .before .checked .given .1)
-
-enum-told : tie.Need-enum-told
-enum-told c = search needs
 
 slice-aggregate-find-log : tie.Need-slice-aggregate-find-log
 slice-aggregate-find-log c = sym (length-take-le _ _ (omega (arith, entered (c .before) .pre .0 .room (c .before .enum-told .given .1), entered (c .before) .pre .1)))
@@ -33,9 +27,6 @@ find-log-requires c κs =
     let s = entered t in
     prefix-readable (s .args .count) (s .args .prefix) (s .args .rows .now) (s .pre .1)
     (s .pre .0 .room (t .enum-told .given .1)) (s .pre .0 .readable (t .enum-told .given .1))
-
-same-length : tie.Need-same-length
-same-length c = search needs
 
 returns-2 : tie.Need-returns-2
 returns-2 c =
@@ -48,11 +39,5 @@ returns-2 c =
 pub find-admitted-spec : {M : Type 1} → statement M
 find-admitted-spec =
     tie.close
-    (tie.spec
-    enum-known-checked
-    returns
-    enum-told
-    slice-aggregate-find-log
-    find-log-requires
-    same-length
-    returns-2)
+    (tie.spec (λ c. search needs) returns (λ c. search needs) slice-aggregate-find-log
+    find-log-requires (λ c. search needs) returns-2)

@@ -28,9 +28,6 @@ given s = logged (s .args .log .now)
 few : (a : tie.After-count-store-reads) → begins (given (entered a)) ≤ 10
 few a = let counts = a .before .before .transactions-begun .ensures in omega (arith, a .before .if1 .left)
 
-transactions-begun-requires : tie.Need-transactions-begun-requires
-transactions-begun-requires c κs = search needs
-
 returns : tie.Need-returns
 unfolding findOf
 returns c =
@@ -38,15 +35,6 @@ returns c =
     let d = s .args .output .now in
     let counts = c .before .transactions-begun .ensures in
     decided-refused (lowestMarking (startOf (s .args .starts .now)) (given s)) d (refused-31 (given s) (s .args .count) (length d) (omega (arith, c .if1 .taken)))
-
-count-store-reads-requires : tie.Need-count-store-reads-requires
-count-store-reads-requires c κs = search needs
-
-mul-if2 : tie.Need-mul-if2
-mul-if2 c = search needs
-
-add-if2 : tie.Need-add-if2
-add-if2 c = search needs
 
 mul-if2-2 : tie.Need-mul-if2-2
 mul-if2-2 c = let s = entered c in let q = reads-low (given s) (s .pre) in omega (arith, c .count-store-reads .ensures)
@@ -70,9 +58,6 @@ find-lowest-requires c κs =
     let counts = a .before .before .transactions-begun .ensures in
     (record { readable = entered a .pre; few = few a }, omega (arith, c .before .if2 .left, a .count-store-reads .ensures))
 
-same-length : tie.Need-same-length
-same-length c = search needs
-
 returns-3 : tie.Need-returns-3
 unfolding findOf
 returns-3 c =
@@ -90,15 +75,6 @@ returns-3 c =
 pub find-log-spec : {M : Type 1} → statement M
 find-log-spec =
     tie.close
-    (tie.spec
-    transactions-begun-requires
-    returns
-    count-store-reads-requires
-    mul-if2
-    add-if2
-    mul-if2-2
-    add-if2-2
-    returns-2
-    find-lowest-requires
-    same-length
+    (tie.spec (λ c κs. search needs) returns (λ c κs. search needs) (λ c. search needs)
+    (λ c. search needs) mul-if2-2 add-if2-2 returns-2 find-lowest-requires (λ c. search needs)
     returns-3)

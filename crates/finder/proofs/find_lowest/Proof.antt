@@ -71,9 +71,6 @@ marks g =
     arrays-mark (given s) (length (s .args .log .now)) (logged-length (s .args .log .now)) (a .codes-of .result) _ _ (a .before .transactions-begun .result)
     (omega (arith, few a)) (arrayed (g .before) .placed-by .ensures) _ (g .before .store-reads .ensures) _ (g .gaps-of .ensures)
 
-find-order-requires : tie.Need-find-order-requires
-find-order-requires c κs = search needs
-
 returns : tie.Need-returns
 returns c =
     let s = c .before .before .before in
@@ -81,17 +78,8 @@ returns c =
     let f = c .before .find-order in
     decided-none (s .args .output .now) refl (marking-none o (given s) (s .pre .0) (answer-none o (given s) (s .pre .0) (f .result) (c .if1 .taken) (f .ensures)))
 
-transactions-begun-requires : tie.Need-transactions-begun-requires
-transactions-begun-requires c κs = search needs
-
-codes-of-requires : tie.Need-codes-of-requires
-codes-of-requires c κs = search needs
-
 placed-by-requires : tie.Need-placed-by-requires
 placed-by-requires c κs = few c
-
-own-writes-requires : tie.Need-own-writes-requires
-own-writes-requires c κs = search needs
 
 store-reads-requires : tie.Need-store-reads-requires
 store-reads-requires c κs = (c .before .own-writes .ensures, short (entered (c .before .before .before .before .before)))
@@ -107,9 +95,6 @@ write-marking-requires c κs =
     let room = marking-fits (startOf (s .args .starts .now)) (given s) (s .pre .0) (length (s .args .output .now)) (lowest a) (s .pre .1) in
     ((omega (arith, few a), short s), subst (λ (b : List ℕ). length b ≤ length (s .args .output .now)) (sym (marks g)) room)
 
-same-length : tie.Need-same-length
-same-length c = search needs
-
 returns-2 : tie.Need-returns-2
 returns-2 c =
     let w = c .before .before in
@@ -122,15 +107,6 @@ returns-2 c =
 pub find-lowest-spec : {M : Type 1} → statement M
 find-lowest-spec =
     tie.close
-    (tie.spec
-    find-order-requires
-    returns
-    transactions-begun-requires
-    codes-of-requires
-    placed-by-requires
-    own-writes-requires
-    store-reads-requires
-    gaps-of-requires
-    write-marking-requires
-    same-length
-    returns-2)
+    (tie.spec (λ c κs. search needs) returns (λ c κs. search needs) (λ c κs. search needs)
+    placed-by-requires (λ c κs. search needs) store-reads-requires gaps-of-requires
+    write-marking-requires (λ c. search needs) returns-2)

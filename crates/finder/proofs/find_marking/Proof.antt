@@ -37,15 +37,6 @@ few a = entered (inside a .before)
 abbrev many : tie.After-admit2 → tie.Start
 many a = entered (inside-many a .before)
 
-columns-hold-requires : tie.Need-columns-hold-requires
-columns-hold-requires c κs = search needs
-
-is-admitted-requires : tie.Need-is-admitted-requires
-is-admitted-requires c κs = search needs
-
-prefix-refused-requires : tie.Need-prefix-refused-requires
-prefix-refused-requires c κs = search needs
-
 returns : tie.Need-returns
 returns c =
     let told = c .before .before in
@@ -56,15 +47,6 @@ returns c =
     ∙ call-refused (s .args .edition) (s .args .starts .now) (given s) (s .args .count) (s .args .prefix) (s .args .output .now)
     (call-refuses (s .args .edition) (s .args .starts .now) (given s) (s .args .count) (s .args .prefix) (told .before .if1 .taken))
 
-slice-aggregate-admit : tie.Need-slice-aggregate-admit
-slice-aggregate-admit c = search needs
-
-admit-requires : tie.Need-admit-requires
-admit-requires c κs = search needs
-
-slice-aggregate-find-admitted : tie.Need-slice-aggregate-find-admitted
-slice-aggregate-find-admitted c = search needs
-
 find-admitted-requires : tie.Need-find-admitted-requires
 find-admitted-requires c κs =
     let a = c .before .before .before in
@@ -73,9 +55,6 @@ find-admitted-requires c κs =
           (λ m. omega (arith, a .before .before .if2 .taken)),
       inside a .if1 .left,
     )
-
-same-length : tie.Need-same-length
-same-length c = search needs
 
 returns-2 : tie.Need-returns-2
 returns-2 c =
@@ -88,15 +67,6 @@ returns-2 c =
     (in-rows (s .args .edition) (s .args .starts .now) (given s) (s .args .count) (a .admit .result) _ _ (a .admit .ensures .0) (a .admit .ensures .1)
     (λ m. omega (arith, a .before .before .if2 .taken)) e .same))
 
-slice-aggregate-admit-2 : tie.Need-slice-aggregate-admit-2
-slice-aggregate-admit-2 c = search needs
-
-admit-requires-2 : tie.Need-admit-requires-2
-admit-requires-2 c κs = search needs
-
-slice-aggregate-find-admitted-2 : tie.Need-slice-aggregate-find-admitted-2
-slice-aggregate-find-admitted-2 c = search needs
-
 find-admitted-requires-2 : tie.Need-find-admitted-requires-2
 find-admitted-requires-2 c κs =
     let a = c .before .before .before in
@@ -105,9 +75,6 @@ find-admitted-requires-2 c κs =
           (λ m. m),
       inside-many a .if1 .left,
     )
-
-same-length-2 : tie.Need-same-length-2
-same-length-2 c = search needs
 
 returns-3 : tie.Need-returns-3
 returns-3 c =
@@ -123,20 +90,7 @@ returns-3 c =
 pub find-marking-spec : {M : Type 1} → statement M
 find-marking-spec =
     tie.close
-    (tie.spec
-    columns-hold-requires
-    is-admitted-requires
-    prefix-refused-requires
-    returns
-    slice-aggregate-admit
-    admit-requires
-    slice-aggregate-find-admitted
-    find-admitted-requires
-    same-length
-    returns-2
-    slice-aggregate-admit-2
-    admit-requires-2
-    slice-aggregate-find-admitted-2
-    find-admitted-requires-2
-    same-length-2
-    returns-3)
+    (tie.spec (λ c κs. search needs) (λ c κs. search needs) (λ c κs. search needs) returns
+    (λ c. search needs) (λ c κs. search needs) (λ c. search needs) find-admitted-requires
+    (λ c. search needs) returns-2 (λ c. search needs) (λ c κs. search needs) (λ c. search needs)
+    find-admitted-requires-2 (λ c. search needs) returns-3)

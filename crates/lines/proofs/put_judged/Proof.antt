@@ -7,21 +7,6 @@ use borrow.Author.Needs.{needs}
 use Rattle.lines.proofs.put_judged.Statement.{statement}
 use Rattle.lines.proofs.put_judged.Tie as tie
 
-put-counts-requires : tie.Need-put-counts-requires
-put-counts-requires c κs = search needs
-
-put-tally-requires : tie.Need-put-tally-requires
-put-tally-requires c κs = search needs
-
-put-marking-requires : tie.Need-put-marking-requires
-put-marking-requires c κs = search needs
-
-put-opacity-requires : tie.Need-put-opacity-requires
-put-opacity-requires c κs = search needs
-
-same-length : tie.Need-same-length
-same-length c = search needs
-
 returns : tie.Need-returns
 unfolding lines
 returns c =
@@ -37,10 +22,5 @@ returns c =
 pub put-judged-spec : {M : Type 1} → statement M
 put-judged-spec =
     tie.close
-    (tie.spec
-    put-counts-requires
-    put-tally-requires
-    put-marking-requires
-    put-opacity-requires
-    same-length
-    returns)
+    (tie.spec (λ c κs. search needs) (λ c κs. search needs) (λ c κs. search needs)
+    (λ c κs. search needs) (λ c. search needs) returns)

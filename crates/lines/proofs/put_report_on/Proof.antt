@@ -4,14 +4,8 @@ use borrow.Author.Needs.{needs}
 use Rattle.lines.proofs.put_report_on.Statement.{statement}
 use Rattle.lines.proofs.put_report_on.Tie as tie
 
-report-on-requires : tie.Need-report-on-requires
-report-on-requires c κs = search needs
-
-put-report-requires : tie.Need-put-report-requires
-put-report-requires c κs = search needs
-
 returns : tie.Need-returns
 returns c = rw (c .before .before .report-on .ensures) at (c .put-report .ensures)
 
 pub put-report-on-spec : {M : Type 1} → statement M
-put-report-on-spec = tie.close (tie.spec report-on-requires put-report-requires returns)
+put-report-on-spec = tie.close (tie.spec (λ c κs. search needs) (λ c κs. search needs) returns)

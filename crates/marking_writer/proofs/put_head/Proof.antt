@@ -9,18 +9,6 @@ use borrow.Author.Needs.{needs}
 use Rattle.marking_writer.proofs.put_head.Statement.{statement}
 use Rattle.marking_writer.proofs.put_head.Tie as tie
 
-put-u16-requires : tie.Need-put-u16-requires
-put-u16-requires c κs = search needs
-
-put-u16-requires-2 : tie.Need-put-u16-requires-2
-put-u16-requires-2 c κs = search needs
-
-put-u16-requires-3 : tie.Need-put-u16-requires-3
-put-u16-requires-3 c κs = search needs
-
-same-length : tie.Need-same-length
-same-length c = search needs
-
 -- where the first and the second field stand
 abbrev second : tie.After-put-u163 → tie.After-put-u162
 second a = a .before .before .before .before
@@ -42,4 +30,5 @@ returns c =
 pub put-head-spec : {M : Type 1} → statement M
 put-head-spec =
     tie.close
-    (tie.spec put-u16-requires put-u16-requires-2 put-u16-requires-3 same-length returns)
+    (tie.spec (λ c κs. search needs) (λ c κs. search needs) (λ c κs. search needs)
+    (λ c. search needs) returns)

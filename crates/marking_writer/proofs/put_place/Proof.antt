@@ -10,30 +10,6 @@ use borrow.Author.Needs.{needs}
 use Rattle.marking_writer.proofs.put_place.Statement.{statement}
 use Rattle.marking_writer.proofs.put_place.Tie as tie
 
-put-u16-requires : tie.Need-put-u16-requires
-put-u16-requires c κs = search needs
-
-add-put-u16 : tie.Need-add-put-u16
-add-put-u16 c = search needs
-
-put-u16-requires-2 : tie.Need-put-u16-requires-2
-put-u16-requires-2 c κs = search needs
-
-add-put-u16-2 : tie.Need-add-put-u16-2
-add-put-u16-2 c = search needs
-
-put-u16-requires-3 : tie.Need-put-u16-requires-3
-put-u16-requires-3 c κs = search needs
-
-add-put-u16-3 : tie.Need-add-put-u16-3
-add-put-u16-3 c = search needs
-
-put-u16-requires-4 : tie.Need-put-u16-requires-4
-put-u16-requires-4 c κs = search needs
-
-same-length : tie.Need-same-length
-same-length c = search needs
-
 -- where the fields before the last stand
 abbrev third : tie.After-put-u164 → tie.After-put-u163
 third a = a .before .before .before .before
@@ -61,13 +37,5 @@ returns c =
 pub put-place-spec : {M : Type 1} → statement M
 put-place-spec =
     tie.close
-    (tie.spec
-    put-u16-requires
-    add-put-u16
-    put-u16-requires-2
-    add-put-u16-2
-    put-u16-requires-3
-    add-put-u16-3
-    put-u16-requires-4
-    same-length
-    returns)
+    (tie.spec (λ c κs. search needs) (λ c. search needs) (λ c κs. search needs) (λ c. search needs)
+    (λ c κs. search needs) (λ c. search needs) (λ c κs. search needs) (λ c. search needs) returns)

@@ -35,33 +35,6 @@ loop-holds c =
     let outcomes = start .args .outcomes .now in
     (omega arith, put-none (placesTo order outcomes) (placeHere order outcomes) (places-none _ _) (places-more _ _) (start .args .out .now) 6)
 
-element-copy-out-outcome-number : tie.Need-element-copy-out-outcome-number Inv-loop μ-loop
-element-copy-out-outcome-number c = search needs
-
-outcome-number-requires : tie.Need-outcome-number-requires Inv-loop μ-loop
-outcome-number-requires c κs = search needs
-
-mul-put-place : tie.Need-mul-put-place Inv-loop μ-loop
-mul-put-place c = search needs
-
-add-put-place : tie.Need-add-put-place Inv-loop μ-loop
-add-put-place c = search needs
-
-mul-put-place-2 : tie.Need-mul-put-place-2 Inv-loop μ-loop
-mul-put-place-2 c = search needs
-
-element-copy-out-put-place : tie.Need-element-copy-out-put-place Inv-loop μ-loop
-element-copy-out-put-place c = search needs
-
-put-place-requires : tie.Need-put-place-requires Inv-loop μ-loop
-put-place-requires c κs = search needs
-
-add-k : tie.Need-add-k Inv-loop μ-loop
-add-k c = search needs
-
-loop-less : tie.Need-loop-less Inv-loop μ-loop
-loop-less c = search needs
-
 loop-again : tie.Need-loop-again Inv-loop μ-loop
 loop-again c =
     let p = c .before .before in
@@ -91,19 +64,6 @@ returns c =
 pub put-places-spec : {M : Type 1} → statement M
 put-places-spec =
     tie.close
-    (tie.spec
-    Inv-loop
-    μ-loop
-    loop-holds
-    element-copy-out-outcome-number
-    outcome-number-requires
-    mul-put-place
-    add-put-place
-    mul-put-place-2
-    element-copy-out-put-place
-    put-place-requires
-    add-k
-    loop-less
-    loop-again
-    same-length
-    returns)
+    (tie.spec Inv-loop μ-loop loop-holds (λ c. search needs) (λ c κs. search needs)
+    (λ c. search needs) (λ c. search needs) (λ c. search needs) (λ c. search needs)
+    (λ c κs. search needs) (λ c. search needs) (λ c. search needs) loop-again same-length returns)

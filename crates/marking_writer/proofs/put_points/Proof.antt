@@ -36,17 +36,8 @@ loop-holds c =
     let s = c .before in
     (omega arith, put-none (pointsIn (s .args .reads .now) (s .args .gaps .now)) (point s) (points-none _ _) (points-more _ _) (s .args .out .now) (s .args .from))
 
-element-copy-out-put-read : tie.Need-element-copy-out-put-read Inv-loop μ-loop
-element-copy-out-put-read c = search needs
-
 cast-put-read : tie.Need-cast-put-read Inv-loop μ-loop
 cast-put-read c = omega (arith, c .before .before .before .before .before .pre .0)
-
-mul-put-read : tie.Need-mul-put-read Inv-loop μ-loop
-mul-put-read c = search needs
-
-element-copy-out-put-read-2 : tie.Need-element-copy-out-put-read-2 Inv-loop μ-loop
-element-copy-out-put-read-2 c = search needs
 
 put-read-requires : tie.Need-put-read-requires Inv-loop μ-loop
 put-read-requires c κs =
@@ -54,12 +45,6 @@ put-read-requires c κs =
     let s = entered l in
     put-room (pointsIn (s .args .reads .now) (s .args .gaps .now)) (point s) (points-none _ _) (points-more _ _) (s .args .out .now) (s .args .from) (s .args .count) (s .pre .1)
     (l .loop .i) (omega arith) (l .loop .out) (l .loop .at) (l .loop .inv .1)
-
-add-i : tie.Need-add-i Inv-loop μ-loop
-add-i c = search needs
-
-loop-less : tie.Need-loop-less Inv-loop μ-loop
-loop-less c = search needs
 
 loop-again : tie.Need-loop-again Inv-loop μ-loop
 loop-again c =
@@ -85,17 +70,6 @@ returns c =
 pub put-points-spec : {M : Type 1} → statement M
 put-points-spec =
     tie.close
-    (tie.spec
-    Inv-loop
-    μ-loop
-    loop-holds
-    element-copy-out-put-read
-    cast-put-read
-    mul-put-read
-    element-copy-out-put-read-2
-    put-read-requires
-    add-i
-    loop-less
-    loop-again
-    same-length
-    returns)
+    (tie.spec Inv-loop μ-loop loop-holds (λ c. search needs) cast-put-read (λ c. search needs)
+    (λ c. search needs) put-read-requires (λ c. search needs) (λ c. search needs) loop-again
+    same-length returns)

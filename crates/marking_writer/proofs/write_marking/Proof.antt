@@ -26,28 +26,16 @@ size : (s : tie.Start) → length (bytesIn (s .args .order .now) (s .args .outco
     ≡ 6 + 8 * s .args .begun + length (pointsIn (s .args .reads .now) (s .args .gaps .now) (s .args .count))
 size s = bytes-length (s .args .order .now) (s .args .outcomes .now) (s .args .begun) (s .args .reads .now) (s .args .gaps .now) (s .args .count)
 
-put-head-requires : tie.Need-put-head-requires
-put-head-requires c κs = search needs
-
 put-places-requires : tie.Need-put-places-requires
 put-places-requires c κs =
     let s = entered (headed c) in
     (s .pre .0 .0, omega (arith, s .pre .1, size s, headed c .put-head .kept .0))
-
-mul-put-points : tie.Need-mul-put-points
-mul-put-points c = search needs
-
-add-put-points : tie.Need-add-put-points
-add-put-points c = search needs
 
 put-points-requires : tie.Need-put-points-requires
 put-points-requires c κs =
     let p = placed c in
     let s = entered (headed (p .before)) in
     (s .pre .0 .1, omega (arith, s .pre .1, size s, headed (p .before) .put-head .kept .0, p .put-places .kept))
-
-same-length : tie.Need-same-length
-same-length c = search needs
 
 returns : tie.Need-returns
 returns c =
@@ -64,11 +52,5 @@ returns c =
 pub write-marking-spec : {M : Type 1} → statement M
 write-marking-spec =
     tie.close
-    (tie.spec
-    put-head-requires
-    put-places-requires
-    mul-put-points
-    add-put-points
-    put-points-requires
-    same-length
-    returns)
+    (tie.spec (λ c κs. search needs) put-places-requires (λ c. search needs) (λ c. search needs)
+    put-points-requires (λ c. search needs) returns)

@@ -33,9 +33,6 @@ its-low c = subst Low (sym (c .event-at .ensures)) (low _ (c .before .before .be
 loop-holds : tie.Need-loop-holds Inv-loop μ-loop
 loop-holds c = numbering-first (logged (c .args .log .now))
 
-event-at-requires : tie.Need-event-at-requires Inv-loop μ-loop
-event-at-requires c κs = search needs
-
 slot-of-requires : tie.Need-slot-of-requires Inv-loop μ-loop
 slot-of-requires c κs = its-low c
 
@@ -44,12 +41,6 @@ mul-reads-store c = let k = c .slot-of .ensures .1 in search needs
 
 array-read-reads-store : tie.Need-array-read-reads-store Inv-loop μ-loop
 array-read-reads-store c = omega (arith, c .slot-of .ensures .1, c .before .before .before .loop .inv .noting .size)
-
-reads-store-requires : tie.Need-reads-store-requires Inv-loop μ-loop
-reads-store-requires c κs = search needs
-
-one-if-requires : tie.Need-one-if-requires Inv-loop μ-loop
-one-if-requires c κs = search needs
 
 add-reads : tie.Need-add-reads Inv-loop μ-loop
 add-reads c =
@@ -77,9 +68,6 @@ array-write-last c = omega (arith, c .before .before .before .slot-of .ensures .
 add-i : tie.Need-add-i Inv-loop μ-loop
 add-i c = omega (arith, few (c .before .before .before .before .before))
 
-loop-less : tie.Need-loop-less Inv-loop μ-loop
-loop-less c = search needs
-
 loop-again : tie.Need-loop-again Inv-loop μ-loop
 loop-again c =
     let turn = c .before .before .before .before .before in
@@ -99,23 +87,7 @@ returns c =
 pub count-store-reads-spec : {M : Type 1} → statement M
 count-store-reads-spec =
     tie.close
-    (tie.spec
-    Inv-loop
-    μ-loop
-    loop-holds
-    event-at-requires
-    slot-of-requires
-    mul-reads-store
-    array-read-reads-store
-    reads-store-requires
-    one-if-requires
-    add-reads
-    mul-noted-at
-    array-read-noted-at
-    noted-at-requires
-    mul-last
-    array-write-last
-    add-i
-    loop-less
-    loop-again
-    returns)
+    (tie.spec Inv-loop μ-loop loop-holds (λ c κs. search needs) slot-of-requires mul-reads-store
+    array-read-reads-store (λ c κs. search needs) (λ c κs. search needs) add-reads mul-noted-at
+    array-read-noted-at noted-at-requires mul-last array-write-last add-i (λ c. search needs)
+    loop-again returns)

@@ -11,18 +11,6 @@ use Rattle.reads.proofs.OwnLaws.{store-read}
 use Rattle.reads.proofs.is_store_read.Statement.{statement}
 use Rattle.reads.proofs.is_store_read.Tie as tie
 
-event-at-requires : tie.Need-event-at-requires
-event-at-requires c κs = search needs
-
-mul-reads-store : tie.Need-mul-reads-store
-mul-reads-store c = search needs
-
-element-copy-out-reads-store : tie.Need-element-copy-out-reads-store
-element-copy-out-reads-store c = search needs
-
-reads-store-requires : tie.Need-reads-store-requires
-reads-store-requires c κs = search needs
-
 returns : tie.Need-returns
 returns c =
     let s = c .before .before .before in
@@ -33,9 +21,5 @@ returns c =
 pub is-store-read-spec : {M : Type 1} → statement M
 is-store-read-spec =
     tie.close
-    (tie.spec
-    event-at-requires
-    mul-reads-store
-    element-copy-out-reads-store
-    reads-store-requires
+    (tie.spec (λ c κs. search needs) (λ c. search needs) (λ c. search needs) (λ c κs. search needs)
     returns)

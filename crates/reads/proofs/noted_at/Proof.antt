@@ -4,15 +4,6 @@ use borrow.Author.Needs.{needs}
 use Rattle.reads.proofs.noted_at.Statement.{statement}
 use Rattle.reads.proofs.noted_at.Tie as tie
 
-is-write-requires : tie.Need-is-write-requires
-is-write-requires c κs = search needs
-
-add-result : tie.Need-add-result
-add-result c = search needs
-
-cast-result : tie.Need-cast-result
-cast-result c = search needs
-
 returns : tie.Need-returns
 returns c = rw (sym (c .before .is-write .ensures) ∙ c .if1 .taken)
 
@@ -20,4 +11,5 @@ returns-2 : tie.Need-returns-2
 returns-2 c = rw (sym (c .before .is-write .ensures) ∙ c .if1 .left)
 
 pub noted-at-spec : {M : Type 1} → statement M
-noted-at-spec = tie.close (tie.spec is-write-requires add-result cast-result returns returns-2)
+noted-at-spec = tie.close (tie.spec (λ c κs. search needs) (λ c. search needs) (λ c. search needs)
+    returns returns-2)

@@ -14,12 +14,6 @@ use borrow.Author.Needs.{needs}
 use Rattle.reads.proofs.own_right.Statement.{statement}
 use Rattle.reads.proofs.own_right.Tie as tie
 
-mul-w : tie.Need-mul-w
-mul-w c = search needs
-
-element-copy-out-w : tie.Need-element-copy-out-w
-element-copy-out-w c = search needs
-
 cast-w : tie.Need-cast-w
 cast-w c =
     let s = c .before in
@@ -30,21 +24,12 @@ returns c =
     let s = c .before .before in
     sym (right-none (logged (s .args .log .now)) (s .args .own .now) (s .pre .0) (s .args .i) (omega (arith, logged-length (s .args .log .now))) (c .if1 .taken))
 
-event-at-requires : tie.Need-event-at-requires
-event-at-requires c κs = search needs
-
-is-read-requires : tie.Need-is-read-requires
-is-read-requires c κs = search needs
-
 returns-2 : tie.Need-returns-2
 returns-2 c =
     let s = c .before .before .before .before .before in
     let r : isRead (eventAt (logged (s .args .log .now)) (s .args .i)) ≡ false =
     ap isRead (sym (c .before .before .event-at .ensures)) ∙ (sym (c .before .is-read .ensures) ∙ not-true _ (c .if2 .taken)) in
     sym (right-other (logged (s .args .log .now)) (s .args .own .now) (s .pre .0) (s .args .i) (omega (arith, logged-length (s .args .log .now))) r)
-
-sub-event-at : tie.Need-sub-event-at
-sub-event-at c = search needs
 
 event-at-requires-2 : tie.Need-event-at-requires-2
 event-at-requires-2 c κs =
@@ -65,14 +50,5 @@ returns-3 c =
 pub own-right-spec : {M : Type 1} → statement M
 own-right-spec =
     tie.close
-    (tie.spec
-    mul-w
-    element-copy-out-w
-    cast-w
-    returns
-    event-at-requires
-    is-read-requires
-    returns-2
-    sub-event-at
-    event-at-requires-2
-    returns-3)
+    (tie.spec (λ c. search needs) (λ c. search needs) cast-w returns (λ c κs. search needs)
+    (λ c κs. search needs) returns-2 (λ c. search needs) event-at-requires-2 returns-3)

@@ -32,26 +32,14 @@ its-low c = subst Low (sym (c .event-at .ensures)) (low _ (c .before .before .be
 loop-holds : tie.Need-loop-holds Inv-loop μ-loop
 loop-holds c = noting-first (logged (c .args .log .now))
 
-event-at-requires : tie.Need-event-at-requires Inv-loop μ-loop
-event-at-requires c κs = search needs
-
 slot-of-requires : tie.Need-slot-of-requires Inv-loop μ-loop
 slot-of-requires c κs = its-low c
-
-mul-own : tie.Need-mul-own Inv-loop μ-loop
-mul-own c = search needs
 
 array-read-own : tie.Need-array-read-own Inv-loop μ-loop
 array-read-own c = omega (arith, c .slot-of .ensures .1, c .before .before .before .loop .inv .size)
 
-mul-own-2 : tie.Need-mul-own-2 Inv-loop μ-loop
-mul-own-2 c = search needs
-
 array-write-own : tie.Need-array-write-own Inv-loop μ-loop
 array-write-own c = few (c .before .before)
-
-mul-noted-at : tie.Need-mul-noted-at Inv-loop μ-loop
-mul-noted-at c = search needs
 
 array-read-noted-at : tie.Need-array-read-noted-at Inv-loop μ-loop
 array-read-noted-at c = omega (arith, c .slot-of .ensures .1, c .before .before .before .loop .inv .size)
@@ -59,17 +47,8 @@ array-read-noted-at c = omega (arith, c .slot-of .ensures .1, c .before .before 
 noted-at-requires : tie.Need-noted-at-requires Inv-loop μ-loop
 noted-at-requires c κs = few (c .before .before)
 
-mul-last : tie.Need-mul-last Inv-loop μ-loop
-mul-last c = search needs
-
 array-write-last : tie.Need-array-write-last Inv-loop μ-loop
 array-write-last c = omega (arith, c .before .slot-of .ensures .1, c .before .before .before .before .loop .inv .size)
-
-add-i : tie.Need-add-i Inv-loop μ-loop
-add-i c = search needs
-
-loop-less : tie.Need-loop-less Inv-loop μ-loop
-loop-less c = search needs
 
 loop-again : tie.Need-loop-again Inv-loop μ-loop
 loop-again c =
@@ -89,22 +68,7 @@ returns c =
 pub own-writes-spec : {M : Type 1} → statement M
 own-writes-spec =
     tie.close
-    (tie.spec
-    Inv-loop
-    μ-loop
-    loop-holds
-    event-at-requires
-    slot-of-requires
-    mul-own
-    array-read-own
-    mul-own-2
-    array-write-own
-    mul-noted-at
-    array-read-noted-at
-    noted-at-requires
-    mul-last
-    array-write-last
-    add-i
-    loop-less
-    loop-again
-    returns)
+    (tie.spec Inv-loop μ-loop loop-holds (λ c κs. search needs) slot-of-requires (λ c. search needs)
+    array-read-own (λ c. search needs) array-write-own (λ c. search needs) array-read-noted-at
+    noted-at-requires (λ c. search needs) array-write-last (λ c. search needs) (λ c. search needs)
+    loop-again returns)

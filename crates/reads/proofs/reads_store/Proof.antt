@@ -8,11 +8,8 @@ use Rattle.reads.proofs.reads_store.Tie as tie
 returns : tie.Need-returns
 returns c = rw (ne-eqb _ 0 (c .if1 .taken))
 
-is-read-requires : tie.Need-is-read-requires
-is-read-requires c κs = search needs
-
 returns-2 : tie.Need-returns-2
 returns-2 c = rw (eq-eqb _ 0 (c .before .if1 .left)) (c .is-read .ensures)
 
 pub reads-store-spec : {M : Type 1} → statement M
-reads-store-spec = tie.close (tie.spec returns is-read-requires returns-2)
+reads-store-spec = tie.close (tie.spec returns (λ c κs. search needs) returns-2)

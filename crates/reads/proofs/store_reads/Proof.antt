@@ -27,12 +27,6 @@ is-store-read-requires c κs = (c .before .before .pre .0, (c .loop-test .taken,
 array-write-reads : tie.Need-array-write-reads Inv-loop μ-loop
 array-write-reads c = omega (arith, c .before .before .before .pre .1, c .before .loop-test .taken)
 
-add-i : tie.Need-add-i Inv-loop μ-loop
-add-i c = search needs
-
-loop-less : tie.Need-loop-less Inv-loop μ-loop
-loop-less c = search needs
-
 loop-again : tie.Need-loop-again Inv-loop μ-loop
 loop-again c =
     let l = c .before .before in
@@ -48,13 +42,5 @@ returns c =
 pub store-reads-spec : {M : Type 1} → statement M
 store-reads-spec =
     tie.close
-    (tie.spec
-    Inv-loop
-    μ-loop
-    loop-holds
-    is-store-read-requires
-    array-write-reads
-    add-i
-    loop-less
-    loop-again
-    returns)
+    (tie.spec Inv-loop μ-loop loop-holds is-store-read-requires array-write-reads
+    (λ c. search needs) (λ c. search needs) loop-again returns)

@@ -13,22 +13,13 @@ not-read a = sym (a .before .is-read .ensures) ∙ a .if1 .left
 not-commit : (a : tie.Else2) → isCommit (a .before .before .before .before .args .e) ≡ false
 not-commit a = sym (a .before .is-commit .ensures) ∙ a .if2 .left
 
-is-read-requires : tie.Need-is-read-requires
-is-read-requires c κs = search needs
-
 returns : tie.Need-returns
 unfolding cause
 returns c = rw (sym (c .before .is-read .ensures) ∙ c .if1 .taken)
 
-is-commit-requires : tie.Need-is-commit-requires
-is-commit-requires c κs = search needs
-
 returns-2 : tie.Need-returns-2
 unfolding cause
 returns-2 c = rw (not-read (c .before .before), sym (c .before .is-commit .ensures) ∙ c .if2 .taken)
-
-is-abort-requires : tie.Need-is-abort-requires
-is-abort-requires c κs = search needs
 
 returns-3 : tie.Need-returns-3
 unfolding cause
@@ -41,11 +32,5 @@ returns-4 c = rw (not-read (c .before .before .before .before), not-commit (c .b
 pub cause-of-spec : {M : Type 1} → statement M
 cause-of-spec =
     tie.close
-    (tie.spec
-    is-read-requires
-    returns
-    is-commit-requires
-    returns-2
-    is-abort-requires
-    returns-3
-    returns-4)
+    (tie.spec (λ c κs. search needs) returns (λ c κs. search needs) returns-2 (λ c κs. search needs)
+    returns-3 returns-4)

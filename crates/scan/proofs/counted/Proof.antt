@@ -4,12 +4,6 @@ use borrow.Author.Needs.{needs}
 use Rattle.scan.proofs.counted.Statement.{statement}
 use Rattle.scan.proofs.counted.Tie as tie
 
-is-begin-requires : tie.Need-is-begin-requires
-is-begin-requires c κs = search needs
-
-add-result : tie.Need-add-result
-add-result c = search needs
-
 returns : tie.Need-returns
 returns c = rw (sym (c .before .is-begin .ensures) ∙ c .if1 .taken)
 
@@ -17,4 +11,4 @@ returns-2 : tie.Need-returns-2
 returns-2 c = rw (sym (c .before .is-begin .ensures) ∙ c .if1 .left)
 
 pub counted-spec : {M : Type 1} → statement M
-counted-spec = tie.close (tie.spec is-begin-requires add-result returns returns-2)
+counted-spec = tie.close (tie.spec (λ c κs. search needs) (λ c. search needs) returns returns-2)

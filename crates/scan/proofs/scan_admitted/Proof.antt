@@ -9,16 +9,10 @@ use borrow.Author.Needs.{needs}
 use Rattle.scan.proofs.scan_admitted.Statement.{statement}
 use Rattle.scan.proofs.scan_admitted.Tie as tie
 
-enum-known-checked : tie.Need-enum-known-checked
-enum-known-checked c = search needs
-
 returns : tie.Need-returns
 returns c =
     let a = c .before .before .before .args in
     after-refused (a .starts .now) (logged (take (a .count) (a .rows .now))) (a .count) (c .before .checked .given .1)
-
-enum-told : tie.Need-enum-told
-enum-told c = search needs
 
 slice-aggregate-scan-log : tie.Need-slice-aggregate-scan-log
 slice-aggregate-scan-log c = sym (length-take-le _ _ (c .before .before .before .pre .room (c .before .enum-told .given .1)))
@@ -38,10 +32,5 @@ returns-2 c =
 pub scan-admitted-spec : {M : Type 1} → statement M
 scan-admitted-spec =
     tie.close
-    (tie.spec
-    enum-known-checked
-    returns
-    enum-told
-    slice-aggregate-scan-log
-    scan-log-requires
-    returns-2)
+    (tie.spec (λ c. search needs) returns (λ c. search needs) slice-aggregate-scan-log
+    scan-log-requires returns-2)

@@ -32,15 +32,6 @@ many a = entered (a .before .before .before)
 abbrev answer : tie.Start → Checked → List Event → Scanning
 answer s x h = scanAfter x (s .args .starts .now) h (s .args .count)
 
-slice-aggregate-admit : tie.Need-slice-aggregate-admit
-slice-aggregate-admit c = search needs
-
-admit-requires : tie.Need-admit-requires
-admit-requires c κs = search needs
-
-slice-aggregate-scan-admitted : tie.Need-slice-aggregate-scan-admitted
-slice-aggregate-scan-admitted c = search needs
-
 scan-admitted-requires : tie.Need-scan-admitted-requires
 scan-admitted-requires c κs =
     let a = c .before .before in
@@ -56,15 +47,6 @@ returns c =
     c .scan-admitted .ensures
     ∙ behind (s .args .edition) (s .args .starts .now) (given s) (s .args .count) (a .admit .result) _ _ (a .admit .ensures .0) (a .admit .ensures .1)
     (λ m. omega (arith, a .before .before .if1 .taken)) (answer s) (λ r g h. after-alike r (s .args .starts .now) (s .args .count) g h)
-
-slice-aggregate-admit-2 : tie.Need-slice-aggregate-admit-2
-slice-aggregate-admit-2 c = search needs
-
-admit-requires-2 : tie.Need-admit-requires-2
-admit-requires-2 c κs = search needs
-
-slice-aggregate-scan-admitted-2 : tie.Need-slice-aggregate-scan-admitted-2
-slice-aggregate-scan-admitted-2 c = search needs
 
 scan-admitted-requires-2 : tie.Need-scan-admitted-requires-2
 scan-admitted-requires-2 c κs =
@@ -85,14 +67,6 @@ returns-2 c =
 pub scan-history-spec : {M : Type 1} → statement M
 scan-history-spec =
     tie.close
-    (tie.spec
-    slice-aggregate-admit
-    admit-requires
-    slice-aggregate-scan-admitted
-    scan-admitted-requires
-    returns
-    slice-aggregate-admit-2
-    admit-requires-2
-    slice-aggregate-scan-admitted-2
-    scan-admitted-requires-2
+    (tie.spec (λ c. search needs) (λ c κs. search needs) (λ c. search needs) scan-admitted-requires
+    returns (λ c. search needs) (λ c κs. search needs) (λ c. search needs) scan-admitted-requires-2
     returns-2)

@@ -13,9 +13,6 @@ use borrow.Author.Needs.{needs}
 use Rattle.scan.proofs.scan_log.Statement.{statement}
 use Rattle.scan.proofs.scan_log.Tie as tie
 
-transactions-begun-requires : tie.Need-transactions-begun-requires
-transactions-begun-requires c κs = search needs
-
 returns : tie.Need-returns
 unfolding scanOf
 returns c =
@@ -40,4 +37,4 @@ returns-2 c =
 
 pub scan-log-spec : {M : Type 1} → statement M
 scan-log-spec =
-    tie.close (tie.spec transactions-begun-requires returns scan-prefixes-requires returns-2)
+    tie.close (tie.spec (λ c κs. search needs) returns scan-prefixes-requires returns-2)

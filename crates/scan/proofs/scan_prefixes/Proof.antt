@@ -46,14 +46,8 @@ carried a = a .before .before
 inside : (a : tie.After-event-at Inv-loop μ-loop) → turn a .loop .i < length (given (entered (turn a)))
 inside a = omega (arith, a .before .loop-test .taken, logged-length (entered (turn a) .args .log .now))
 
-no-events-requires : tie.Need-no-events-requires Inv-loop μ-loop
-no-events-requires c κs = search needs
-
 loop-holds : tie.Need-loop-holds Inv-loop μ-loop
 loop-holds c = scanning-none (c .before .args .starts .now) (given (c .before)) _ (c .no-events .ensures)
-
-event-at-requires : tie.Need-event-at-requires Inv-loop μ-loop
-event-at-requires c κs = search needs
 
 carry-requires : tie.Need-carry-requires Inv-loop μ-loop
 carry-requires c κs =
@@ -89,9 +83,6 @@ complete-requires c κs =
           _ (n .counted .result) (n .before .step .ensures) (n .counted .ensures),
     )
 
-faulted-requires : tie.Need-faulted-requires Inv-loop μ-loop
-faulted-requires c κs = search needs
-
 returns : tie.Need-returns Inv-loop μ-loop
 returns c =
     let q = c .before .before in
@@ -104,12 +95,6 @@ returns c =
     ∙ scanning-fault (s .args .starts .now) (given s) (s .pre) (l .loop .i) (inside a) (a .event-at .result) (a .event-at .ensures) (tables-at l) (l .loop .n) (l .loop .order) (l .loop .inv)
     _ (n .counted .result) (n .before .step .ensures) (n .counted .ensures) (k .carry .result) (q .if1 .order) (k .carry .ensures)
     (⊎-elim (λ w. judged-anew _ _ _ _ _ (w .0 .taken) (w .3) (w .2 .ensures)) (λ w. judged-kept _ _ _ _ (w .0 .left) (w .1)) (q .if1 .came)) (c .before .if2 .taken)
-
-add-i : tie.Need-add-i Inv-loop μ-loop
-add-i c = search needs
-
-loop-less : tie.Need-loop-less Inv-loop μ-loop
-loop-less c = search needs
 
 loop-again : tie.Need-loop-again Inv-loop μ-loop
 loop-again c =
@@ -132,19 +117,6 @@ returns-2 c =
 pub scan-prefixes-spec : {M : Type 1} → statement M
 scan-prefixes-spec =
     tie.close
-    (tie.spec
-    Inv-loop
-    μ-loop
-    no-events-requires
-    loop-holds
-    event-at-requires
-    carry-requires
-    step-requires
-    counted-requires
-    complete-requires
-    faulted-requires
-    returns
-    add-i
-    loop-less
-    loop-again
-    returns-2)
+    (tie.spec Inv-loop μ-loop (λ c κs. search needs) loop-holds (λ c κs. search needs)
+    carry-requires step-requires counted-requires complete-requires (λ c κs. search needs) returns
+    (λ c. search needs) (λ c. search needs) loop-again returns-2)

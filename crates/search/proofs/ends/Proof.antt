@@ -30,24 +30,12 @@ none-ones : _≡_ {A = ℕ} (ones 0) 0
 unfolding ones
 none-ones = refl
 
-index-1-count : tie.Need-index-1-count
-index-1-count c = search needs
-
-index-2-count : tie.Need-index-2-count
-index-2-count c = search needs
-
-count-requires : tie.Need-count-requires
-count-requires c κs = search needs
-
 returns : tie.Need-returns
 unfolding endsAt
 returns c =
     let s = c .before .before .before .before in
     let some : still s ≡ 0 → ⊥ = λ z. c .if1 .taken (c .before .count .ensures ∙ (ap ones z ∙ none-ones)) in
     simp (unplaced-before s ∙ ne-eqb _ _ some)
-
-legal-reads-requires : tie.Need-legal-reads-requires
-legal-reads-requires c κs = search needs
 
 returns-2 : tie.Need-returns-2
 unfolding endsAt
@@ -57,4 +45,5 @@ returns-2 c =
     simp (unplaced-before s ∙ eq-eqb _ _ none) (c .legal-reads .ensures)
 
 pub ends-spec : {M : Type 1} → statement M
-ends-spec = tie.close (tie.spec index-1-count index-2-count count-requires returns legal-reads-requires returns-2)
+ends-spec = tie.close (tie.spec (λ c. search needs) (λ c. search needs) (λ c κs. search needs)
+    returns (λ c κs. search needs) returns-2)

@@ -30,9 +30,6 @@ sound b = start-sound (b .before .args .n) (b .bit .result - 1) (b .before .pre)
 abbrev chosen : tie.After-registers-asked → tie.After-bit
 chosen a = a .before .before .before .before .before .before .before
 
-bit-requires : tie.Need-bit-requires
-bit-requires c κs = search needs
-
 sub-t10 : tie.Need-sub-t10
 sub-t10 c = omega (arith, c .bit .ensures, pow-pos (c .before .args .n))
 
@@ -45,9 +42,6 @@ returns c =
     let b = c .before .before .before in
     let a = b .before .args in
     start-answers (constraints (a .starts .now) (a .facts .now)) (a .n) _ (c .choose-transaction .result) (b .before .pre) (all b) (c .choose-transaction .ensures)
-
-before-end-requires : tie.Need-before-end-requires
-before-end-requires c κs = search needs
 
 stranded-requires : tie.Need-stranded-requires
 stranded-requires c κs =
@@ -64,15 +58,6 @@ returns-2 c =
     let s : Search = record { unplaced = u; filled = 0; placed = 1 } in
     start-answers D (a .n) u 0 (b .before .pre) (all b)
     (answered-none _ (sym (orphaned-none D s u _ (sound b) refl (needs-of D s u _ (c .before .before .before-end .ensures) (λ k h. h)) (c .before .stranded .ensures (c .if2 .taken)))))
-
-registers-written-requires : tie.Need-registers-written-requires
-registers-written-requires c κs = search needs
-
-registers-asked-requires : tie.Need-registers-asked-requires
-registers-asked-requires c κs = search needs
-
-effects-among-requires : tie.Need-effects-among-requires
-effects-among-requires c κs = search needs
 
 choose-transaction-requires-2 : tie.Need-choose-transaction-requires-2
 choose-transaction-requires-2 c κs = (sound (chosen (c .before .before .before)), (within-self _, c .before .effects-among .ensures))
@@ -92,16 +77,6 @@ returns-3 c =
 pub find-spec : {M : Type 1} → statement M
 find-spec =
     tie.close
-    (tie.spec
-    bit-requires
-    sub-t10
-    choose-transaction-requires
-    returns
-    before-end-requires
-    stranded-requires
-    returns-2
-    registers-written-requires
-    registers-asked-requires
-    effects-among-requires
-    choose-transaction-requires-2
-    returns-3)
+    (tie.spec (λ c κs. search needs) sub-t10 choose-transaction-requires returns
+    (λ c κs. search needs) stranded-requires returns-2 (λ c κs. search needs) (λ c κs. search needs)
+    (λ c κs. search needs) choose-transaction-requires-2 returns-3)

@@ -18,34 +18,13 @@ use Rattle.search.proofs.rule_next.Tie as tie
 unplaced-before : (c : tie.Start) → let set = afterOf (c .args .facts .now) (c .args .t) in noneIn set (members (c .args .s .unplaced)) ≡ eqb (bitAnd set (c .args .s .unplaced)) 0
 unplaced-before c = none-in-members (afterOf (c .args .facts .now) (c .args .t)) (c .args .s .unplaced) (omega (arith, c .pre .0 .few))
 
-mul-if1 : tie.Need-mul-if1
-mul-if1 c = search needs
-
-index-1-if1 : tie.Need-index-1-if1
-index-1-if1 c = search needs
-
-index-2-if1 : tie.Need-index-2-if1
-index-2-if1 c = search needs
-
 returns : tie.Need-returns
 unfolding ruleNext
 returns c = simp (unplaced-before (c .before .before .before) ∙ ne-eqb _ _ (c .if1 .taken))
 
-legal-reads-requires : tie.Need-legal-reads-requires
-legal-reads-requires c κs = search needs
-
 returns-2 : tie.Need-returns-2
 unfolding ruleNext
 returns-2 c = simp (unplaced-before (c .before .before .before .before .before) ∙ eq-eqb _ _ (c .before .before .if1 .left), sym (c .before .legal-reads .ensures) ∙ not-true _ (c .if2 .taken))
-
-mul-result : tie.Need-mul-result
-mul-result c = search needs
-
-index-1-result : tie.Need-index-1-result
-index-1-result c = search needs
-
-index-2-result : tie.Need-index-2-result
-index-2-result c = search needs
 
 returns-3 : tie.Need-returns-3
 unfolding ruleNext
@@ -57,14 +36,6 @@ returns-3 c = simp (
 pub rule-next-spec : {M : Type 1} → statement M
 rule-next-spec =
     tie.close
-    (tie.spec
-    mul-if1
-    index-1-if1
-    index-2-if1
-    returns
-    legal-reads-requires
-    returns-2
-    mul-result
-    index-1-result
-    index-2-result
+    (tie.spec (λ c. search needs) (λ c. search needs) (λ c. search needs) returns
+    (λ c κs. search needs) returns-2 (λ c. search needs) (λ c. search needs) (λ c. search needs)
     returns-3)

@@ -15,12 +15,6 @@ after : (a : HistoryRead) (lent : List ℕ) {r : Reading} → a .reading ≡ r �
 unfolding startsAfter
 after a lent e = sym (ap (λ (r : Reading). startsBy r (a .starts) lent) e)
 
-enum-told : tie.Need-enum-told
-enum-told c = search needs
-
-enum-told-2 : tie.Need-enum-told-2
-enum-told-2 c = search needs
-
 returns : tie.Need-returns
 returns c =
     let s = c .before .before .before .args in
@@ -32,4 +26,4 @@ returns-2 c =
     after (s .answer) (now (s .starts)) (c .enum-told2 .given .1)
 
 pub hand-over-spec : {M : Type 1} → statement M
-hand-over-spec = tie.close (tie.spec enum-told enum-told-2 returns returns-2)
+hand-over-spec = tie.close (tie.spec (λ c. search needs) (λ c. search needs) returns returns-2)

@@ -23,9 +23,6 @@ given s = columns (now (s .args .kinds)) (now (s .args .transactions)) (now (s .
 small : (s : tie.Start) → s .args .count ≤ most
 small s = omega (arith, s .fits .count .fits)
 
-check-marking-requires : tie.Need-check-marking-requires
-check-marking-requires c κs = search needs
-
 check-code-requires : tie.Need-check-code-requires
 check-code-requires c κs =
     let s = c .before .before .before .before .before .before in
@@ -39,4 +36,4 @@ returns c =
     (e, ap (decoded noValue ofMarking) e ∙ told-back noValue ofMarking _ (check-told (s .args .edition) (now (s .args .starts)) (given s) (s .args .count) (small s) (now (s .args .file))))
 
 pub sendoshi-check-spec : {M : Type 1} → statement M
-sendoshi-check-spec = tie.close (tie.spec check-marking-requires check-code-requires returns)
+sendoshi-check-spec = tie.close (tie.spec (λ c κs. search needs) check-code-requires returns)

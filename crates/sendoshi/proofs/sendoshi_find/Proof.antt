@@ -22,16 +22,10 @@ given s = columns (now (s .args .kinds)) (now (s .args .transactions)) (now (s .
 small : (s : tie.Start) → s .args .count ≤ most
 small s = omega (arith, s .fits .count .fits)
 
-find-marking-requires : tie.Need-find-marking-requires
-find-marking-requires c κs = search needs
-
 found-code-requires : tie.Need-found-code-requires
 found-code-requires c κs =
     let s = c .before .before .before .before .before .before .before .before .before in
     subst (λ (x : Given). Known (said (x .result))) (sym (c .before .before .find-marking .ensures)) (find-told (s .args .edition) (now (s .args .starts)) (given s) (s .args .count) (small s) (s .args .prefix) (now (s .args .output)) .0)
-
-same-length : tie.Need-same-length
-same-length c = search needs
 
 returns : tie.Need-returns
 unfolding findCall
@@ -45,4 +39,4 @@ returns c =
 
 pub sendoshi-find-spec : {M : Type 1} → statement M
 sendoshi-find-spec =
-    tie.close (tie.spec find-marking-requires found-code-requires same-length returns)
+    tie.close (tie.spec (λ c κs. search needs) found-code-requires (λ c. search needs) returns)

@@ -16,28 +16,10 @@ use Rattle.sendoshi.proofs.sendoshi_read.Tie as tie
 abbrev given : tie.Start → Columns
 given s = columns (now (s .args .kinds)) (now (s .args .transactions)) (now (s .args .registers)) (now (s .args .values))
 
-read-history-requires : tie.Need-read-history-requires
-read-history-requires c κs = search needs
-
-hand-over-requires : tie.Need-hand-over-requires
-hand-over-requires c κs = search needs
-
 read-code-requires : tie.Need-read-code-requires
 read-code-requires c κs =
     let s = c .before .before .before .before .before .before .before .before .before .before .before .before .before .before .before .before .before .before .before .before in
     subst (λ (x : ReadAnswer). Known (said (x .result))) (sym (c .before .before .before .before .before .before .before .before .before .before .read-history .ensures)) (read-told (now (s .args .file)) (given s) .0)
-
-same-length : tie.Need-same-length
-same-length c = search needs
-
-same-length-2 : tie.Need-same-length-2
-same-length-2 c = search needs
-
-same-length-3 : tie.Need-same-length-3
-same-length-3 c = search needs
-
-same-length-4 : tie.Need-same-length-4
-same-length-4 c = search needs
 
 returns : tie.Need-returns
 unfolding readCall
@@ -52,12 +34,5 @@ returns c =
 pub sendoshi-read-spec : {M : Type 1} → statement M
 sendoshi-read-spec =
     tie.close
-    (tie.spec
-    read-history-requires
-    hand-over-requires
-    read-code-requires
-    same-length
-    same-length-2
-    same-length-3
-    same-length-4
-    returns)
+    (tie.spec (λ c κs. search needs) (λ c κs. search needs) read-code-requires (λ c. search needs)
+    (λ c. search needs) (λ c. search needs) (λ c. search needs) returns)

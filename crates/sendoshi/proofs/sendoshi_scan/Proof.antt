@@ -23,9 +23,6 @@ given s = columns (now (s .args .kinds)) (now (s .args .transactions)) (now (s .
 small : (s : tie.Start) → s .args .count ≤ most
 small s = omega (arith, s .fits .count .fits)
 
-scan-history-requires : tie.Need-scan-history-requires
-scan-history-requires c κs = search needs
-
 scan-code-requires : tie.Need-scan-code-requires
 scan-code-requires c κs =
     let s = c .before .before .before .before .before in
@@ -39,4 +36,4 @@ returns c =
     (e, ap (decoded noValue never) e ∙ told-back noValue never _ (scan-told (s .args .edition) (now (s .args .starts)) (given s) (s .args .count) (small s)))
 
 pub sendoshi-scan-spec : {M : Type 1} → statement M
-sendoshi-scan-spec = tie.close (tie.spec scan-history-requires scan-code-requires returns)
+sendoshi-scan-spec = tie.close (tie.spec (λ c κs. search needs) scan-code-requires returns)

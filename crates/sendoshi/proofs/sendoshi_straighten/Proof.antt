@@ -22,19 +22,10 @@ given s = columns (now (s .args .kinds)) (now (s .args .transactions)) (now (s .
 small : (s : tie.Start) → s .args .count ≤ most
 small s = omega (arith, s .fits .count .fits)
 
-straighten-requires : tie.Need-straighten-requires
-straighten-requires c κs = search needs
-
 straighten-code-requires : tie.Need-straighten-code-requires
 straighten-code-requires c κs =
     let s = c .before .before .before .before .before .before .before .before .before .before .before .before .before .before in
     subst (λ (x : Given). Known (said (x .result))) (sym (c .before .before .before .before .straighten .ensures)) (straighten-told (s .args .edition) (now (s .args .starts)) (given s) (s .args .count) (small s) (now (s .args .file)) (now (s .args .output)) (now (s .args .moved)) .0)
-
-same-length : tie.Need-same-length
-same-length c = search needs
-
-same-length-2 : tie.Need-same-length-2
-same-length-2 c = search needs
 
 returns : tie.Need-returns
 unfolding straightenCall
@@ -49,4 +40,5 @@ returns c =
 pub sendoshi-straighten-spec : {M : Type 1} → statement M
 sendoshi-straighten-spec =
     tie.close
-    (tie.spec straighten-requires straighten-code-requires same-length same-length-2 returns)
+    (tie.spec (λ c κs. search needs) straighten-code-requires (λ c. search needs)
+    (λ c. search needs) returns)

@@ -23,9 +23,6 @@ given s = columns (now (s .args .kinds)) (now (s .args .transactions)) (now (s .
 small : (s : tie.Start) → s .args .count ≤ most
 small s = omega (arith, s .fits)
 
-tally-transactions-requires : tie.Need-tally-transactions-requires
-tally-transactions-requires c κs = search needs
-
 tally-code-requires : tie.Need-tally-code-requires
 tally-code-requires c κs =
     let s = c .before .before .before .before .before in
@@ -39,4 +36,4 @@ returns c =
     (e, ap (decoded fourValues never) e ∙ told-back fourValues never _ (tally-told (given s) (s .args .count) (small s)))
 
 pub sendoshi-tally-spec : {M : Type 1} → statement M
-sendoshi-tally-spec = tie.close (tie.spec tally-transactions-requires tally-code-requires returns)
+sendoshi-tally-spec = tie.close (tie.spec (λ c κs. search needs) tally-code-requires returns)

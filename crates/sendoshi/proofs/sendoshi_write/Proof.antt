@@ -22,16 +22,10 @@ given s = columns (now (s .args .kinds)) (now (s .args .transactions)) (now (s .
 small : (s : tie.Start) → s .args .count ≤ most
 small s = omega (arith, s .fits .count .fits)
 
-write-history-requires : tie.Need-write-history-requires
-write-history-requires c κs = search needs
-
 written-code-requires : tie.Need-written-code-requires
 written-code-requires c κs =
     let s = c .before .before .before .before .before .before .before .before .before in
     subst (λ (x : WrittenAnswer). Known (said (x .result))) (sym (c .before .before .write-history .ensures)) (write-told (s .args .edition) (now (s .args .starts)) (given s) (s .args .count) (small s) (now (s .args .output)) .0)
-
-same-length : tie.Need-same-length
-same-length c = search needs
 
 returns : tie.Need-returns
 unfolding writeCall
@@ -45,4 +39,4 @@ returns c =
 
 pub sendoshi-write-spec : {M : Type 1} → statement M
 sendoshi-write-spec =
-    tie.close (tie.spec write-history-requires written-code-requires same-length returns)
+    tie.close (tie.spec (λ c κs. search needs) written-code-requires (λ c. search needs) returns)

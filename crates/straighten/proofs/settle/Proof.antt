@@ -37,17 +37,8 @@ entered b = b .before .before .before .before .before
 abbrev written : tie.After-list-moved → tie.After-write-marking
 written l = l .before .before .before .before .before
 
-enum-known-verdict : tie.Need-enum-known-verdict
-enum-known-verdict c = search needs
-
 returns : tie.Need-returns
 returns c = sym (ap (by (c .before .before .before .before .before)) (c .before .verdict .given .1))
-
-enum-told : tie.Need-enum-told
-enum-told c = search needs
-
-transactions-begun-requires : tie.Need-transactions-begun-requires
-transactions-begun-requires c κs = search needs
 
 write-marking-requires : tie.Need-write-marking-requires
 write-marking-requires c κs =
@@ -62,12 +53,6 @@ list-moved-requires : tie.Need-list-moved-requires
 list-moved-requires c κs =
     let s = entered (counted (c .before .before .before .before .before)) in
     (log-most (s .args .log .now) (s .pre .0), rw (listed-counted (s .args .log .now) (s .args .straight .moves)) (s .pre .1 .1))
-
-same-length : tie.Need-same-length
-same-length c = search needs
-
-same-length-2 : tie.Need-same-length-2
-same-length-2 c = search needs
 
 returns-2 : tie.Need-returns-2
 returns-2 c =
@@ -86,13 +71,5 @@ returns-2 c =
 pub settle-spec : {M : Type 1} → statement M
 settle-spec =
     tie.close
-    (tie.spec
-    enum-known-verdict
-    returns
-    enum-told
-    transactions-begun-requires
-    write-marking-requires
-    list-moved-requires
-    same-length
-    same-length-2
-    returns-2)
+    (tie.spec (λ c. search needs) returns (λ c. search needs) (λ c κs. search needs)
+    write-marking-requires list-moved-requires (λ c. search needs) (λ c. search needs) returns-2)

@@ -28,27 +28,12 @@ entered-2 a = a .before .before .before .before .before .before .before .before 
 abbrev answer : tie.Start → Checked → List Event → Given
 answer s x h = afterColumns (startOf (s .args .starts .now)) h (s .args .count) (s .args .file .now) (now (s .args .output)) (now (s .args .moved)) x
 
-slice-aggregate-admit : tie.Need-slice-aggregate-admit
-slice-aggregate-admit c = search needs
-
-admit-requires : tie.Need-admit-requires
-admit-requires c κs = search needs
-
-slice-aggregate-straighten-admitted : tie.Need-slice-aggregate-straighten-admitted
-slice-aggregate-straighten-admitted c = search needs
-
 straighten-admitted-requires : tie.Need-straighten-admitted-requires
 straighten-admitted-requires c κs =
     let a = c .before .before .before .before in
     let s = entered a in
     let-in (s .args .edition) (s .args .starts .now) (given s) (s .args .count) (a .admit .result) _ _ (a .admit .ensures .0) (a .admit .ensures .1)
     (λ m. omega (arith, a .before .before .if1 .taken))
-
-same-length : tie.Need-same-length
-same-length c = search needs
-
-same-length-2 : tie.Need-same-length-2
-same-length-2 c = search needs
 
 returns : tie.Need-returns
 unfolding straightenedAnswer
@@ -60,27 +45,12 @@ returns c =
     ∙ behind (s .args .edition) (s .args .starts .now) (given s) (s .args .count) (a .admit .result) _ _ (a .admit .ensures .0) (a .admit .ensures .1)
     (λ m. omega (arith, a .before .before .if1 .taken)) (answer s) (λ r g h. refl)
 
-slice-aggregate-admit-2 : tie.Need-slice-aggregate-admit-2
-slice-aggregate-admit-2 c = search needs
-
-admit-requires-2 : tie.Need-admit-requires-2
-admit-requires-2 c κs = search needs
-
-slice-aggregate-straighten-admitted-2 : tie.Need-slice-aggregate-straighten-admitted-2
-slice-aggregate-straighten-admitted-2 c = search needs
-
 straighten-admitted-requires-2 : tie.Need-straighten-admitted-requires-2
 straighten-admitted-requires-2 c κs =
     let a = c .before .before .before .before in
     let s = entered-2 a in
     let-in (s .args .edition) (s .args .starts .now) (given s) (s .args .count) (a .admit2 .result) _ _ (a .admit2 .ensures .0) (a .admit2 .ensures .1)
     (λ m. m)
-
-same-length-3 : tie.Need-same-length-3
-same-length-3 c = search needs
-
-same-length-4 : tie.Need-same-length-4
-same-length-4 c = search needs
 
 returns-2 : tie.Need-returns-2
 unfolding straightenedAnswer
@@ -95,18 +65,7 @@ returns-2 c =
 pub straighten-spec : {M : Type 1} → statement M
 straighten-spec =
     tie.close
-    (tie.spec
-    slice-aggregate-admit
-    admit-requires
-    slice-aggregate-straighten-admitted
-    straighten-admitted-requires
-    same-length
-    same-length-2
-    returns
-    slice-aggregate-admit-2
-    admit-requires-2
-    slice-aggregate-straighten-admitted-2
-    straighten-admitted-requires-2
-    same-length-3
-    same-length-4
-    returns-2)
+    (tie.spec (λ c. search needs) (λ c κs. search needs) (λ c. search needs)
+    straighten-admitted-requires (λ c. search needs) (λ c. search needs) returns (λ c. search needs)
+    (λ c κs. search needs) (λ c. search needs) straighten-admitted-requires-2 (λ c. search needs)
+    (λ c. search needs) returns-2)

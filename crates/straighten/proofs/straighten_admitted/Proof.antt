@@ -17,12 +17,6 @@ use Rattle.straighten.proofs.straighten_admitted.Tie as tie
 abbrev entered : tie.After-enum-told → tie.Start
 entered t = t .before .before .before .before .before
 
-enum-known-checked : tie.Need-enum-known-checked
-enum-known-checked c = search needs
-
-enum-told : tie.Need-enum-told
-enum-told c = search needs
-
 slice-aggregate-straighten-log : tie.Need-slice-aggregate-straighten-log
 slice-aggregate-straighten-log c = sym (length-take-le _ _ (entered (c .before) .pre .room (c .before .enum-told .given .1)))
 
@@ -31,12 +25,6 @@ straighten-log-requires c κs = entered (c .before .before .before) .pre .readab
 
 returns : tie.Need-returns
 returns c = rw (c .before .checked .given .1)
-
-same-length : tie.Need-same-length
-same-length c = search needs
-
-same-length-2 : tie.Need-same-length-2
-same-length-2 c = search needs
 
 returns-2 : tie.Need-returns-2
 returns-2 c =
@@ -52,12 +40,5 @@ returns-2 c =
 pub straighten-admitted-spec : {M : Type 1} → statement M
 straighten-admitted-spec =
     tie.close
-    (tie.spec
-    enum-known-checked
-    enum-told
-    slice-aggregate-straighten-log
-    straighten-log-requires
-    returns
-    same-length
-    same-length-2
-    returns-2)
+    (tie.spec (λ c. search needs) (λ c. search needs) slice-aggregate-straighten-log
+    straighten-log-requires returns (λ c. search needs) (λ c. search needs) returns-2)

@@ -68,12 +68,6 @@ roomIn s points = leb (length (s .args .file .now)) (length (now (s .args .outpu
 asked : (r : tie.After-has-room) → r .has-room .result ≡ roomIn (entered (read r)) (length (storeReads (logged (entered (read r) .args .log .now))))
 asked r = r .has-room .ensures ∙ ap (roomIn (entered (read r))) (r .before .count-store-reads .ensures)
 
-transactions-begun-requires : tie.Need-transactions-begun-requires
-transactions-begun-requires c κs = search needs
-
-own-writes-requires : tie.Need-own-writes-requires
-own-writes-requires c κs = search needs
-
 store-reads-requires : tie.Need-store-reads-requires
 store-reads-requires c κs = let w = c .before in let s = begun-in (w .before) in (w .own-writes .ensures, log-most (s .args .log .now) (s .pre))
 
@@ -94,12 +88,6 @@ returns c =
     let t = tabled m .store-reads in
     sym (ap (afterFile (startOf (s .args .starts .now)) (logged (s .args .log .now)) (length (s .args .log .now)) (s .args .file .now) (now (s .args .output)) (now (s .args .moved)))
     (reading-refused (s .args .log .now) (b .result) (t .result) (b .ensures) (t .ensures) (m .read-marking .result) (s .args .file .now) (m .read-marking .ensures .0) (c .if1 .taken)))
-
-count-store-reads-requires : tie.Need-count-store-reads-requires
-count-store-reads-requires c κs = search needs
-
-has-room-requires : tie.Need-has-room-requires
-has-room-requires c κs = search needs
 
 returns-2 : tie.Need-returns-2
 returns-2 c =
@@ -122,12 +110,6 @@ straighten-points-requires c κs =
           (content-readable (logged log) (s .args .file .now) (marking m) (s .pre) (holds r)),
     )
 
-same-length : tie.Need-same-length
-same-length c = search needs
-
-same-length-2 : tie.Need-same-length-2
-same-length-2 c = search needs
-
 returns-3 : tie.Need-returns-3
 returns-3 c =
     let p = c .before .before .before .before in
@@ -141,16 +123,6 @@ returns-3 c =
 pub straighten-log-spec : {M : Type 1} → statement M
 straighten-log-spec =
     tie.close
-    (tie.spec
-    transactions-begun-requires
-    own-writes-requires
-    store-reads-requires
-    read-marking-requires
-    returns
-    count-store-reads-requires
-    has-room-requires
-    returns-2
-    straighten-points-requires
-    same-length
-    same-length-2
-    returns-3)
+    (tie.spec (λ c κs. search needs) (λ c κs. search needs) store-reads-requires
+    read-marking-requires returns (λ c κs. search needs) (λ c κs. search needs) returns-2
+    straighten-points-requires (λ c. search needs) (λ c. search needs) returns-3)

@@ -40,17 +40,8 @@ readable l =
     let y = s .pre .0 in
     given (s .args .log .now) (begins (logged (s .args .log .now))) (s .args .reads .now) refl (y .tabled) (s .args .reading) (y .kept) (y .readable) (l .links .ensures)
 
-transactions-begun-requires : tie.Need-transactions-begun-requires
-transactions-begun-requires c κs = search needs
-
-links-requires : tie.Need-links-requires
-links-requires c κs = search needs
-
 straight-of-requires : tie.Need-straight-of-requires
 straight-of-requires c κs = let l = linked c in (readable l, l .before .transactions-begun .ensures)
-
-judge-requires : tie.Need-judge-requires
-judge-requires c κs = search needs
 
 settle-requires : tie.Need-settle-requires
 settle-requires c κs =
@@ -62,12 +53,6 @@ settle-requires c κs =
       s .pre .0 .readable,
       (bytes-fit (s .args .log .now) (s .pre .0 .tabled) (straight .1 .1) (s .pre .1), omega (arith, ap length (straight .1 .0), few, s .pre .1 .entries)),
     )
-
-same-length : tie.Need-same-length
-same-length c = search needs
-
-same-length-2 : tie.Need-same-length-2
-same-length-2 c = search needs
 
 returns : tie.Need-returns
 returns c =
@@ -83,12 +68,5 @@ returns c =
 pub straighten-points-spec : {M : Type 1} → statement M
 straighten-points-spec =
     tie.close
-    (tie.spec
-    transactions-begun-requires
-    links-requires
-    straight-of-requires
-    judge-requires
-    settle-requires
-    same-length
-    same-length-2
-    returns)
+    (tie.spec (λ c κs. search needs) (λ c κs. search needs) straight-of-requires
+    (λ c κs. search needs) settle-requires (λ c. search needs) (λ c. search needs) returns)

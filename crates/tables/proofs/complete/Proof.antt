@@ -20,11 +20,8 @@ found : (a : tie.After-find) → Answers (entered a .args .transactions) (a .fin
     (firstWhole (constraints (entered a .args .starts .now) (entered a .args .facts .now)) (entered a .args .transactions))
 found a = answers-whole _ _ _ (entered a .pre .1) (a .find .ensures)
 
-find-requires : tie.Need-find-requires
-find-requires c κs = search needs
-
 returns-2 : tie.Need-returns-2
 returns-2 c = record { completion = rw (eq-eqb _ _ (c .before .if1 .left)) (found c .completion); room = found c .room }
 
 pub complete-spec : {M : Type 1} → statement M
-complete-spec = tie.close (tie.spec returns find-requires returns-2)
+complete-spec = tie.close (tie.spec returns (λ c κs. search needs) returns-2)

@@ -39,15 +39,9 @@ last-turn a = a .before .before .before
 inside : (a : tie.After-event-at Inv-loop μ-loop) → a .before .before .loop .i < length (given (a .before .before .before .before))
 inside a = omega (arith, a .before .loop-test .taken, logged-length (a .before .before .before .before .args .log .now))
 
-no-events-requires : tie.Need-no-events-requires Inv-loop μ-loop
-no-events-requires c κs = search needs
-
 loop-holds : tie.Need-loop-holds Inv-loop μ-loop
 unfolding tablesOf goThrough
 loop-holds c = (omega arith, c .no-events .ensures)
-
-event-at-requires : tie.Need-event-at-requires Inv-loop μ-loop
-event-at-requires c κs = search needs
 
 step-requires : tie.Need-step-requires Inv-loop μ-loop
 step-requires c κs =
@@ -55,21 +49,12 @@ step-requires c κs =
     let start = a .before .before .before .before in
     tabled (given start) (start .pre) (a .before .before .loop .i) (inside a) (a .event-at .result) (a .event-at .ensures)
 
-add-i : tie.Need-add-i Inv-loop μ-loop
-add-i c = search needs
-
-loop-less : tie.Need-loop-less Inv-loop μ-loop
-loop-less c = search needs
-
 loop-again : tie.Need-loop-again Inv-loop μ-loop
 loop-again c =
     let a = c .before .before in
     let l = a .before .before in
     let h = given (l .before .before) in
     (omega (arith, a .before .loop-test .taken), tables-more h (l .loop .i) (inside a) (tabled-at l) _ (a .event-at .result) (l .loop .inv .1) (a .event-at .ensures) (c .step .ensures))
-
-transactions-begun-requires : tie.Need-transactions-begun-requires Inv-loop μ-loop
-transactions-begun-requires c κs = search needs
 
 -- where the begins are counted all events are passed: the tables are those of the history
 whole : (a : tie.After-transactions-begun Inv-loop μ-loop) → tabled-at (last-turn a) ≡ tablesOf (given (last-turn a .before .before))
@@ -95,16 +80,6 @@ returns c =
 pub find-order-spec : {M : Type 1} → statement M
 find-order-spec =
     tie.close
-    (tie.spec
-    Inv-loop
-    μ-loop
-    no-events-requires
-    loop-holds
-    event-at-requires
-    step-requires
-    add-i
-    loop-less
-    loop-again
-    transactions-begun-requires
-    complete-requires
+    (tie.spec Inv-loop μ-loop (λ c κs. search needs) loop-holds (λ c κs. search needs) step-requires
+    (λ c. search needs) (λ c. search needs) loop-again (λ c κs. search needs) complete-requires
     returns)

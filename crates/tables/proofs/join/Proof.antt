@@ -4,9 +4,6 @@ use borrow.Author.Needs.{needs}
 use Rattle.tables.proofs.join.Statement.{statement}
 use Rattle.tables.proofs.join.Tie as tie
 
-with-requires : tie.Need-with-requires
-with-requires c κs = search needs
-
 returns : tie.Need-returns
 unfolding joined
 returns c = rw (c .before .if1 .taken) (c .with .ensures)
@@ -16,4 +13,4 @@ unfolding joined
 returns-2 c = rw (c .if1 .left)
 
 pub join-spec : {M : Type 1} → statement M
-join-spec = tie.close (tie.spec with-requires returns returns-2)
+join-spec = tie.close (tie.spec (λ c κs. search needs) returns returns-2)

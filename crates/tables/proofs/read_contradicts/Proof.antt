@@ -7,21 +7,9 @@ use borrow.Author.Needs.{needs}
 use Rattle.tables.proofs.read_contradicts.Statement.{statement}
 use Rattle.tables.proofs.read_contradicts.Tie as tie
 
-is-read-requires : tie.Need-is-read-requires
-is-read-requires c κs = search needs
-
 returns : tie.Need-returns
 unfolding contradicts _and_
 returns c = rw (sym (c .before .is-read .ensures) ∙ not-true _ (c .if1 .taken))
-
-expected-at-requires : tie.Need-expected-at-requires
-expected-at-requires c κs = search needs
-
-stored-requires : tie.Need-stored-requires
-stored-requires c κs = search needs
-
-differs-requires : tie.Need-differs-requires
-differs-requires c κs = search needs
 
 returns-2 : tie.Need-returns-2
 unfolding contradicts _and_
@@ -32,10 +20,5 @@ returns-2 c =
 pub read-contradicts-spec : {M : Type 1} → statement M
 read-contradicts-spec =
     tie.close
-    (tie.spec
-    is-read-requires
-    returns
-    expected-at-requires
-    stored-requires
-    differs-requires
-    returns-2)
+    (tie.spec (λ c κs. search needs) returns (λ c κs. search needs) (λ c κs. search needs)
+    (λ c κs. search needs) returns-2)

@@ -14,22 +14,13 @@ no-commit a = sym (a .before .is-commit .ensures) ∙ a .if1 .left
 no-abort : (a : tie.Else2) → isAbort (a .before .before .before .before .args .e) ≡ false
 no-abort a = sym (a .before .is-abort .ensures) ∙ a .if2 .left
 
-is-commit-requires : tie.Need-is-commit-requires
-is-commit-requires c κs = search needs
-
 returns : tie.Need-returns
 unfolding ruleWith
 returns c = rw (sym (c .before .is-commit .ensures) ∙ c .if1 .taken)
 
-is-abort-requires : tie.Need-is-abort-requires
-is-abort-requires c κs = search needs
-
 returns-2 : tie.Need-returns-2
 unfolding ruleWith
 returns-2 c = rw (no-commit (c .before .before), sym (c .before .is-abort .ensures) ∙ c .if2 .taken)
-
-asks-commit-requires : tie.Need-asks-commit-requires
-asks-commit-requires c κs = search needs
 
 returns-3 : tie.Need-returns-3
 unfolding ruleWith
@@ -42,11 +33,5 @@ returns-4 c = let at = c .before .before in rw (no-commit (at .before .before), 
 pub rule-with-spec : {M : Type 1} → statement M
 rule-with-spec =
     tie.close
-    (tie.spec
-    is-commit-requires
-    returns
-    is-abort-requires
-    returns-2
-    asks-commit-requires
-    returns-3
-    returns-4)
+    (tie.spec (λ c κs. search needs) returns (λ c κs. search needs) returns-2 (λ c κs. search needs)
+    returns-3 returns-4)

@@ -41,9 +41,6 @@ its-number c =
 table-requires : tie.Need-table-requires Inv-loop μ-loop
 table-requires c κs = c .pre
 
-transactions-begun-requires : tie.Need-transactions-begun-requires Inv-loop μ-loop
-transactions-begun-requires c κs = search needs
-
 loop-holds : tie.Need-loop-holds Inv-loop μ-loop
 loop-holds c = counted-first (logged (c .before .before .args .log .now))
 
@@ -52,9 +49,6 @@ mul-wide c = let l = low c in search needs
 
 array-read-wide : tie.Need-array-read-wide Inv-loop μ-loop
 array-read-wide c = low c
-
-wide-requires : tie.Need-wide-requires Inv-loop μ-loop
-wide-requires c κs = search needs
 
 mul-many : tie.Need-mul-many Inv-loop μ-loop
 mul-many c = let n = its-number c in search needs
@@ -74,25 +68,10 @@ array-write-many c = its-number c
 add-t : tie.Need-add-t Inv-loop μ-loop
 add-t c = omega (arith, low (c .before))
 
-loop-less : tie.Need-loop-less Inv-loop μ-loop
-loop-less c = search needs
-
 loop-again : tie.Need-loop-again Inv-loop μ-loop
 loop-again c =
     let l = c .before .before in
     counted-more _ (l .loop .many) (l .loop .t) (c .wide .result) (below (c .before)) (l .loop .inv) (stood c)
-
-array-read-t20 : tie.Need-array-read-t20 Inv-loop μ-loop
-array-read-t20 c = search needs
-
-array-read-t23 : tie.Need-array-read-t23 Inv-loop μ-loop
-array-read-t23 c = search needs
-
-array-read-t26 : tie.Need-array-read-t26 Inv-loop μ-loop
-array-read-t26 c = search needs
-
-array-read-t29 : tie.Need-array-read-t29 Inv-loop μ-loop
-array-read-t29 c = search needs
 
 returns : tie.Need-returns Inv-loop μ-loop
 returns c =
@@ -102,24 +81,7 @@ returns c =
 pub tally-of-spec : {M : Type 1} → statement M
 tally-of-spec =
     tie.close
-    (tie.spec
-    Inv-loop
-    μ-loop
-    table-requires
-    transactions-begun-requires
-    loop-holds
-    mul-wide
-    array-read-wide
-    wide-requires
-    mul-many
-    array-read-many
-    add-many
-    array-write-many
-    add-t
-    loop-less
-    loop-again
-    array-read-t20
-    array-read-t23
-    array-read-t26
-    array-read-t29
-    returns)
+    (tie.spec Inv-loop μ-loop table-requires (λ c κs. search needs) loop-holds mul-wide
+    array-read-wide (λ c κs. search needs) mul-many array-read-many add-many array-write-many add-t
+    (λ c. search needs) loop-again (λ c. search needs) (λ c. search needs) (λ c. search needs)
+    (λ c. search needs) returns)

@@ -23,26 +23,11 @@ abbrev μ-loop : tie.MeasureT-loop
 loop-holds : tie.Need-loop-holds Inv-loop μ-loop
 loop-holds c = (omega arith, filled-none _ _ _)
 
-event-at-requires : tie.Need-event-at-requires Inv-loop μ-loop
-event-at-requires c κs = search needs
-
-place-of-requires : tie.Need-place-of-requires Inv-loop μ-loop
-place-of-requires c κs = search needs
-
 cast-gaps : tie.Need-cast-gaps Inv-loop μ-loop
 cast-gaps c = omega (arith, c .place-of .ensures .1, c .before .before .before .before .pre .0)
 
-mul-gaps : tie.Need-mul-gaps Inv-loop μ-loop
-mul-gaps c = search needs
-
 array-write-gaps : tie.Need-array-write-gaps Inv-loop μ-loop
 array-write-gaps c = omega (arith, c .before .before .before .before .pre .1, c .before .before .before .loop .inv .1 .size)
-
-add-i : tie.Need-add-i Inv-loop μ-loop
-add-i c = search needs
-
-loop-less : tie.Need-loop-less Inv-loop μ-loop
-loop-less c = search needs
 
 loop-again : tie.Need-loop-again Inv-loop μ-loop
 loop-again c =
@@ -63,16 +48,5 @@ returns c =
 pub gaps-of-spec : {M : Type 1} → statement M
 gaps-of-spec =
     tie.close
-    (tie.spec
-    Inv-loop
-    μ-loop
-    loop-holds
-    event-at-requires
-    place-of-requires
-    cast-gaps
-    mul-gaps
-    array-write-gaps
-    add-i
-    loop-less
-    loop-again
-    returns)
+    (tie.spec Inv-loop μ-loop loop-holds (λ c κs. search needs) (λ c κs. search needs) cast-gaps
+    (λ c. search needs) array-write-gaps (λ c. search needs) (λ c. search needs) loop-again returns)

@@ -17,29 +17,11 @@ abbrev μ-loop : tie.MeasureT-loop
 loop-holds : tie.Need-loop-holds Inv-loop μ-loop
 loop-holds c = (omega arith, record { transactions = filled-none _ _ _; ends = filled-none _ _ _ })
 
-array-read-wide : tie.Need-array-read-wide Inv-loop μ-loop
-array-read-wide c = search needs
-
-wide-requires : tie.Need-wide-requires Inv-loop μ-loop
-wide-requires c κs = search needs
-
-mul-order : tie.Need-mul-order Inv-loop μ-loop
-mul-order c = search needs
-
 array-write-order : tie.Need-array-write-order Inv-loop μ-loop
 array-write-order c = omega (arith, c .before .before .before .pre, c .before .before .loop .inv .1 .transactions .size)
 
-array-read-outcomes : tie.Need-array-read-outcomes Inv-loop μ-loop
-array-read-outcomes c = search needs
-
 array-write-outcomes : tie.Need-array-write-outcomes Inv-loop μ-loop
 array-write-outcomes c = omega (arith, c .before .before .before .pre, c .before .before .loop .inv .1 .ends .size)
-
-add-k : tie.Need-add-k Inv-loop μ-loop
-add-k c = search needs
-
-loop-less : tie.Need-loop-less Inv-loop μ-loop
-loop-less c = search needs
 
 loop-again : tie.Need-loop-again Inv-loop μ-loop
 loop-again c =
@@ -62,17 +44,6 @@ returns c =
 pub placed-by-spec : {M : Type 1} → statement M
 placed-by-spec =
     tie.close
-    (tie.spec
-    Inv-loop
-    μ-loop
-    loop-holds
-    array-read-wide
-    wide-requires
-    mul-order
-    array-write-order
-    array-read-outcomes
-    array-write-outcomes
-    add-k
-    loop-less
-    loop-again
-    returns)
+    (tie.spec Inv-loop μ-loop loop-holds (λ c. search needs) (λ c κs. search needs)
+    (λ c. search needs) array-write-order (λ c. search needs) array-write-outcomes
+    (λ c. search needs) (λ c. search needs) loop-again returns)

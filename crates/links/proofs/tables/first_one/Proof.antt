@@ -10,12 +10,6 @@ returns : tie.Need-returns
 unfolding firstOne
 returns c = rw (ne-eqb _ _ (c .if1 .taken))
 
-add-result : tie.Need-add-result
-add-result c = search needs
-
-cast-result : tie.Need-cast-result
-cast-result c = search needs
-
 returns-2 : tie.Need-returns-2
 unfolding firstOne
 returns-2 c = rw (eq-eqb _ _ (c .before .if1 .left), c .if2 .taken)
@@ -25,4 +19,5 @@ unfolding firstOne
 returns-3 c = rw (eq-eqb _ _ (c .before .if1 .left), c .if2 .left)
 
 pub first-one-spec : {M : Type 1} → statement M
-first-one-spec = tie.close (tie.spec returns add-result cast-result returns-2 returns-3)
+first-one-spec = tie.close (tie.spec returns (λ c. search needs) (λ c. search needs) returns-2
+    returns-3)

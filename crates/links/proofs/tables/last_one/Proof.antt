@@ -5,12 +5,6 @@ use borrow.Author.Needs.{needs}
 use Rattle.links.proofs.tables.last_one.Statement.{statement}
 use Rattle.links.proofs.tables.last_one.Tie as tie
 
-add-result : tie.Need-add-result
-add-result c = search needs
-
-cast-result : tie.Need-cast-result
-cast-result c = search needs
-
 returns : tie.Need-returns
 unfolding lastOne
 returns c = rw (c .if1 .taken)
@@ -20,4 +14,4 @@ unfolding lastOne
 returns-2 c = rw (c .if1 .left)
 
 pub last-one-spec : {M : Type 1} → statement M
-last-one-spec = tie.close (tie.spec add-result cast-result returns returns-2)
+last-one-spec = tie.close (tie.spec (λ c. search needs) (λ c. search needs) returns returns-2)

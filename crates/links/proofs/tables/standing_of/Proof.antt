@@ -6,22 +6,13 @@ use borrow.Author.Needs.{needs}
 use Rattle.links.proofs.tables.standing_of.Statement.{statement}
 use Rattle.links.proofs.tables.standing_of.Tie as tie
 
-is-commit-requires : tie.Need-is-commit-requires
-is-commit-requires c κs = search needs
-
 returns : tie.Need-returns
 unfolding standing rank
 returns c = rw (sym (c .before .is-commit .ensures) ∙ c .if1 .taken)
 
-is-abort-requires : tie.Need-is-abort-requires
-is-abort-requires c κs = search needs
-
 returns-2 : tie.Need-returns-2
 unfolding standing rank
 returns-2 c = rw (sym (c .before .before .before .is-commit .ensures) ∙ c .before .before .if1 .left, sym (c .before .is-abort .ensures) ∙ c .if2 .taken)
-
-asks-commit-requires : tie.Need-asks-commit-requires
-asks-commit-requires c κs = search needs
 
 returns-3 : tie.Need-returns-3
 unfolding standing rank
@@ -44,11 +35,5 @@ returns-4 c =
 pub standing-of-spec : {M : Type 1} → statement M
 standing-of-spec =
     tie.close
-    (tie.spec
-    is-commit-requires
-    returns
-    is-abort-requires
-    returns-2
-    asks-commit-requires
-    returns-3
-    returns-4)
+    (tie.spec (λ c κs. search needs) returns (λ c κs. search needs) returns-2 (λ c κs. search needs)
+    returns-3 returns-4)

@@ -33,12 +33,6 @@ few c = omega (arith, log-most (c .before .before .args .log .now) (c .before .b
 loop-holds : tie.Need-loop-holds Inv-loop μ-loop
 loop-holds c = (omega arith, slots-start _ _)
 
-event-at-requires : tie.Need-event-at-requires Inv-loop μ-loop
-event-at-requires c κs = search needs
-
-wide-requires : tie.Need-wide-requires Inv-loop μ-loop
-wide-requires c κs = search needs
-
 mul-slot-at : tie.Need-mul-slot-at Inv-loop μ-loop
 mul-slot-at c = let l = low c in search needs
 
@@ -53,12 +47,6 @@ mul-slots c = let l = low (c .before) in search needs
 
 array-write-slots : tie.Need-array-write-slots Inv-loop μ-loop
 array-write-slots c = let l = low (c .before) in search needs
-
-add-i : tie.Need-add-i Inv-loop μ-loop
-add-i c = search needs
-
-loop-less : tie.Need-loop-less Inv-loop μ-loop
-loop-less c = search needs
 
 loop-again : tie.Need-loop-again Inv-loop μ-loop
 loop-again c =
@@ -77,18 +65,6 @@ returns c =
 pub table-spec : {M : Type 1} → statement M
 table-spec =
     tie.close
-    (tie.spec
-    Inv-loop
-    μ-loop
-    loop-holds
-    event-at-requires
-    wide-requires
-    mul-slot-at
-    array-read-slot-at
-    slot-at-requires
-    mul-slots
-    array-write-slots
-    add-i
-    loop-less
-    loop-again
-    returns)
+    (tie.spec Inv-loop μ-loop loop-holds (λ c κs. search needs) (λ c κs. search needs) mul-slot-at
+    array-read-slot-at slot-at-requires mul-slots array-write-slots (λ c. search needs)
+    (λ c. search needs) loop-again returns)

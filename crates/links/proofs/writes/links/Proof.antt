@@ -38,20 +38,11 @@ few c = omega (arith, log-most (c .before .before .args .log .now) (c .before .b
 loop-holds : tie.Need-loop-holds Inv-loop μ-loop
 loop-holds c = (omega arith, slots-start _ _, filled-none _ _ _)
 
-event-at-requires : tie.Need-event-at-requires Inv-loop μ-loop
-event-at-requires c κs = search needs
-
-wide-requires : tie.Need-wide-requires Inv-loop μ-loop
-wide-requires c κs = search needs
-
 mul-link : tie.Need-mul-link Inv-loop μ-loop
 mul-link c = let l = low c in search needs
 
 array-read-link : tie.Need-array-read-link Inv-loop μ-loop
 array-read-link c = let l = low c in search needs
-
-mul-link-2 : tie.Need-mul-link-2 Inv-loop μ-loop
-mul-link-2 c = search needs
 
 array-write-link : tie.Need-array-write-link Inv-loop μ-loop
 array-write-link c = let l = few (c .before .before) in omega (arith, c .before .before .before .loop .inv .2 .size)
@@ -70,12 +61,6 @@ mul-last c = let l = low (c .before) in search needs
 
 array-write-last : tie.Need-array-write-last Inv-loop μ-loop
 array-write-last c = let l = low (c .before) in search needs
-
-add-i : tie.Need-add-i Inv-loop μ-loop
-add-i c = search needs
-
-loop-less : tie.Need-loop-less Inv-loop μ-loop
-loop-less c = search needs
 
 loop-again : tie.Need-loop-again Inv-loop μ-loop
 loop-again c =
@@ -100,22 +85,7 @@ returns c =
 pub links-spec : {M : Type 1} → statement M
 links-spec =
     tie.close
-    (tie.spec
-    Inv-loop
-    μ-loop
-    loop-holds
-    event-at-requires
-    wide-requires
-    mul-link
-    array-read-link
-    mul-link-2
-    array-write-link
-    mul-slot-at
-    array-read-slot-at
-    slot-at-requires
-    mul-last
-    array-write-last
-    add-i
-    loop-less
-    loop-again
+    (tie.spec Inv-loop μ-loop loop-holds (λ c κs. search needs) (λ c κs. search needs) mul-link
+    array-read-link (λ c. search needs) array-write-link mul-slot-at array-read-slot-at
+    slot-at-requires mul-last array-write-last (λ c. search needs) (λ c. search needs) loop-again
     returns)

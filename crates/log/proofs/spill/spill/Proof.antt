@@ -39,38 +39,17 @@ room c = let l = turn c in let s = entered l in spilling-room (s .args .log .now
 loop-holds : tie.Need-loop-holds Inv-loop μ-loop
 loop-holds c = let s = c .before .before .before .before in spilling-first (s .args .log .now) (lent s)
 
-event-at-requires : tie.Need-event-at-requires Inv-loop μ-loop
-event-at-requires c κs = search needs
-
-mul-kinds : tie.Need-mul-kinds Inv-loop μ-loop
-mul-kinds c = search needs
-
 slice-write-kinds : tie.Need-slice-write-kinds Inv-loop μ-loop
 slice-write-kinds c = omega (arith, room c .kinds)
-
-mul-transactions : tie.Need-mul-transactions Inv-loop μ-loop
-mul-transactions c = search needs
 
 slice-write-transactions : tie.Need-slice-write-transactions Inv-loop μ-loop
 slice-write-transactions c = omega (arith, room c .transactions)
 
-mul-registers : tie.Need-mul-registers Inv-loop μ-loop
-mul-registers c = search needs
-
 slice-write-registers : tie.Need-slice-write-registers Inv-loop μ-loop
 slice-write-registers c = omega (arith, room c .registers)
 
-mul-values : tie.Need-mul-values Inv-loop μ-loop
-mul-values c = search needs
-
 slice-write-values : tie.Need-slice-write-values Inv-loop μ-loop
 slice-write-values c = omega (arith, room c .values)
-
-add-i : tie.Need-add-i Inv-loop μ-loop
-add-i c = search needs
-
-loop-less : tie.Need-loop-less Inv-loop μ-loop
-loop-less c = search needs
 
 loop-again : tie.Need-loop-again Inv-loop μ-loop
 loop-again c =
@@ -99,24 +78,7 @@ returns c =
 pub spill-spec : {M : Type 1} → statement M
 spill-spec =
     tie.close
-    (tie.spec
-    Inv-loop
-    μ-loop
-    loop-holds
-    event-at-requires
-    mul-kinds
-    slice-write-kinds
-    mul-transactions
-    slice-write-transactions
-    mul-registers
-    slice-write-registers
-    mul-values
-    slice-write-values
-    add-i
-    loop-less
-    loop-again
-    same-length
-    same-length-2
-    same-length-3
-    same-length-4
-    returns)
+    (tie.spec Inv-loop μ-loop loop-holds (λ c κs. search needs) (λ c. search needs)
+    slice-write-kinds (λ c. search needs) slice-write-transactions (λ c. search needs)
+    slice-write-registers (λ c. search needs) slice-write-values (λ c. search needs)
+    (λ c. search needs) loop-again same-length same-length-2 same-length-3 same-length-4 returns)

@@ -14,12 +14,9 @@ returns-2 : tie.Need-returns-2
 unfolding admits _or_ _and_
 returns-2 c = simp (ne-eqb _ _ (c .before .if1 .left), ne-eqb _ _ (c .if2 .taken))
 
-all-zero-requires : tie.Need-all-zero-requires
-all-zero-requires c κs = search needs
-
 returns-3 : tie.Need-returns-3
 unfolding admits _or_ _and_
 returns-3 c = simp (ne-eqb _ _ (c .before .before .if1 .left), eq-eqb _ _ (c .before .if2 .left)) (c .all-zero .ensures)
 
 pub is-admitted-spec : {M : Type 1} → statement M
-is-admitted-spec = tie.close (tie.spec returns returns-2 all-zero-requires returns-3)
+is-admitted-spec = tie.close (tie.spec returns returns-2 (λ c κs. search needs) returns-3)

@@ -7,20 +7,11 @@ use borrow.Author.Needs.{needs}
 use Rattle.marking.proofs.check.check_admitted.Statement.{statement}
 use Rattle.marking.proofs.check.check_admitted.Tie as tie
 
-enum-known-checked : tie.Need-enum-known-checked
-enum-known-checked c = search needs
-
-enum-told : tie.Need-enum-told
-enum-told c = search needs
-
 slice-aggregate-check-log : tie.Need-slice-aggregate-check-log
 slice-aggregate-check-log c = sym (length-take-le _ _ (c .before .before .before .before .pre .room (c .before .enum-told .given .1)))
 
 check-log-requires : tie.Need-check-log-requires
 check-log-requires c κs = c .before .before .before .before .pre .readable (c .before .enum-told .given .1)
-
-checking-of-requires : tie.Need-checking-of-requires
-checking-of-requires c κs = search needs
 
 returns : tie.Need-returns
 returns c = rw (c .before .checked .given .1)
@@ -31,11 +22,5 @@ returns-2 c = rw (c .before .before .before .enum-told .given .1) (c .checking-o
 pub check-admitted-spec : {M : Type 1} → statement M
 check-admitted-spec =
     tie.close
-    (tie.spec
-    enum-known-checked
-    enum-told
-    slice-aggregate-check-log
-    check-log-requires
-    checking-of-requires
-    returns
-    returns-2)
+    (tie.spec (λ c. search needs) (λ c. search needs) slice-aggregate-check-log check-log-requires
+    (λ c κs. search needs) returns returns-2)

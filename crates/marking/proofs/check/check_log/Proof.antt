@@ -27,12 +27,6 @@ entered m = counted m .before .before
 abbrev linked : tie.After-gaps2 → tie.After-links
 linked c = c .before .before .before .before .before .before .before .before
 
-transactions-begun-requires : tie.Need-transactions-begun-requires
-transactions-begun-requires c κs = search needs
-
-own-writes-requires : tie.Need-own-writes-requires
-own-writes-requires c κs = search needs
-
 store-reads-requires : tie.Need-store-reads-requires
 store-reads-requires c κs = let s = c .before .before .before .before in (c .before .own-writes .ensures, log-most (s .args .log .now) (s .pre))
 
@@ -53,9 +47,6 @@ returns c =
     sym (ap (ruling (startOf (s .args .starts .now)) (logged (s .args .log .now)))
     (reading-refused (s .args .log .now) (counted m .transactions-begun .result) (tabled m .store-reads .result) (counted m .transactions-begun .ensures) (tabled m .store-reads .ensures)
     (m .read-marking .result) (s .args .file .now) (m .read-marking .ensures .0) (c .if1 .taken)))
-
-links-requires : tie.Need-links-requires
-links-requires c κs = search needs
 
 judge-requires : tie.Need-judge-requires
 judge-requires c κs =
@@ -81,12 +72,5 @@ returns-2 c =
 pub check-log-spec : {M : Type 1} → statement M
 check-log-spec =
     tie.close
-    (tie.spec
-    transactions-begun-requires
-    own-writes-requires
-    store-reads-requires
-    read-marking-requires
-    returns
-    links-requires
-    judge-requires
-    returns-2)
+    (tie.spec (λ c κs. search needs) (λ c κs. search needs) store-reads-requires
+    read-marking-requires returns (λ c κs. search needs) judge-requires returns-2)

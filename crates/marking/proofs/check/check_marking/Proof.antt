@@ -28,15 +28,6 @@ many a = a .before .before .before .before .before .before .before .before
 abbrev answer : tie.Start → Checked → List Event → Checking
 answer s x h = afterColumns (startOf (s .args .starts .now)) h (s .args .file .now) x
 
-slice-aggregate-admit : tie.Need-slice-aggregate-admit
-slice-aggregate-admit c = search needs
-
-admit-requires : tie.Need-admit-requires
-admit-requires c κs = search needs
-
-slice-aggregate-check-admitted : tie.Need-slice-aggregate-check-admitted
-slice-aggregate-check-admitted c = search needs
-
 check-admitted-requires : tie.Need-check-admitted-requires
 check-admitted-requires c κs =
     let a = c .before .before in
@@ -52,15 +43,6 @@ returns c =
     c .check-admitted .ensures
     ∙ behind (s .args .edition) (s .args .starts .now) (given s) (s .args .count) (a .admit .result) _ _ (a .admit .ensures .0) (a .admit .ensures .1)
     (λ m. omega (arith, a .before .before .if1 .taken)) (answer s) (λ r g h. refl)
-
-slice-aggregate-admit-2 : tie.Need-slice-aggregate-admit-2
-slice-aggregate-admit-2 c = search needs
-
-admit-requires-2 : tie.Need-admit-requires-2
-admit-requires-2 c κs = search needs
-
-slice-aggregate-check-admitted-2 : tie.Need-slice-aggregate-check-admitted-2
-slice-aggregate-check-admitted-2 c = search needs
 
 check-admitted-requires-2 : tie.Need-check-admitted-requires-2
 check-admitted-requires-2 c κs =
@@ -80,14 +62,6 @@ returns-2 c =
 pub check-marking-spec : {M : Type 1} → statement M
 check-marking-spec =
     tie.close
-    (tie.spec
-    slice-aggregate-admit
-    admit-requires
-    slice-aggregate-check-admitted
-    check-admitted-requires
-    returns
-    slice-aggregate-admit-2
-    admit-requires-2
-    slice-aggregate-check-admitted-2
-    check-admitted-requires-2
+    (tie.spec (λ c. search needs) (λ c κs. search needs) (λ c. search needs) check-admitted-requires
+    returns (λ c. search needs) (λ c κs. search needs) (λ c. search needs) check-admitted-requires-2
     returns-2)

@@ -3,12 +3,6 @@ use borrow.Author.Needs.{needs}
 use Rattle.marking.proofs.check.checking_of.Statement.{statement}
 use Rattle.marking.proofs.check.checking_of.Tie as tie
 
-enum-known-ruling : tie.Need-enum-known-ruling
-enum-known-ruling c = search needs
-
-enum-known-ruling-2 : tie.Need-enum-known-ruling-2
-enum-known-ruling-2 c = search needs
-
 returns : tie.Need-returns
 returns c = rw (c .before .ruling .given .1)
 
@@ -16,4 +10,4 @@ returns-2 : tie.Need-returns-2
 returns-2 c = rw (c .before .ruling2 .given .1)
 
 pub checking-of-spec : {M : Type 1} → statement M
-checking-of-spec = tie.close (tie.spec enum-known-ruling enum-known-ruling-2 returns returns-2)
+checking-of-spec = tie.close (tie.spec (λ c. search needs) (λ c. search needs) returns returns-2)

@@ -21,12 +21,6 @@ Inv-loop reads count begun file order₀ outcomes₀ used₀ gaps₀ filled₀ n
 abbrev μ-loop : tie.MeasureT-loop
 μ-loop reads count begun file order₀ outcomes₀ used₀ gaps₀ filled₀ next₀ opens at₀ order outcomes used gaps filled next at = length file - at
 
-opening-asked-requires : tie.Need-opening-asked-requires Inv-loop μ-loop
-opening-asked-requires c κs = search needs
-
-refused-requires : tie.Need-refused-requires Inv-loop μ-loop
-refused-requires c κs = search needs
-
 returns : tie.Need-returns Inv-loop μ-loop
 returns c =
     let start = c .before .before .before .before in
@@ -45,12 +39,6 @@ step-at-requires : tie.Need-step-at-requires Inv-loop μ-loop
 step-at-requires c κs =
     let start = c .before .before .before .before .before .before in
     (start .pre .0, λ i l. start .pre .1 i (omega (arith, start .pre .0 .0)))
-
-enum-known-step : tie.Need-enum-known-step Inv-loop μ-loop
-enum-known-step c = search needs
-
-cast-i : tie.Need-cast-i Inv-loop μ-loop
-cast-i c = search needs
 
 mul-order : tie.Need-mul-order Inv-loop μ-loop
 mul-order c =
@@ -100,9 +88,6 @@ loop-again c =
     let p = placing (i .0) (i .1) (sym (c .before .before .before .step-at .ensures) ∙ c .before .step .given .1) in
     (p .comes, p .holds)
 
-enum-known-step-2 : tie.Need-enum-known-step-2 Inv-loop μ-loop
-enum-known-step-2 c = search needs
-
 mul-gaps : tie.Need-mul-gaps Inv-loop μ-loop
 mul-gaps c =
     let i = c .before .before .before .before .before .before .loop .inv in
@@ -133,30 +118,15 @@ loop-again-2 c =
     let p = pointing (i .0) (i .1) (sym (c .before .before .before .step-at .ensures) ∙ c .before .step2 .given .1) in
     (p .comes, p .holds)
 
-enum-known-step-3 : tie.Need-enum-known-step-3 Inv-loop μ-loop
-enum-known-step-3 c = search needs
-
-refused-requires-2 : tie.Need-refused-requires-2 Inv-loop μ-loop
-refused-requires-2 c κs = search needs
-
 returns-2 : tie.Need-returns-2 Inv-loop μ-loop
 returns-2 c =
     let i = c .before .before .before .before .before .before .before .loop .inv in
     refusing (i .0) (i .1) (c .refused2 .result) (c .refused2 .ensures .0) (c .refused2 .ensures .1) (sym (c .before .before .before .before .step-at .ensures) ∙ c .before .before .step3 .given .1)
 
-enum-known-step-4 : tie.Need-enum-known-step-4 Inv-loop μ-loop
-enum-known-step-4 c = search needs
-
-refused-requires-3 : tie.Need-refused-requires-3 Inv-loop μ-loop
-refused-requires-3 c κs = search needs
-
 returns-3 : tie.Need-returns-3 Inv-loop μ-loop
 returns-3 c =
     let i = c .before .before .before .before .before .before .before .loop .inv in
     unfinished (i .0) (i .1) (c .refused3 .result) (c .refused3 .ensures .0) (c .refused3 .ensures .1) (sym (c .before .before .before .before .step-at .ensures) ∙ c .before .before .step4 .given .1)
-
-enum-told : tie.Need-enum-told Inv-loop μ-loop
-enum-told c = search needs
 
 returns-4 : tie.Need-returns-4 Inv-loop μ-loop
 returns-4 c =
@@ -166,35 +136,9 @@ returns-4 c =
 pub read-marking-spec : {M : Type 1} → statement M
 read-marking-spec =
     tie.close
-    (tie.spec
-    Inv-loop
-    μ-loop
-    opening-asked-requires
-    refused-requires
-    returns
-    loop-holds
-    step-at-requires
-    enum-known-step
-    cast-i
-    mul-order
-    array-write-order
-    cast-outcomes
-    array-write-outcomes
-    array-write-used
-    add-filled
-    loop-less
-    loop-again
-    enum-known-step-2
-    mul-gaps
-    array-write-gaps
-    add-next
-    loop-less-2
-    loop-again-2
-    enum-known-step-3
-    refused-requires-2
-    returns-2
-    enum-known-step-4
-    refused-requires-3
-    returns-3
-    enum-told
-    returns-4)
+    (tie.spec Inv-loop μ-loop (λ c κs. search needs) (λ c κs. search needs) returns loop-holds
+    step-at-requires (λ c. search needs) (λ c. search needs) mul-order array-write-order
+    cast-outcomes array-write-outcomes array-write-used add-filled loop-less loop-again
+    (λ c. search needs) mul-gaps array-write-gaps add-next loop-less-2 loop-again-2
+    (λ c. search needs) (λ c κs. search needs) returns-2 (λ c. search needs) (λ c κs. search needs)
+    returns-3 (λ c. search needs) returns-4)

@@ -31,12 +31,6 @@ returns c =
     let t = c .before .before .before in
     not-every (holds (t .before)) (t .loop .inv) (c .before .before .loop-test .taken) (c .before .is-pointed .ensures) (not-true _ (c .if1 .taken))
 
-add-i : tie.Need-add-i Inv-loop μ-loop
-add-i c = search needs
-
-loop-less : tie.Need-loop-less Inv-loop μ-loop
-loop-less c = search needs
-
 loop-again : tie.Need-loop-again Inv-loop μ-loop
 loop-again c =
     let t = c .before .before .before in
@@ -48,13 +42,5 @@ returns-2 c = every-one (holds (c .before .before)) (c .before .loop .inv) (c .l
 pub every-pointed-spec : {M : Type 1} → statement M
 every-pointed-spec =
     tie.close
-    (tie.spec
-    Inv-loop
-    μ-loop
-    loop-holds
-    is-pointed-requires
-    returns
-    add-i
-    loop-less
-    loop-again
-    returns-2)
+    (tie.spec Inv-loop μ-loop loop-holds is-pointed-requires returns (λ c. search needs)
+    (λ c. search needs) loop-again returns-2)

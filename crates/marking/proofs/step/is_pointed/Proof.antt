@@ -10,18 +10,9 @@ use borrow.Author.Needs.{needs}
 use Rattle.marking.proofs.step.is_pointed.Statement.{statement}
 use Rattle.marking.proofs.step.is_pointed.Tie as tie
 
-element-copy-out-if1 : tie.Need-element-copy-out-if1
-element-copy-out-if1 c = search needs
-
 returns : tie.Need-returns
 unfolding _implies_
 returns c = let q : getD (c .before .before .args .reads .now) (c .before .before .args .i) false ≡ false = not-true _ (c .if1 .taken) in rw q
-
-mul-result : tie.Need-mul-result
-mul-result c = search needs
-
-element-copy-out-result : tie.Need-element-copy-out-result
-element-copy-out-result c = search needs
 
 returns-2 : tie.Need-returns-2
 unfolding _implies_
@@ -29,4 +20,5 @@ returns-2 c = let q : getD (c .before .before .before .args .reads .now) (c .bef
 
 pub is-pointed-spec : {M : Type 1} → statement M
 is-pointed-spec =
-    tie.close (tie.spec element-copy-out-if1 returns mul-result element-copy-out-result returns-2)
+    tie.close (tie.spec (λ c. search needs) returns (λ c. search needs) (λ c. search needs)
+    returns-2)

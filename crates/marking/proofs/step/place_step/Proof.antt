@@ -16,15 +16,6 @@ returns : tie.Need-returns
 unfolding placeStep
 returns c = rw (ne-eqb _ _ (c .if1 .taken))
 
-u16-at-requires : tie.Need-u16-at-requires
-u16-at-requires c κs = search needs
-
-u16-at-requires-2 : tie.Need-u16-at-requires-2
-u16-at-requires-2 c κs = search needs
-
-place-asked-requires : tie.Need-place-asked-requires
-place-asked-requires c κs = search needs
-
 returns-2 : tie.Need-returns-2
 unfolding placeStep
 returns-2 c =
@@ -40,4 +31,5 @@ returns-3 c =
 pub place-step-spec : {M : Type 1} → statement M
 place-step-spec =
     tie.close
-    (tie.spec returns u16-at-requires u16-at-requires-2 place-asked-requires returns-2 returns-3)
+    (tie.spec returns (λ c κs. search needs) (λ c κs. search needs) (λ c κs. search needs) returns-2
+    returns-3)

@@ -12,9 +12,6 @@ use borrow.Author.Needs.{needs}
 use Rattle.marking.proofs.step.point_asked.Statement.{statement}
 use Rattle.marking.proofs.step.point_asked.Tie as tie
 
-is-early-requires : tie.Need-is-early-requires
-is-early-requires c κs = search needs
-
 returns : tie.Need-returns
 unfolding pointQuestions refusal _and_
 returns c =
@@ -36,9 +33,6 @@ returns-3 c =
     let q : (eqb (start .args .next) 0 implies eqb (start .args .filled) (start .args .begun)) ≡ true = not-false _ (sym (c .before .before .before .is-early .ensures) ∙ c .before .before .if1 .left) in
     let r : getD (start .args .reads .now) (start .args .e) false ≡ false = start .pre (start .args .e) (c .if3 .taken) in
     rw (q, le-leb _ _ (c .before .if2 .left), r)
-
-element-copy-out-if4 : tie.Need-element-copy-out-if4
-element-copy-out-if4 c = search needs
 
 returns-4 : tie.Need-returns-4
 unfolding pointQuestions refusal _and_
@@ -67,12 +61,5 @@ returns-6 c =
 pub point-asked-spec : {M : Type 1} → statement M
 point-asked-spec =
     tie.close
-    (tie.spec
-    is-early-requires
-    returns
-    returns-2
-    returns-3
-    element-copy-out-if4
-    returns-4
-    returns-5
-    returns-6)
+    (tie.spec (λ c κs. search needs) returns returns-2 returns-3 (λ c. search needs) returns-4
+    returns-5 returns-6)

@@ -17,15 +17,6 @@ returns : tie.Need-returns
 unfolding pointStep
 returns c = rw (ne-eqb _ _ (c .if1 .taken))
 
-u32-at-requires : tie.Need-u32-at-requires
-u32-at-requires c κs = search needs
-
-cast-e : tie.Need-cast-e
-cast-e c = search needs
-
-u16-at-requires : tie.Need-u16-at-requires
-u16-at-requires c κs = search needs
-
 point-asked-requires : tie.Need-point-asked-requires
 point-asked-requires c κs = c .before .before .before .before .pre
 
@@ -44,11 +35,5 @@ returns-3 c =
 pub point-step-spec : {M : Type 1} → statement M
 point-step-spec =
     tie.close
-    (tie.spec
-    returns
-    u32-at-requires
-    cast-e
-    u16-at-requires
-    point-asked-requires
-    returns-2
-    returns-3)
+    (tie.spec returns (λ c κs. search needs) (λ c. search needs) (λ c κs. search needs)
+    point-asked-requires returns-2 returns-3)

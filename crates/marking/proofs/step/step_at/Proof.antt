@@ -8,20 +8,8 @@ use borrow.Author.Needs.{needs}
 use Rattle.marking.proofs.step.step_at.Statement.{statement}
 use Rattle.marking.proofs.step.step_at.Tie as tie
 
-record-at-requires : tie.Need-record-at-requires
-record-at-requires c κs = search needs
-
-enum-known-found : tie.Need-enum-known-found
-enum-known-found c = search needs
-
 record-step-requires : tie.Need-record-step-requires
 record-step-requires c κs = (c .before .before .before .before .before .pre .0 .1, (whole-in (c .before .before .before .before .before .args .file .now) (c .before .before .before .before .before .args .at) (c .before .found .given .0 .0) (sym (c .before .before .before .record-at .ensures) ∙ c .before .found .given .1) .1, c .before .before .before .before .before .pre .1))
-
-enum-told : tie.Need-enum-told
-enum-told c = search needs
-
-enum-told-2 : tie.Need-enum-told-2
-enum-told-2 c = search needs
 
 end-step-requires : tie.Need-end-step-requires
 end-step-requires c κs = c .before .before .before .before .pre .0 .0
@@ -41,13 +29,5 @@ returns-3 c = rw (sym (c .before .before .before .record-at .ensures) ∙ c .bef
 pub step-at-spec : {M : Type 1} → statement M
 step-at-spec =
     tie.close
-    (tie.spec
-    record-at-requires
-    enum-known-found
-    record-step-requires
-    enum-told
-    enum-told-2
-    end-step-requires
-    returns
-    returns-2
-    returns-3)
+    (tie.spec (λ c κs. search needs) (λ c. search needs) record-step-requires (λ c. search needs)
+    (λ c. search needs) end-step-requires returns returns-2 returns-3)

@@ -8,18 +8,6 @@ use borrow.Author.Needs.{needs}
 use Rattle.places.proofs.facts.reads_asked.Statement.{statement}
 use Rattle.places.proofs.facts.reads_asked.Tie as tie
 
-mul-result : tie.Need-mul-result
-mul-result c = search needs
-
-index-1-result : tie.Need-index-1-result
-index-1-result c = search needs
-
-index-2-result : tie.Need-index-2-result
-index-2-result c = search needs
-
-wide-requires : tie.Need-wide-requires
-wide-requires c κs = search needs
-
 cast-result : tie.Need-cast-result
 cast-result c =
     let a = c .before .before .args in
@@ -30,4 +18,5 @@ returns c = let a = c .before .before .args in ap (bitAnd (readsOf (a .facts .no
 
 pub reads-asked-spec : {M : Type 1} → statement M
 reads-asked-spec =
-    tie.close (tie.spec mul-result index-1-result index-2-result wide-requires cast-result returns)
+    tie.close (tie.spec (λ c. search needs) (λ c. search needs) (λ c. search needs)
+    (λ c κs. search needs) cast-result returns)

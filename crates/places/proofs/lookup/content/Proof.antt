@@ -24,9 +24,6 @@ loop-holds c =
     let a = c .args in
     (omega arith, all-after (startOf (a .starts .now)) (a .facts .now) (codesOf (a .filled) (a .placed)) (a .register) (a .filled) (length-codes (a .filled) (a .placed)))
 
-sub-code-at : tie.Need-sub-code-at Inv-loop μ-loop
-sub-code-at c = omega arith
-
 code-at-requires : tie.Need-code-at-requires Inv-loop μ-loop
 code-at-requires c κs = omega (arith, c .before .before .pre .0 .few)
 
@@ -53,12 +50,6 @@ returns c =
     (omega arith) (omega arith) wrote (c .if1 .taken)
     ∙ sym (at .inv .1)
 
-sub-left : tie.Need-sub-left Inv-loop μ-loop
-sub-left c = omega arith
-
-loop-less : tie.Need-loop-less Inv-loop μ-loop
-loop-less c = omega arith
-
 loop-again : tie.Need-loop-again Inv-loop μ-loop
 loop-again c =
     let start = c .before .before .before .before .before in
@@ -73,9 +64,6 @@ loop-again c =
           ∙ passed-over (startOf (start .args .starts .now)) (start .args .facts .now) p (start .args .register) (at .left) (c .before .write-of .result)
           (omega arith) (omega arith) wrote (c .if1 .left),
     )
-
-start-value-requires : tie.Need-start-value-requires Inv-loop μ-loop
-start-value-requires c κs = search needs
 
 returns-2 : tie.Need-returns-2 Inv-loop μ-loop
 unfolding startOf
@@ -92,17 +80,6 @@ returns-2 c =
 pub content-spec : {M : Type 1} → statement M
 content-spec =
     tie.close
-    (tie.spec
-    Inv-loop
-    μ-loop
-    loop-holds
-    sub-code-at
-    code-at-requires
-    write-of-requires
-    sub-result
-    returns
-    sub-left
-    loop-less
-    loop-again
-    start-value-requires
+    (tie.spec Inv-loop μ-loop loop-holds (λ c. omega arith) code-at-requires write-of-requires
+    sub-result returns (λ c. omega arith) (λ c. omega arith) loop-again (λ c κs. search needs)
     returns-2)

@@ -10,12 +10,6 @@ use borrow.Author.Needs.{needs}
 use Rattle.places.proofs.lookup.legal_reads.Statement.{statement}
 use Rattle.places.proofs.lookup.legal_reads.Tie as tie
 
-reads-asked-requires : tie.Need-reads-asked-requires
-reads-asked-requires c κs = search needs
-
-legal-requires : tie.Need-legal-requires
-legal-requires c κs = search needs
-
 returns : tie.Need-returns
 unfolding legalReads
 returns c =
@@ -23,4 +17,4 @@ returns c =
     c .legal .ensures ∙ ap (λ (m : ℕ). all (legalAt (a .starts .now) (a .facts .now) (placedOf (a .s)) (a .t)) (members m)) (c .before .reads-asked .ensures)
 
 pub legal-reads-spec : {M : Type 1} → statement M
-legal-reads-spec = tie.close (tie.spec reads-asked-requires legal-requires returns)
+legal-reads-spec = tie.close (tie.spec (λ c κs. search needs) (λ c κs. search needs) returns)

@@ -10,13 +10,10 @@ use lib.Pow.{shl-exact}
 use Rattle.places.proofs.sets.bit.Statement.{statement}
 use Rattle.places.proofs.sets.bit.Tie as tie
 
-shl-result : tie.Need-shl-result
-shl-result c = search needs
-
 returns : tie.Need-returns
 returns c =
     let fit : 1 + c .args .t ≤ 64 = omega arith in
     shl-exact 1 (c .args .t) 64 (lit< tt) fit ∙ one-mul (2 ^ c .args .t)
 
 pub bit-spec : {M : Type 1} → statement M
-bit-spec = tie.close (tie.spec shl-result returns)
+bit-spec = tie.close (tie.spec (λ c. search needs) returns)

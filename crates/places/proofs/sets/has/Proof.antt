@@ -8,11 +8,8 @@ use Rattle.places.proofs.BitLaws.{bit-digit}
 use Rattle.places.proofs.sets.has.Statement.{statement}
 use Rattle.places.proofs.sets.has.Tie as tie
 
-shr-result : tie.Need-shr-result
-shr-result c = search needs
-
 returns : tie.Need-returns
 returns c = ap (λ (d : ℕ). eqb d 1) (sym (bit-digit (c .args .t) (c .args .set)))
 
 pub has-spec : {M : Type 1} → statement M
-has-spec = tie.close (tie.spec shr-result returns)
+has-spec = tie.close (tie.spec (λ c. search needs) returns)

@@ -6,11 +6,8 @@ use lib.Bits.{bitOr}
 use Rattle.places.proofs.sets.with.Statement.{statement}
 use Rattle.places.proofs.sets.with.Tie as tie
 
-bit-requires : tie.Need-bit-requires
-bit-requires c κs = search needs
-
 returns : tie.Need-returns
 returns c = ap (bitOr (c .before .args .set)) (c .bit .ensures)
 
 pub with-spec : {M : Type 1} → statement M
-with-spec = tie.close (tie.spec bit-requires returns)
+with-spec = tie.close (tie.spec (λ c κs. search needs) returns)

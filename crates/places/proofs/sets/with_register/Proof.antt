@@ -11,16 +11,10 @@ use lib.Pow.{shl-exact}
 use Rattle.places.proofs.sets.with_register.Statement.{statement}
 use Rattle.places.proofs.sets.with_register.Tie as tie
 
-cast-result : tie.Need-cast-result
-cast-result c = search needs
-
-shl-result : tie.Need-shl-result
-shl-result c = search needs
-
 returns : tie.Need-returns
 returns c =
     let fit : 1 + c .args .r ≤ 32 = omega arith in
     ap (bitOr (c .args .set)) (shl-exact 1 (c .args .r) 32 (lit< tt) fit ∙ one-mul (2 ^ c .args .r))
 
 pub with-register-spec : {M : Type 1} → statement M
-with-register-spec = tie.close (tie.spec cast-result shl-result returns)
+with-register-spec = tie.close (tie.spec (λ c. search needs) (λ c. search needs) returns)

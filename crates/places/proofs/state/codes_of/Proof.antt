@@ -19,12 +19,6 @@ abbrev μ-loop : tie.MeasureT-loop
 loop-holds : tie.Need-loop-holds Inv-loop μ-loop
 loop-holds c = (omega arith, length-replicate {A = ℕ} 10 0, refl)
 
-sub-code-at : tie.Need-sub-code-at Inv-loop μ-loop
-sub-code-at c = omega arith
-
-sub-code-at-2 : tie.Need-sub-code-at-2 Inv-loop μ-loop
-sub-code-at-2 c = omega arith
-
 code-at-requires : tie.Need-code-at-requires Inv-loop μ-loop
 code-at-requires c κs = omega (arith, c .before .before .pre)
 
@@ -33,12 +27,6 @@ cast-codes c = omega (arith, c .code-at .ensures)
 
 array-write-codes : tie.Need-array-write-codes Inv-loop μ-loop
 array-write-codes c = omega (arith, c .before .before .before .pre)
-
-add-i : tie.Need-add-i Inv-loop μ-loop
-add-i c = omega arith
-
-loop-less : tie.Need-loop-less Inv-loop μ-loop
-loop-less c = omega arith
 
 loop-again : tie.Need-loop-again Inv-loop μ-loop
 loop-again c =
@@ -64,16 +52,5 @@ returns c =
 pub codes-of-spec : {M : Type 1} → statement M
 codes-of-spec =
     tie.close
-    (tie.spec
-    Inv-loop
-    μ-loop
-    loop-holds
-    sub-code-at
-    sub-code-at-2
-    code-at-requires
-    cast-codes
-    array-write-codes
-    add-i
-    loop-less
-    loop-again
-    returns)
+    (tie.spec Inv-loop μ-loop loop-holds (λ c. omega arith) (λ c. omega arith) code-at-requires
+    cast-codes array-write-codes (λ c. omega arith) (λ c. omega arith) loop-again returns)

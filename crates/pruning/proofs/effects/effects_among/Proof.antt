@@ -20,29 +20,8 @@ abbrev μ-loop : tie.MeasureT-loop
 loop-holds : tie.Need-loop-holds Inv-loop μ-loop
 loop-holds c = (omega arith, search needs, nothing-known (c .args .facts .now) (c .args .asked))
 
-reads-asked-requires : tie.Need-reads-asked-requires Inv-loop μ-loop
-reads-asked-requires c κs = omega arith
-
-mul-effect : tie.Need-mul-effect Inv-loop μ-loop
-mul-effect c = omega arith
-
-element-copy-out-effect : tie.Need-element-copy-out-effect Inv-loop μ-loop
-element-copy-out-effect c = omega arith
-
 effect-requires : tie.Need-effect-requires Inv-loop μ-loop
 effect-requires c κs = let at = c .before .before .before .loop in let x : at .i / 10 < 10 = omega arith in (x, (omega arith, c .before .before .before .before .pre .at (at .i / 10) x))
-
-mul-effects : tie.Need-mul-effects Inv-loop μ-loop
-mul-effects c = omega arith
-
-array-write-effects : tie.Need-array-write-effects Inv-loop μ-loop
-array-write-effects c = omega arith
-
-add-i : tie.Need-add-i Inv-loop μ-loop
-add-i c = omega arith
-
-loop-less : tie.Need-loop-less Inv-loop μ-loop
-loop-less c = omega arith
 
 loop-again : tie.Need-loop-again Inv-loop μ-loop
 unfolding legalReads
@@ -61,17 +40,6 @@ returns c = c .before .loop .inv .2
 pub effects-among-spec : {M : Type 1} → statement M
 effects-among-spec =
     tie.close
-    (tie.spec
-    Inv-loop
-    μ-loop
-    loop-holds
-    reads-asked-requires
-    mul-effect
-    element-copy-out-effect
-    effect-requires
-    mul-effects
-    array-write-effects
-    add-i
-    loop-less
-    loop-again
-    returns)
+    (tie.spec Inv-loop μ-loop loop-holds (λ c κs. omega arith) (λ c. omega arith) (λ c. omega arith)
+    effect-requires (λ c. omega arith) (λ c. omega arith) (λ c. omega arith) (λ c. omega arith)
+    loop-again returns)

@@ -53,9 +53,6 @@ mul-overwritten-2 c = omega (arith, low c, c .before .before .before .pre .1 .1)
 element-copy-out-overwritten : tie.Need-element-copy-out-overwritten Inv-loop μ-loop
 element-copy-out-overwritten c = omega (arith, low c, c .before .before .before .pre .1 .1)
 
-overwritten-requires : tie.Need-overwritten-requires Inv-loop μ-loop
-overwritten-requires c κs = search needs
-
 reads-asked-requires : tie.Need-reads-asked-requires Inv-loop μ-loop
 reads-asked-requires c κs = omega (arith, low (c .before .before))
 
@@ -98,20 +95,6 @@ returns-2 c = λ e. absurd (false≢true e)
 pub orphaned-spec : {M : Type 1} → statement M
 orphaned-spec =
     tie.close
-    (tie.spec
-    Inv-loop
-    μ-loop
-    loop-holds
-    lowest-requires
-    mul-overwritten
-    add-overwritten
-    mul-overwritten-2
-    element-copy-out-overwritten
-    overwritten-requires
-    reads-asked-requires
-    orphan-requires
-    returns
-    without-requires
-    loop-less
-    loop-again
-    returns-2)
+    (tie.spec Inv-loop μ-loop loop-holds lowest-requires mul-overwritten add-overwritten
+    mul-overwritten-2 element-copy-out-overwritten (λ c κs. search needs) reads-asked-requires
+    orphan-requires returns without-requires loop-less loop-again returns-2)

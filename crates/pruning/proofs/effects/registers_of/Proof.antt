@@ -30,15 +30,6 @@ index-1-noted c = omega (arith, c .before .before .pre)
 index-2-noted : tie.Need-index-2-noted Inv-loop μ-loop
 index-2-noted c = omega (arith, c .before .before .pre)
 
-noted-requires : tie.Need-noted-requires Inv-loop μ-loop
-noted-requires c κs = omega arith
-
-add-r : tie.Need-add-r Inv-loop μ-loop
-add-r c = omega arith
-
-loop-less : tie.Need-loop-less Inv-loop μ-loop
-loop-less c = omega arith
-
 loop-again : tie.Need-loop-again Inv-loop μ-loop
 loop-again c =
     let at = c .before .before .before .loop in
@@ -51,17 +42,5 @@ returns c = let at = c .before .loop in record { has = λ r l f. at .inv .1 .has
 pub registers-of-spec : {M : Type 1} → statement M
 registers-of-spec =
     tie.close
-    (tie.spec
-    Inv-loop
-    μ-loop
-    loop-holds
-    add-noted
-    mul-noted
-    mul-noted-2
-    index-1-noted
-    index-2-noted
-    noted-requires
-    add-r
-    loop-less
-    loop-again
-    returns)
+    (tie.spec Inv-loop μ-loop loop-holds add-noted mul-noted mul-noted-2 index-1-noted index-2-noted
+    (λ c κs. omega arith) (λ c. omega arith) (λ c. omega arith) loop-again returns)

@@ -17,20 +17,8 @@ abbrev μ-loop : tie.MeasureT-loop
 loop-holds : tie.Need-loop-holds Inv-loop μ-loop
 loop-holds c = (omega arith, record { long = search needs; at = λ k l. absurd (omega arith) })
 
-registers-of-requires : tie.Need-registers-of-requires Inv-loop μ-loop
-registers-of-requires c κs = search needs
-
-mul-registers : tie.Need-mul-registers Inv-loop μ-loop
-mul-registers c = search needs
-
 array-write-registers : tie.Need-array-write-registers Inv-loop μ-loop
 array-write-registers c = omega (arith, c .before .before .loop .inv .1 .long)
-
-add-t : tie.Need-add-t Inv-loop μ-loop
-add-t c = omega arith
-
-loop-less : tie.Need-loop-less Inv-loop μ-loop
-loop-less c = omega arith
 
 loop-again : tie.Need-loop-again Inv-loop μ-loop
 loop-again c =
@@ -46,14 +34,5 @@ returns c =
 pub registers-written-spec : {M : Type 1} → statement M
 registers-written-spec =
     tie.close
-    (tie.spec
-    Inv-loop
-    μ-loop
-    loop-holds
-    registers-of-requires
-    mul-registers
-    array-write-registers
-    add-t
-    loop-less
-    loop-again
-    returns)
+    (tie.spec Inv-loop μ-loop loop-holds (λ c κs. search needs) (λ c. search needs)
+    array-write-registers (λ c. omega arith) (λ c. omega arith) loop-again returns)

@@ -22,29 +22,14 @@ last-low a =
 returns : tie.Need-returns
 returns c = λ e. absurd (false≢true e)
 
-code-at-requires : tie.Need-code-at-requires
-code-at-requires c κs = search needs
-
 orphaned-requires : tie.Need-orphaned-requires
 orphaned-requires c κs = let start = c .before .before .before .before in (start .pre .0, (start .pre .1, last-low (c .before)))
-
-returns-2 : tie.Need-returns-2
-returns-2 c = search needs
-
-mul-if3 : tie.Need-mul-if3
-mul-if3 c = search needs
 
 index-1-if3 : tie.Need-index-1-if3
 index-1-if3 c = omega (arith, last-low (c .before))
 
-index-2-if3 : tie.Need-index-2-if3
-index-2-if3 c = search needs
-
 returns-3 : tie.Need-returns-3
 returns-3 c = λ e. absurd (false≢true e)
-
-stranded-requires : tie.Need-stranded-requires
-stranded-requires c κs = search needs
 
 returns-4 : tie.Need-returns-4
 returns-4 c = search needs
@@ -52,14 +37,5 @@ returns-4 c = search needs
 pub bereft-spec : {M : Type 1} → statement M
 bereft-spec =
     tie.close
-    (tie.spec
-    returns
-    code-at-requires
-    orphaned-requires
-    returns-2
-    mul-if3
-    index-1-if3
-    index-2-if3
-    returns-3
-    stranded-requires
-    returns-4)
+    (tie.spec returns (λ c κs. search needs) orphaned-requires (λ c. search needs)
+    (λ c. search needs) index-1-if3 (λ c. search needs) returns-3 (λ c κs. search needs) returns-4)

@@ -29,17 +29,8 @@ returns c = λ e. absurd (true≢false e)
 returns-2 : tie.Need-returns-2
 returns-2 c = λ e. absurd (true≢false e)
 
-count-requires : tie.Need-count-requires
-count-requires c κs = search needs
-
 returns-3 : tie.Need-returns-3
 returns-3 c = λ e. absurd (true≢false e)
-
-ready-among-requires : tie.Need-ready-among-requires
-ready-among-requires c κs = search needs
-
-before-end-requires : tie.Need-before-end-requires
-before-end-requires c κs = search needs
 
 bereft-requires : tie.Need-bereft-requires
 bereft-requires c κs =
@@ -58,12 +49,6 @@ returns-4 c =
     (needs-of (told r) (a .s) _ _ (c .before .before .before-end .ensures) (λ k h. xor-member k (a .s .unplaced) (r .ready-among .result) (r .ready-among .ensures .within .isIn k) h))
     (c .before .bereft .ensures (c .if4 .taken))
 
-before-end-requires-2 : tie.Need-before-end-requires-2
-before-end-requires-2 c κs = search needs
-
-possible-requires : tie.Need-possible-requires
-possible-requires c κs = search needs
-
 returns-5 : tie.Need-returns-5
 returns-5 c =
     let r = c .before .before .before .before .before .before in
@@ -75,15 +60,6 @@ returns-5 c =
 pub hopeful-spec : {M : Type 1} → statement M
 hopeful-spec =
     tie.close
-    (tie.spec
-    returns
-    returns-2
-    count-requires
-    returns-3
-    ready-among-requires
-    before-end-requires
-    bereft-requires
-    returns-4
-    before-end-requires-2
-    possible-requires
+    (tie.spec returns returns-2 (λ c κs. search needs) returns-3 (λ c κs. search needs)
+    (λ c κs. search needs) bereft-requires returns-4 (λ c κs. search needs) (λ c κs. search needs)
     returns-5)

@@ -12,15 +12,6 @@ use borrow.Author.Needs.{needs}
 use Rattle.pruning.proofs.hope.other_than.Statement.{statement}
 use Rattle.pruning.proofs.hope.other_than.Tie as tie
 
-mul-if1 : tie.Need-mul-if1
-mul-if1 c = search needs
-
-index-1-if1 : tie.Need-index-1-if1
-index-1-if1 c = search needs
-
-index-2-if1 : tie.Need-index-2-if1
-index-2-if1 c = search needs
-
 returns : tie.Need-returns
 unfolding otherThan
 returns c =
@@ -28,15 +19,6 @@ returns c =
     let set = afterOf (start .args .facts .now) (start .args .t) in
     let some : noneIn set (members (start .args .need)) ≡ false = none-in-members set (start .args .need) (start .fits .need .fits) ∙ ne-eqb _ _ (c .if1 .taken) in
     simp some
-
-mul-result : tie.Need-mul-result
-mul-result c = search needs
-
-index-1-result : tie.Need-index-1-result
-index-1-result c = search needs
-
-index-2-result : tie.Need-index-2-result
-index-2-result c = search needs
 
 returns-2 : tie.Need-returns-2
 unfolding otherThan
@@ -49,12 +31,5 @@ returns-2 c =
 pub other-than-spec : {M : Type 1} → statement M
 other-than-spec =
     tie.close
-    (tie.spec
-    mul-if1
-    index-1-if1
-    index-2-if1
-    returns
-    mul-result
-    index-1-result
-    index-2-result
-    returns-2)
+    (tie.spec (λ c. search needs) (λ c. search needs) (λ c. search needs) returns
+    (λ c. search needs) (λ c. search needs) (λ c. search needs) returns-2)

@@ -9,21 +9,16 @@ use Rattle.pruning.proofs.hope.still_ready.Tie as tie
 returns : tie.Need-returns
 returns c = λ h. absurd (c .if1 .taken (h .unspoilt))
 
-has-requires : tie.Need-has-requires
-has-requires c κs = search needs
-
 returns-2 : tie.Need-returns-2
 returns-2 c = λ h. refl
 
 returns-3 : tie.Need-returns-3
 returns-3 c = λ h. absurd (eqb-false _ _ (sym (c .before .before .has .ensures) ∙ c .before .if2 .left) (h .was (c .if3 .taken)))
 
-legal-reads-requires : tie.Need-legal-reads-requires
-legal-reads-requires c κs = search needs
-
 returns-4 : tie.Need-returns-4
 returns-4 c = λ h. c .legal-reads .ensures ∙ h .is
 
 pub still-ready-spec : {M : Type 1} → statement M
 still-ready-spec =
-    tie.close (tie.spec returns has-requires returns-2 returns-3 legal-reads-requires returns-4)
+    tie.close (tie.spec returns (λ c κs. search needs) returns-2 returns-3 (λ c κs. search needs)
+    returns-4)

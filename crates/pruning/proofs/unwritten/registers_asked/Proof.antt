@@ -17,9 +17,6 @@ Inv-loop starts facts writes any nothing t₀ t = (t ≤ 11) × ((k : ℕ) → k
 abbrev μ-loop : tie.MeasureT-loop
 μ-loop starts facts writes any nothing t₀ t = 11 - t
 
-written-by-any-requires : tie.Need-written-by-any-requires Inv-loop μ-loop
-written-by-any-requires c κs = search needs
-
 loop-holds : tie.Need-loop-holds Inv-loop μ-loop
 loop-holds c = (omega arith, λ k l. absurd (omega arith))
 
@@ -28,12 +25,6 @@ legal-reads-requires c κs = (record { few = omega arith; codes = λ i l. absurd
 
 returns : tie.Need-returns Inv-loop μ-loop
 returns c = record { same = λ t p l g. refl }
-
-add-t : tie.Need-add-t Inv-loop μ-loop
-add-t c = omega arith
-
-loop-less : tie.Need-loop-less Inv-loop μ-loop
-loop-less c = omega arith
 
 loop-again : tie.Need-loop-again Inv-loop μ-loop
 unfolding codesOf
@@ -54,14 +45,5 @@ returns-2 c = let at = c .before .loop in record { same = λ k p l g. at .inv .1
 pub registers-asked-spec : {M : Type 1} → statement M
 registers-asked-spec =
     tie.close
-    (tie.spec
-    Inv-loop
-    μ-loop
-    written-by-any-requires
-    loop-holds
-    legal-reads-requires
-    returns
-    add-t
-    loop-less
-    loop-again
-    returns-2)
+    (tie.spec Inv-loop μ-loop (λ c κs. search needs) loop-holds legal-reads-requires returns
+    (λ c. omega arith) (λ c. omega arith) loop-again returns-2)

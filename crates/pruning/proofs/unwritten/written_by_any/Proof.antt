@@ -28,18 +28,6 @@ abbrev μ-loop : tie.MeasureT-loop
 loop-holds : tie.Need-loop-holds Inv-loop μ-loop
 loop-holds c = (omega arith, λ k r l h. absurd (omega arith))
 
-mul-any : tie.Need-mul-any Inv-loop μ-loop
-mul-any c = search needs
-
-element-copy-out-any : tie.Need-element-copy-out-any Inv-loop μ-loop
-element-copy-out-any c = search needs
-
-add-t : tie.Need-add-t Inv-loop μ-loop
-add-t c = omega arith
-
-loop-less : tie.Need-loop-less Inv-loop μ-loop
-loop-less c = omega arith
-
 one-more : (writes : List ℕ) (any t : ℕ) → Has writes any t → Has writes (bitOr any (getD writes t 0)) (t + 1)
 one-more writes any t has k r l h = go (eqb k t) refl
   where
@@ -58,4 +46,5 @@ returns c = let at = c .before .loop in record { has = λ t r l h. at .inv .1 t 
 pub written-by-any-spec : {M : Type 1} → statement M
 written-by-any-spec =
     tie.close
-    (tie.spec Inv-loop μ-loop loop-holds mul-any element-copy-out-any add-t loop-less loop-again returns)
+    (tie.spec Inv-loop μ-loop loop-holds (λ c. search needs) (λ c. search needs) (λ c. omega arith)
+    (λ c. omega arith) loop-again returns)

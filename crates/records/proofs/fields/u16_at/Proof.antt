@@ -5,17 +5,8 @@ use native.Mathlib.Omega.{arith}
 use Rattle.records.proofs.fields.u16_at.Statement.{statement}
 use Rattle.records.proofs.fields.u16_at.Tie as tie
 
-shared-slice-read-low : tie.Need-shared-slice-read-low
-shared-slice-read-low c = search needs
-
 cast-low : tie.Need-cast-low
 cast-low c = omega (arith, c .shared-slice-known .given (c .before .args .i))
-
-add-high : tie.Need-add-high
-add-high c = search needs
-
-shared-slice-read-high : tie.Need-shared-slice-read-high
-shared-slice-read-high c = search needs
 
 cast-high : tie.Need-cast-high
 cast-high c = omega (arith, c .shared-slice-known2 .given (c .before .before .args .i + 1))
@@ -34,12 +25,5 @@ returns c = search needs
 pub u16-at-spec : {M : Type 1} → statement M
 u16-at-spec =
     tie.close
-    (tie.spec
-    shared-slice-read-low
-    cast-low
-    add-high
-    shared-slice-read-high
-    cast-high
-    mul-result
-    add-result
-    returns)
+    (tie.spec (λ c. search needs) cast-low (λ c. search needs) (λ c. search needs) cast-high
+    mul-result add-result returns)

@@ -7,16 +7,10 @@ use borrow.Author.Needs.{needs}
 use Rattle.rules.proofs.judge.broken_at.Statement.{statement}
 use Rattle.rules.proofs.judge.broken_at.Tie as tie
 
-event-at-requires : tie.Need-event-at-requires
-event-at-requires c κs = search needs
-
-wide-requires : tie.Need-wide-requires
-wide-requires c κs = search needs
-
 returns : tie.Need-returns
 returns c =
     let s = c .before .before in
     ap (Broken (s .args .rule) (s .args .event)) (c .wide .ensures ∙ ap (λ (e : Event). e .transaction) (c .before .event-at .ensures))
 
 pub broken-at-spec : {M : Type 1} → statement M
-broken-at-spec = tie.close (tie.spec event-at-requires wide-requires returns)
+broken-at-spec = tie.close (tie.spec (λ c κs. search needs) (λ c κs. search needs) returns)

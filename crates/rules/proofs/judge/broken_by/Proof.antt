@@ -7,18 +7,6 @@ use borrow.Author.Needs.{needs}
 use Rattle.rules.proofs.judge.broken_by.Statement.{statement}
 use Rattle.rules.proofs.judge.broken_by.Tie as tie
 
-table-requires : tie.Need-table-requires
-table-requires c κs = search needs
-
-mul-less-one : tie.Need-mul-less-one
-mul-less-one c = search needs
-
-array-read-less-one : tie.Need-array-read-less-one
-array-read-less-one c = search needs
-
-less-one-requires : tie.Need-less-one-requires
-less-one-requires c κs = search needs
-
 returns : tie.Need-returns
 returns c =
     let s = c .before .before in
@@ -26,4 +14,5 @@ returns c =
 
 pub broken-by-spec : {M : Type 1} → statement M
 broken-by-spec =
-    tie.close (tie.spec table-requires mul-less-one array-read-less-one less-one-requires returns)
+    tie.close (tie.spec (λ c κs. search needs) (λ c. search needs) (λ c. search needs)
+    (λ c κs. search needs) returns)

@@ -39,12 +39,6 @@ returns c =
     let t = c .before .before in
     fails-here (holds (t .before .before)) (t .before .loop .inv) (inside t) (c .before .own-right .ensures) (not-true _ (c .if1 .taken))
 
-add-i : tie.Need-add-i Inv-loop μ-loop
-add-i c = search needs
-
-loop-less : tie.Need-loop-less Inv-loop μ-loop
-loop-less c = search needs
-
 loop-again : tie.Need-loop-again Inv-loop μ-loop
 loop-again c =
     let t = c .before .before in
@@ -59,13 +53,5 @@ returns-2 c =
 pub first-not-own-spec : {M : Type 1} → statement M
 first-not-own-spec =
     tie.close
-    (tie.spec
-    Inv-loop
-    μ-loop
-    loop-holds
-    own-right-requires
-    returns
-    add-i
-    loop-less
-    loop-again
-    returns-2)
+    (tie.spec Inv-loop μ-loop loop-holds own-right-requires returns (λ c. search needs)
+    (λ c. search needs) loop-again returns-2)

@@ -30,14 +30,8 @@ few b = omega (arith, b .transactions-begun .ensures, few-begun (b .before .pre 
 a-holds : (b : tie.After-rule-b) → begun (asked-a b) .transactions-begun .result ≤ asked-a b .rule-a .result
 a-holds b = tabled b .before .before .if1 .left
 
-transactions-begun-requires : tie.Need-transactions-begun-requires
-transactions-begun-requires c κs = search needs
-
 places-of-requires : tie.Need-places-of-requires
 places-of-requires c κs = all-apart (c .before .pre .1) (c .transactions-begun .ensures)
-
-table-requires : tie.Need-table-requires
-table-requires c κs = search needs
 
 rule-a-requires : tie.Need-rule-a-requires
 rule-a-requires c κs = let b = c .before .before .before .before in (few b, c .before .before .before .places-of .ensures .low)
@@ -53,12 +47,6 @@ returns c =
     ∙ verdict-a (s .pre .1) (begun a .transactions-begun .ensures) (placed a .places-of .ensures) (startOf (s .args .starts .now))
     (a .before .before .before .table .ensures) (a .rule-a .ensures) (c .before .if1 .taken)
 
-table-requires-2 : tie.Need-table-requires-2
-table-requires-2 c κs = search needs
-
-table-requires-3 : tie.Need-table-requires-3
-table-requires-3 c κs = search needs
-
 rule-b-requires : tie.Need-rule-b-requires
 rule-b-requires c κs = few (begun (c .before .before .before .before .before .before))
 
@@ -73,9 +61,6 @@ returns-2 c =
     c .broken-by2 .ensures
     ∙ verdict-b (s .pre .1) (begun a .transactions-begun .ensures) (placed a .places-of .ensures) (startOf (s .args .starts .now)) (a .before .before .before .table .ensures) (a .rule-a .ensures)
     (a-holds b) (tabled b .before .table2 .ensures) (tabled b .table3 .ensures) (b .rule-b .ensures) (c .before .if2 .taken)
-
-table-requires-4 : tie.Need-table-requires-4
-table-requires-4 c κs = search needs
 
 writers-of-requires : tie.Need-writers-of-requires
 writers-of-requires c κs =
@@ -105,19 +90,7 @@ returns-3 c =
 pub judge-spec : {M : Type 1} → statement M
 judge-spec =
     tie.close
-    (tie.spec
-    transactions-begun-requires
-    places-of-requires
-    table-requires
-    rule-a-requires
-    broken-by-requires
-    returns
-    table-requires-2
-    table-requires-3
-    rule-b-requires
-    broken-by-requires-2
-    returns-2
-    table-requires-4
-    writers-of-requires
-    judge-reads-requires
+    (tie.spec (λ c κs. search needs) places-of-requires (λ c κs. search needs) rule-a-requires
+    broken-by-requires returns (λ c κs. search needs) (λ c κs. search needs) rule-b-requires
+    broken-by-requires-2 returns-2 (λ c κs. search needs) writers-of-requires judge-reads-requires
     returns-3)

@@ -54,9 +54,6 @@ after-d c =
 first-not-own-requires : tie.Need-first-not-own-requires
 first-not-own-requires c κs = (c .pre .1 .walk .readable, c .pre .0)
 
-broken-at-requires : tie.Need-broken-at-requires
-broken-at-requires c κs = search needs
-
 returns : tie.Need-returns
 unfolding readsVerdict
 returns c =
@@ -65,12 +62,6 @@ returns c =
     c .broken-at .ensures
     ∙ sym (broken-here (history s) C (ownRight (history s)) (tried (history s) D (points s D) (last s)) (o .first-not-own .ensures) (in-history (s .args .log .now) (c .before .if1 .taken)))
 
-first-broken-requires : tie.Need-first-broken-requires
-first-broken-requires c κs = search needs
-
-broken-at-requires-2 : tie.Need-broken-at-requires-2
-broken-at-requires-2 c κs = search needs
-
 returns-2 : tie.Need-returns-2
 unfolding readsVerdict
 returns-2 c =
@@ -78,12 +69,6 @@ returns-2 c =
     let s = d .before .before .before in
     c .broken-at2 .ensures
     ∙ sym (after-c (d .before) ∙ broken-here (history s) D (points s D) (last s) (d .first-broken .ensures) (in-history (s .args .log .now) (c .before .if2 .taken)))
-
-first-broken-requires-2 : tie.Need-first-broken-requires-2
-first-broken-requires-2 c κs = search needs
-
-broken-at-requires-3 : tie.Need-broken-at-requires-3
-broken-at-requires-3 c κs = search needs
 
 returns-3 : tie.Need-returns-3
 unfolding readsVerdict
@@ -103,14 +88,6 @@ returns-4 c =
 pub judge-reads-spec : {M : Type 1} → statement M
 judge-reads-spec =
     tie.close
-    (tie.spec
-    first-not-own-requires
-    broken-at-requires
-    returns
-    first-broken-requires
-    broken-at-requires-2
-    returns-2
-    first-broken-requires-2
-    broken-at-requires-3
-    returns-3
+    (tie.spec first-not-own-requires (λ c κs. search needs) returns (λ c κs. search needs)
+    (λ c κs. search needs) returns-2 (λ c κs. search needs) (λ c κs. search needs) returns-3
     returns-4)

@@ -32,12 +32,6 @@ returns c =
     let t = c .before .before .before in
     not-every (holds (t .before)) (t .loop .inv) (c .before .before .loop-test .taken) (c .before .pair-kept .ensures) (not-true _ (c .if1 .taken))
 
-add-t : tie.Need-add-t Inv-loop μ-loop
-add-t c = search needs
-
-loop-less : tie.Need-loop-less Inv-loop μ-loop
-loop-less c = search needs
-
 loop-again : tie.Need-loop-again Inv-loop μ-loop
 loop-again c =
     let t = c .before .before .before in
@@ -50,13 +44,5 @@ returns-2 c = every-one (holds (c .before .before)) (c .before .loop .inv) (c .l
 pub real-time-kept-spec : {M : Type 1} → statement M
 real-time-kept-spec =
     tie.close
-    (tie.spec
-    Inv-loop
-    μ-loop
-    loop-holds
-    pair-kept-requires
-    returns
-    add-t
-    loop-less
-    loop-again
-    returns-2)
+    (tie.spec Inv-loop μ-loop loop-holds pair-kept-requires returns (λ c. search needs)
+    (λ c. search needs) loop-again returns-2)

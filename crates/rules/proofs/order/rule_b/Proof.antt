@@ -31,12 +31,6 @@ returns c =
     let t = c .before .before .before in
     fails-here (holds (t .before)) (t .loop .inv) (c .before .before .loop-test .taken) (c .before .real-time-kept .ensures) (not-true _ (c .if1 .taken))
 
-add-u : tie.Need-add-u Inv-loop μ-loop
-add-u c = search needs
-
-loop-less : tie.Need-loop-less Inv-loop μ-loop
-loop-less c = search needs
-
 loop-again : tie.Need-loop-again Inv-loop μ-loop
 loop-again c =
     let t = c .before .before .before in
@@ -48,13 +42,5 @@ returns-2 c = none-fails (holds (c .before .before)) (c .before .loop .inv) (c .
 pub rule-b-spec : {M : Type 1} → statement M
 rule-b-spec =
     tie.close
-    (tie.spec
-    Inv-loop
-    μ-loop
-    loop-holds
-    real-time-kept-requires
-    returns
-    add-u
-    loop-less
-    loop-again
-    returns-2)
+    (tie.spec Inv-loop μ-loop loop-holds real-time-kept-requires returns (λ c. search needs)
+    (λ c. search needs) loop-again returns-2)

@@ -24,9 +24,6 @@ mul-wide c = let l : c .before .loop .k < 64 = omega (arith, c .before .before .
 element-copy-out-wide : tie.Need-element-copy-out-wide Inv-loop μ-loop
 element-copy-out-wide c = omega (arith, c .before .before .pre .few)
 
-wide-requires : tie.Need-wide-requires Inv-loop μ-loop
-wide-requires c κs = search needs
-
 cast-place : tie.Need-cast-place Inv-loop μ-loop
 cast-place c = omega (arith, c .before .before .before .before .pre .few)
 
@@ -35,12 +32,6 @@ mul-place c = let l : c .wide .result < 64 = omega (arith, c .wide .ensures, c .
 
 array-write-place : tie.Need-array-write-place Inv-loop μ-loop
 array-write-place c = omega (arith, c .wide .ensures, c .before .before .before .before .pre .low (c .before .before .before .loop .k) (omega arith), c .before .before .before .loop .inv .1 .size)
-
-add-k : tie.Need-add-k Inv-loop μ-loop
-add-k c = search needs
-
-loop-less : tie.Need-loop-less Inv-loop μ-loop
-loop-less c = search needs
 
 loop-again : tie.Need-loop-again Inv-loop μ-loop
 loop-again c =
@@ -55,17 +46,6 @@ returns c =
 pub places-of-spec : {M : Type 1} → statement M
 places-of-spec =
     tie.close
-    (tie.spec
-    Inv-loop
-    μ-loop
-    loop-holds
-    mul-wide
-    element-copy-out-wide
-    wide-requires
-    cast-place
-    mul-place
-    array-write-place
-    add-k
-    loop-less
-    loop-again
+    (tie.spec Inv-loop μ-loop loop-holds mul-wide element-copy-out-wide (λ c κs. search needs)
+    cast-place mul-place array-write-place (λ c. search needs) (λ c. search needs) loop-again
     returns)

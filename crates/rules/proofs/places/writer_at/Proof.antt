@@ -7,20 +7,8 @@ use borrow.Author.Needs.{needs}
 use Rattle.rules.proofs.places.writer_at.Statement.{statement}
 use Rattle.rules.proofs.places.writer_at.Tie as tie
 
-element-copy-out-if1 : tie.Need-element-copy-out-if1
-element-copy-out-if1 c = search needs
-
 returns : tie.Need-returns
 returns c = rw (ne-eqb _ _ (c .if1 .taken))
-
-mul-wide : tie.Need-mul-wide
-mul-wide c = search needs
-
-element-copy-out-wide : tie.Need-element-copy-out-wide
-element-copy-out-wide c = search needs
-
-wide-requires : tie.Need-wide-requires
-wide-requires c κs = search needs
 
 mul-result : tie.Need-mul-result
 mul-result c = let l : c .wide .result < 64 = omega (arith, c .wide .ensures, c .before .before .before .before .pre .1) in search needs
@@ -34,12 +22,5 @@ returns-2 c = rw (eq-eqb _ _ (c .before .before .before .if1 .left), ← (c .bef
 pub writer-at-spec : {M : Type 1} → statement M
 writer-at-spec =
     tie.close
-    (tie.spec
-    element-copy-out-if1
-    returns
-    mul-wide
-    element-copy-out-wide
-    wide-requires
-    mul-result
-    element-copy-out-result
-    returns-2)
+    (tie.spec (λ c. search needs) returns (λ c. search needs) (λ c. search needs)
+    (λ c κs. search needs) mul-result element-copy-out-result returns-2)

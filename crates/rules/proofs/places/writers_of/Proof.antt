@@ -27,12 +27,6 @@ mul-writers c = let l : c .before .before .loop .k < 64 = omega (arith, c .befor
 array-write-writers : tie.Need-array-write-writers Inv-loop μ-loop
 array-write-writers c = omega (arith, c .before .before .before .pre .few, c .before .before .loop .inv .1 .size)
 
-add-k : tie.Need-add-k Inv-loop μ-loop
-add-k c = search needs
-
-loop-less : tie.Need-loop-less Inv-loop μ-loop
-loop-less c = search needs
-
 loop-again : tie.Need-loop-again Inv-loop μ-loop
 loop-again c =
     let t = c .before .before in
@@ -47,14 +41,5 @@ returns c =
 pub writers-of-spec : {M : Type 1} → statement M
 writers-of-spec =
     tie.close
-    (tie.spec
-    Inv-loop
-    μ-loop
-    loop-holds
-    writer-at-requires
-    mul-writers
-    array-write-writers
-    add-k
-    loop-less
-    loop-again
-    returns)
+    (tie.spec Inv-loop μ-loop loop-holds writer-at-requires mul-writers array-write-writers
+    (λ c. search needs) (λ c. search needs) loop-again returns)

@@ -41,12 +41,6 @@ returns c =
     let t = c .before .before in
     fails-here (holds (t .before .before)) (t .before .loop .inv) (inside t) (c .before .holds-at .ensures) (not-true _ (c .if1 .taken))
 
-add-i : tie.Need-add-i Inv-loop μ-loop
-add-i c = search needs
-
-loop-less : tie.Need-loop-less Inv-loop μ-loop
-loop-less c = search needs
-
 loop-again : tie.Need-loop-again Inv-loop μ-loop
 loop-again c =
     let t = c .before .before in
@@ -61,13 +55,5 @@ returns-2 c =
 pub first-broken-spec : {M : Type 1} → statement M
 first-broken-spec =
     tie.close
-    (tie.spec
-    Inv-loop
-    μ-loop
-    loop-holds
-    holds-at-requires
-    returns
-    add-i
-    loop-less
-    loop-again
-    returns-2)
+    (tie.spec Inv-loop μ-loop loop-holds holds-at-requires returns (λ c. search needs)
+    (λ c. search needs) loop-again returns-2)

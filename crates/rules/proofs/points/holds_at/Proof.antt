@@ -48,9 +48,6 @@ told p e t =
     (p .before .before .before .before .if1 .left) (p .before .before .before .event-at .ensures) (p .before .wide .ensures ∙ p .before .before .place-at .ensures) (p .wide2 .ensures)
     (t ∙ ap (here p) (sym e))
 
-mul-gap : tie.Need-mul-gap
-mul-gap c = search needs
-
 element-copy-out-gap : tie.Need-element-copy-out-gap
 element-copy-out-gap c = omega (arith, c .pre .1, log-most (c .args .log .now) (c .pre .0 .walk .readable))
 
@@ -60,43 +57,19 @@ returns c =
     no-point (startOf (s .args .starts .now)) (logged (s .args .log .now)) (s .args .link .now) (s .args .writers .now) (s .args .place .now) (s .args .gaps .now)
     (s .args .i) (s .args .rule) (c .if1 .taken)
 
-event-at-requires : tie.Need-event-at-requires
-event-at-requires c κs = search needs
-
 place-at-requires : tie.Need-place-at-requires
 place-at-requires c κs =
     let s = c .before .before .before in
     transaction-below (s .args .log .now) (s .pre .0 .walk .readable) (s .pre .1) (c .event-at .ensures)
 
-wide-requires : tie.Need-wide-requires
-wide-requires c κs = search needs
-
-wide-requires-2 : tie.Need-wide-requires-2
-wide-requires-2 c κs = search needs
-
-enum-told : tie.Need-enum-told
-enum-told c = search needs
-
 no-writer-between-requires : tie.Need-no-writer-between-requires
 no-writer-between-requires c κs = let p = c .before .before in (entered p .pre .0 .walk, (own-low p, gap-low p))
-
-enum-told-2 : tie.Need-enum-told-2
-enum-told-2 c = search needs
 
 value-at-gap-requires : tie.Need-value-at-gap-requires
 value-at-gap-requires c κs =
     let p = c .before .before in
     let s = entered p in
     (s .pre .0 .walk, (gap-low p, register-below (s .args .log .now) (s .pre .0 .walk .readable) (s .pre .1) (p .before .before .before .event-at .ensures)))
-
-enum-told-3 : tie.Need-enum-told-3
-enum-told-3 c = search needs
-
-enum-told-4 : tie.Need-enum-told-4
-enum-told-4 c = search needs
-
-enum-told-5 : tie.Need-enum-told-5
-enum-told-5 c = search needs
 
 returns-2 : tie.Need-returns-2
 returns-2 c = told (c .before .before .before) (c .before .enum-told .given .1) (c .no-writer-between .ensures)
@@ -116,23 +89,7 @@ returns-6 c = told (c .before .before) (c .enum-told5 .given .1) refl
 pub holds-at-spec : {M : Type 1} → statement M
 holds-at-spec =
     tie.close
-    (tie.spec
-    mul-gap
-    element-copy-out-gap
-    returns
-    event-at-requires
-    place-at-requires
-    wide-requires
-    wide-requires-2
-    enum-told
-    no-writer-between-requires
-    enum-told-2
-    value-at-gap-requires
-    enum-told-3
-    enum-told-4
-    enum-told-5
-    returns-2
-    returns-3
-    returns-4
-    returns-5
-    returns-6)
+    (tie.spec (λ c. search needs) element-copy-out-gap returns (λ c κs. search needs)
+    place-at-requires (λ c κs. search needs) (λ c κs. search needs) (λ c. search needs)
+    no-writer-between-requires (λ c. search needs) value-at-gap-requires (λ c. search needs)
+    (λ c. search needs) (λ c. search needs) returns-2 returns-3 returns-4 returns-5 returns-6)

@@ -11,15 +11,6 @@ use borrow.Author.Needs.{needs}
 use Rattle.rules.proofs.points.no_writer_between.Statement.{statement}
 use Rattle.rules.proofs.points.no_writer_between.Tie as tie
 
-least-requires : tie.Need-least-requires
-least-requires c κs = search needs
-
-most-requires : tie.Need-most-requires
-most-requires c κs = search needs
-
-last-writer-requires : tie.Need-last-writer-requires
-last-writer-requires c κs = search needs
-
 returns : tie.Need-returns
 unfolding noWriter
 returns c =
@@ -32,4 +23,4 @@ returns c =
 
 pub no-writer-between-spec : {M : Type 1} → statement M
 no-writer-between-spec =
-    tie.close (tie.spec least-requires most-requires last-writer-requires returns)
+    tie.close (tie.spec (λ c κs. search needs) (λ c κs. search needs) (λ c κs. search needs) returns)

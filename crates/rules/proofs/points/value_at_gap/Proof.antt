@@ -12,18 +12,6 @@ use borrow.Author.Needs.{needs}
 use Rattle.rules.proofs.points.value_at_gap.Statement.{statement}
 use Rattle.rules.proofs.points.value_at_gap.Tie as tie
 
-last-writer-requires : tie.Need-last-writer-requires
-last-writer-requires c κs = search needs
-
-wide-requires : tie.Need-wide-requires
-wide-requires c κs = search needs
-
-mul-start : tie.Need-mul-start
-mul-start c = search needs
-
-element-copy-out-start : tie.Need-element-copy-out-start
-element-copy-out-start c = search needs
-
 returns : tie.Need-returns
 unfolding rightValue startOf
 returns c =
@@ -34,9 +22,6 @@ returns c =
     let o = lastIn (logged (s .args .log .now)) (s .args .link .now) (s .args .writers .now) (s .args .own) r 0 (s .args .g) in
     let z : Option·getD o (start r) ≡ start r = value-none o (start r) (sym (c .before .before .before .if1 .taken) ∙ w .last-writer .ensures) in
     rw z (ap (λ (x : ℕ). eqb (s .args .e .value) (start x)) (c .before .before .wide .ensures))
-
-stored-requires : tie.Need-stored-requires
-stored-requires c κs = search needs
 
 returns-2 : tie.Need-returns-2
 unfolding rightValue
@@ -50,11 +35,5 @@ returns-2 c =
 pub value-at-gap-spec : {M : Type 1} → statement M
 value-at-gap-spec =
     tie.close
-    (tie.spec
-    last-writer-requires
-    wide-requires
-    mul-start
-    element-copy-out-start
-    returns
-    stored-requires
-    returns-2)
+    (tie.spec (λ c κs. search needs) (λ c κs. search needs) (λ c. search needs) (λ c. search needs)
+    returns (λ c κs. search needs) returns-2)

@@ -55,23 +55,14 @@ walk-less c = omega (arith, c .before .before .before .before .walk .inv .least)
 walk-again : tie.Need-walk-again Inv-loop μ-loop Inv-walk μ-walk
 walk-again c = walk-leaves (c .before .loop .inv) (omega arith)
 
-sub-i : tie.Need-sub-i Inv-loop μ-loop Inv-walk μ-walk
-sub-i c = omega arith
-
 event-at-requires : tie.Need-event-at-requires Inv-loop μ-loop Inv-walk μ-walk
 event-at-requires c κs = inside c
-
-stored-requires : tie.Need-stored-requires Inv-loop μ-loop Inv-walk μ-walk
-stored-requires c κs = search needs
 
 mul-wide : tie.Need-mul-wide Inv-loop μ-loop Inv-walk μ-walk
 mul-wide c = let l = few (c .before .before .before) in search needs
 
 element-copy-out-wide : tie.Need-element-copy-out-wide Inv-loop μ-loop Inv-walk μ-walk
 element-copy-out-wide c = let l = few (c .before .before .before) in search needs
-
-wide-requires : tie.Need-wide-requires Inv-loop μ-loop Inv-walk μ-walk
-wide-requires c κs = search needs
 
 loop-less : tie.Need-loop-less Inv-loop μ-loop Inv-walk μ-walk
 loop-less c =
@@ -96,24 +87,6 @@ returns-2 c =
 pub last-writer-spec : {M : Type 1} → statement M
 last-writer-spec =
     tie.close
-    (tie.spec
-    Inv-loop
-    μ-loop
-    Inv-walk
-    μ-walk
-    walk-holds
-    sub-k
-    start-at-requires
-    loop-holds
-    walk-less
-    walk-again
-    sub-i
-    event-at-requires
-    stored-requires
-    mul-wide
-    element-copy-out-wide
-    wide-requires
-    loop-less
-    loop-again
-    returns
-    returns-2)
+    (tie.spec Inv-loop μ-loop Inv-walk μ-walk walk-holds sub-k start-at-requires loop-holds
+    walk-less walk-again (λ c. omega arith) event-at-requires (λ c κs. search needs) mul-wide
+    element-copy-out-wide (λ c κs. search needs) loop-less loop-again returns returns-2)

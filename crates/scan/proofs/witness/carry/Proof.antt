@@ -29,17 +29,8 @@ room a =
     let s = a .before .before in
     room-more (s .args .count) (s .args .order) (s .pre .another (begins-here a)) (s .pre .room)
 
-is-begin-requires : tie.Need-is-begin-requires
-is-begin-requires c κs = search needs
-
 mul-result : tie.Need-mul-result
 mul-result c = omega (arith, room c)
-
-cast-result : tie.Need-cast-result
-cast-result c = search needs
-
-mul-result-2 : tie.Need-mul-result-2
-mul-result-2 c = search needs
 
 add-result : tie.Need-add-result
 add-result c = omega (arith, room (c .before), c .before .before .before .pre .transaction)
@@ -49,20 +40,11 @@ returns c =
     let a = c .before .before .before .args in
     kept-begin (a .starts .now) (a .facts .now) (a .count) (a .order) (a .e) (begins-here (c .before))
 
-is-read-requires : tie.Need-is-read-requires
-is-read-requires c κs = search needs
-
 seen-by-requires : tie.Need-seen-by-requires
 seen-by-requires c κs =
     let b = c .before .before in
     let s = b .before .before in
     (s .pre .ordered, (s .pre .known (not-begin b), s .pre .register))
-
-wide-requires : tie.Need-wide-requires
-wide-requires c κs = search needs
-
-order-if-requires : tie.Need-order-if-requires
-order-if-requires c κs = search needs
 
 returns-2 : tie.Need-returns-2
 returns-2 c =
@@ -72,17 +54,11 @@ returns-2 c =
     c .order-if .ensures ∙ ap₂ (λ (x y : ℕ). cond (eqb x y) (a .order) 0) (c .before .before .seen-by .ensures) (c .before .wide .ensures)
     ∙ kept-read (a .starts .now) (a .facts .now) (a .count) (a .order) (a .e) (not-begin b) (sym (t .before .is-read .ensures) ∙ t .if2 .taken)
 
-is-commit-requires : tie.Need-is-commit-requires
-is-commit-requires c κs = search needs
-
 is-committed-requires : tie.Need-is-committed-requires
 is-committed-requires c κs =
     let b = c .before .before .before .before in
     let s = b .before .before in
     (s .pre .ordered, s .pre .known (not-begin b))
-
-order-if-requires-2 : tie.Need-order-if-requires-2
-order-if-requires-2 c κs = search needs
 
 returns-3 : tie.Need-returns-3
 returns-3 c =
@@ -93,17 +69,11 @@ returns-3 c =
     c .order-if2 .ensures ∙ ap (λ (x : Bool). cond x (a .order) 0) (c .before .is-committed .ensures)
     ∙ kept-commit (a .starts .now) (a .facts .now) (a .count) (a .order) (a .e) (not-begin b) (not-read r) (sym (t .before .is-commit .ensures) ∙ t .if3 .taken)
 
-is-abort-requires : tie.Need-is-abort-requires
-is-abort-requires c κs = search needs
-
 is-committed-requires-2 : tie.Need-is-committed-requires-2
 is-committed-requires-2 c κs =
     let b = c .before .before .before .before .before .before in
     let s = b .before .before in
     (s .pre .ordered, s .pre .known (not-begin b))
-
-order-if-requires-3 : tie.Need-order-if-requires-3
-order-if-requires-3 c κs = search needs
 
 returns-4 : tie.Need-returns-4
 returns-4 c =
@@ -126,24 +96,7 @@ returns-5 c =
 pub carry-spec : {M : Type 1} → statement M
 carry-spec =
     tie.close
-    (tie.spec
-    is-begin-requires
-    mul-result
-    cast-result
-    mul-result-2
-    add-result
-    returns
-    is-read-requires
-    seen-by-requires
-    wide-requires
-    order-if-requires
-    returns-2
-    is-commit-requires
-    is-committed-requires
-    order-if-requires-2
-    returns-3
-    is-abort-requires
-    is-committed-requires-2
-    order-if-requires-3
-    returns-4
-    returns-5)
+    (tie.spec (λ c κs. search needs) mul-result (λ c. search needs) (λ c. search needs) add-result
+    returns (λ c κs. search needs) seen-by-requires (λ c κs. search needs) (λ c κs. search needs)
+    returns-2 (λ c κs. search needs) is-committed-requires (λ c κs. search needs) returns-3
+    (λ c κs. search needs) is-committed-requires-2 (λ c κs. search needs) returns-4 returns-5)

@@ -12,40 +12,10 @@ use Rattle.scan.proofs.witness.seen_by.Tie as tie
 abbrev entered : tie.After-own → tie.Start
 entered a = a .before .before .before
 
-cast-t : tie.Need-cast-t
-cast-t c = search needs
-
-cast-r : tie.Need-cast-r
-cast-r c = search needs
-
-add-own : tie.Need-add-own
-add-own c = search needs
-
-mul-own : tie.Need-mul-own
-mul-own c = search needs
-
-mul-own-2 : tie.Need-mul-own-2
-mul-own-2 c = search needs
-
-index-1-own : tie.Need-index-1-own
-index-1-own c = search needs
-
-index-2-own : tie.Need-index-2-own
-index-2-own c = search needs
-
-sub-result : tie.Need-sub-result
-sub-result c = search needs
-
 returns : tie.Need-returns
 returns c =
     let a = entered (c .before) .args in
     seen-own (startOf (a .starts .now)) (a .facts .now) (decode (codesOf (a .count) (a .order))) (a .e .transaction) (a .e .register) _ refl (c .if1 .taken)
-
-place-of-requires : tie.Need-place-of-requires
-place-of-requires c κs = search needs
-
-content-requires : tie.Need-content-requires
-content-requires c κs = search needs
 
 returns-2 : tie.Need-returns-2
 returns-2 c =
@@ -58,16 +28,6 @@ returns-2 c =
 pub seen-by-spec : {M : Type 1} → statement M
 seen-by-spec =
     tie.close
-    (tie.spec
-    cast-t
-    cast-r
-    add-own
-    mul-own
-    mul-own-2
-    index-1-own
-    index-2-own
-    sub-result
-    returns
-    place-of-requires
-    content-requires
-    returns-2)
+    (tie.spec (λ c. search needs) (λ c. search needs) (λ c. search needs) (λ c. search needs)
+    (λ c. search needs) (λ c. search needs) (λ c. search needs) (λ c. search needs) returns
+    (λ c κs. search needs) (λ c κs. search needs) returns-2)

@@ -28,9 +28,6 @@ loop-holds c =
     let s = c .before in
     (omega arith, put-none (listed (moved s)) (movedHere (moved s)) (listed-none (moved s)) (listed-more (moved s)) (now (s .args .list)) 0)
 
-element-copy-out-put-moved : tie.Need-element-copy-out-put-moved Inv-loop μ-loop
-element-copy-out-put-moved c = search needs
-
 cast-put-moved : tie.Need-cast-put-moved Inv-loop μ-loop
 cast-put-moved c = omega (arith, c .before .before .before .before .before .pre .0)
 
@@ -40,12 +37,6 @@ put-moved-requires c κs =
     let s = t .before .before in
     put-room (listed (moved s)) (movedHere (moved s)) (listed-none (moved s)) (listed-more (moved s)) (now (s .args .list)) 0 (s .args .count) (omega (arith, s .pre .1))
     (t .loop .i) (omega arith) (t .loop .list) (t .loop .number) (t .loop .inv .1)
-
-add-i : tie.Need-add-i Inv-loop μ-loop
-add-i c = search needs
-
-loop-less : tie.Need-loop-less Inv-loop μ-loop
-loop-less c = search needs
 
 loop-again : tie.Need-loop-again Inv-loop μ-loop
 loop-again c =
@@ -70,15 +61,5 @@ returns c =
 pub list-moved-spec : {M : Type 1} → statement M
 list-moved-spec =
     tie.close
-    (tie.spec
-    Inv-loop
-    μ-loop
-    loop-holds
-    element-copy-out-put-moved
-    cast-put-moved
-    put-moved-requires
-    add-i
-    loop-less
-    loop-again
-    same-length
-    returns)
+    (tie.spec Inv-loop μ-loop loop-holds (λ c. search needs) cast-put-moved put-moved-requires
+    (λ c. search needs) (λ c. search needs) loop-again same-length returns)

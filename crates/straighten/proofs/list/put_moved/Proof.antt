@@ -9,17 +9,8 @@ use borrow.Author.Needs.{needs}
 use Rattle.straighten.proofs.list.put_moved.Statement.{statement}
 use Rattle.straighten.proofs.list.put_moved.Tie as tie
 
-mul-list : tie.Need-mul-list
-mul-list c = search needs
-
 slice-write-list : tie.Need-slice-write-list
 slice-write-list c = omega (arith, (rw (c .if1 .taken) at (c .before .pre)))
-
-add-result : tie.Need-add-result
-add-result c = search needs
-
-same-length : tie.Need-same-length
-same-length c = search needs
 
 returns : tie.Need-returns
 returns c = simp (c .if1 .taken) (placed-one (now (c .before .args .list)) (c .before .args .at) (c .before .args .event) (rw (c .if1 .taken) at (c .before .pre)), refl)
@@ -29,4 +20,5 @@ returns-2 c = simp (c .if1 .left) (placed-nothing (now (c .before .args .list)) 
 
 pub put-moved-spec : {M : Type 1} → statement M
 put-moved-spec =
-    tie.close (tie.spec mul-list slice-write-list add-result same-length returns returns-2)
+    tie.close (tie.spec (λ c. search needs) slice-write-list (λ c. search needs) (λ c. search needs)
+    returns returns-2)

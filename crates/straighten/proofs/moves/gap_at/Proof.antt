@@ -10,9 +10,6 @@ use borrow.Author.Needs.{needs}
 use Rattle.straighten.proofs.moves.gap_at.Statement.{statement}
 use Rattle.straighten.proofs.moves.gap_at.Tie as tie
 
-event-at-requires : tie.Need-event-at-requires
-event-at-requires c κs = search needs
-
 place-at-requires : tie.Need-place-at-requires
 place-at-requires c κs = let s = c .before in transaction-below (s .args .log .now) (s .pre .0) (s .pre .1) (c .event-at .ensures)
 
@@ -24,9 +21,6 @@ returns c =
     let p = c .before .before in
     rw (c .if1 .taken) (p .place-at .ensures ∙ ap (λ (e : Event). getD (p .before .before .args .place .now) (e .transaction) 0) (p .before .event-at .ensures))
 
-mul-result : tie.Need-mul-result
-mul-result c = search needs
-
 element-copy-out-result : tie.Need-element-copy-out-result
 element-copy-out-result c = let s = c .before .before .before .before in omega (arith, s .pre .1, log-most (s .args .log .now) (s .pre .0))
 
@@ -36,11 +30,5 @@ returns-2 c = rw (c .before .if1 .left)
 pub gap-at-spec : {M : Type 1} → statement M
 gap-at-spec =
     tie.close
-    (tie.spec
-    event-at-requires
-    place-at-requires
-    element-copy-out-if1
-    returns
-    mul-result
-    element-copy-out-result
-    returns-2)
+    (tie.spec (λ c κs. search needs) place-at-requires element-copy-out-if1 returns
+    (λ c. search needs) element-copy-out-result returns-2)

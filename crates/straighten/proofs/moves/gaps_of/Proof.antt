@@ -30,17 +30,8 @@ loop-holds c = (omega arith, filled-none _ _ _)
 gap-at-requires : tie.Need-gap-at-requires Inv-loop μ-loop
 gap-at-requires c κs = (c .before .before .pre, c .loop-test .taken)
 
-mul-straight : tie.Need-mul-straight Inv-loop μ-loop
-mul-straight c = search needs
-
 array-write-straight : tie.Need-array-write-straight Inv-loop μ-loop
 array-write-straight c = let l = few (c .before) in omega (arith, c .before .before .loop .inv .1 .size)
-
-add-i : tie.Need-add-i Inv-loop μ-loop
-add-i c = search needs
-
-loop-less : tie.Need-loop-less Inv-loop μ-loop
-loop-less c = search needs
 
 loop-again : tie.Need-loop-again Inv-loop μ-loop
 loop-again c =
@@ -56,14 +47,5 @@ returns c =
 pub gaps-of-spec : {M : Type 1} → statement M
 gaps-of-spec =
     tie.close
-    (tie.spec
-    Inv-loop
-    μ-loop
-    loop-holds
-    gap-at-requires
-    mul-straight
-    array-write-straight
-    add-i
-    loop-less
-    loop-again
-    returns)
+    (tie.spec Inv-loop μ-loop loop-holds gap-at-requires (λ c. search needs) array-write-straight
+    (λ c. search needs) (λ c. search needs) loop-again returns)

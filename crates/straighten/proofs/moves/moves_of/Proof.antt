@@ -41,12 +41,6 @@ breaks-requires c κs = (c .before .before .pre, c .loop-test .taken)
 array-write-moves : tie.Need-array-write-moves Inv-loop μ-loop
 array-write-moves c = let l = few (c .before) in omega (arith, c .before .before .loop .inv .1 .size)
 
-add-i : tie.Need-add-i Inv-loop μ-loop
-add-i c = search needs
-
-loop-less : tie.Need-loop-less Inv-loop μ-loop
-loop-less c = search needs
-
 loop-again : tie.Need-loop-again Inv-loop μ-loop
 loop-again c =
     let t = c .before .before in
@@ -61,13 +55,5 @@ returns c =
 pub moves-of-spec : {M : Type 1} → statement M
 moves-of-spec =
     tie.close
-    (tie.spec
-    Inv-loop
-    μ-loop
-    loop-holds
-    breaks-requires
-    array-write-moves
-    add-i
-    loop-less
-    loop-again
-    returns)
+    (tie.spec Inv-loop μ-loop loop-holds breaks-requires array-write-moves (λ c. search needs)
+    (λ c. search needs) loop-again returns)

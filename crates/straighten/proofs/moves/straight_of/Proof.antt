@@ -10,9 +10,6 @@ use Rattle.straighten.proofs.moves.straight_of.Tie as tie
 places-of-requires : tie.Need-places-of-requires
 places-of-requires c κs = all-apart (c .pre .0) (c .pre .1)
 
-table-requires : tie.Need-table-requires
-table-requires c κs = search needs
-
 writers-of-requires : tie.Need-writers-of-requires
 writers-of-requires c κs = let s = c .before .before .before in all-apart (s .pre .0) (s .pre .1)
 
@@ -22,9 +19,6 @@ moves-of-requires c κs =
     let t = w .before .before in
     let s = t .before .before in
     all-pointable (s .pre .0) (s .pre .1) (t .before .places-of .ensures) (t .table .ensures) (w .writers-of .ensures)
-
-gaps-of-requires : tie.Need-gaps-of-requires
-gaps-of-requires c κs = search needs
 
 returns : tie.Need-returns
 returns c =
@@ -44,10 +38,5 @@ returns c =
 pub straight-of-spec : {M : Type 1} → statement M
 straight-of-spec =
     tie.close
-    (tie.spec
-    places-of-requires
-    table-requires
-    writers-of-requires
-    moves-of-requires
-    gaps-of-requires
-    returns)
+    (tie.spec places-of-requires (λ c κs. search needs) writers-of-requires moves-of-requires
+    (λ c κs. search needs) returns)

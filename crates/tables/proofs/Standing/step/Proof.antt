@@ -15,30 +15,6 @@ settled a = a .before .before .before
 abbrev begun : tie.After-join2 → tie.After-note-begin
 begun a = settled a .before .before
 
-read-contradicts-requires : tie.Need-read-contradicts-requires
-read-contradicts-requires c κs = search needs
-
-note-read-requires : tie.Need-note-read-requires
-note-read-requires c κs = search needs
-
-note-write-requires : tie.Need-note-write-requires
-note-write-requires c κs = search needs
-
-note-begin-requires : tie.Need-note-begin-requires
-note-begin-requires c κs = search needs
-
-note-outcome-requires : tie.Need-note-outcome-requires
-note-outcome-requires c κs = search needs
-
-is-end-requires : tie.Need-is-end-requires
-is-end-requires c κs = search needs
-
-join-requires : tie.Need-join-requires
-join-requires c κs = search needs
-
-join-requires-2 : tie.Need-join-requires-2
-join-requires-2 c κs = search needs
-
 returns : tie.Need-returns
 unfolding next
 returns c =
@@ -58,13 +34,6 @@ returns c =
 pub step-spec : {M : Type 1} → statement M
 step-spec =
     tie.close
-    (tie.spec
-    read-contradicts-requires
-    note-read-requires
-    note-write-requires
-    note-begin-requires
-    note-outcome-requires
-    is-end-requires
-    join-requires
-    join-requires-2
-    returns)
+    (tie.spec (λ c κs. search needs) (λ c κs. search needs) (λ c κs. search needs)
+    (λ c κs. search needs) (λ c κs. search needs) (λ c κs. search needs) (λ c κs. search needs)
+    (λ c κs. search needs) returns)

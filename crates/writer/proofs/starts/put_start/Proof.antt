@@ -39,14 +39,8 @@ returns c =
 put-u16-requires : tie.Need-put-u16-requires
 put-u16-requires c κs = omega (arith, room (c .before))
 
-add-put-u16 : tie.Need-add-put-u16
-add-put-u16 c = search needs
-
 put-u16-requires-2 : tie.Need-put-u16-requires-2
 put-u16-requires-2 c κs = let a = c .before .before .before in omega (arith, room (first a), a .put-u16 .kept .0)
-
-add-put-u16-2 : tie.Need-add-put-u16-2
-add-put-u16-2 c = search needs
 
 put-u16-requires-3 : tie.Need-put-u16-requires-3
 put-u16-requires-3 c κs =
@@ -54,18 +48,12 @@ put-u16-requires-3 c κs =
     let a = second b in
     omega (arith, room (first a), a .put-u16 .kept .0, b .put-u162 .kept .0)
 
-add-put-u32 : tie.Need-add-put-u32
-add-put-u32 c = search needs
-
 put-u32-requires : tie.Need-put-u32-requires
 put-u32-requires c κs =
     let d = c .before .before .before in
     let b = third d in
     let a = second b in
     omega (arith, room (first a), a .put-u16 .kept .0, b .put-u162 .kept .0, d .put-u163 .kept .0)
-
-same-length : tie.Need-same-length
-same-length c = search needs
 
 returns-2 : tie.Need-returns-2
 returns-2 c =
@@ -90,14 +78,5 @@ returns-2 c =
 pub put-start-spec : {M : Type 1} → statement M
 put-start-spec =
     tie.close
-    (tie.spec
-    returns
-    put-u16-requires
-    add-put-u16
-    put-u16-requires-2
-    add-put-u16-2
-    put-u16-requires-3
-    add-put-u32
-    put-u32-requires
-    same-length
-    returns-2)
+    (tie.spec returns put-u16-requires (λ c. search needs) put-u16-requires-2 (λ c. search needs)
+    put-u16-requires-3 (λ c. search needs) put-u32-requires (λ c. search needs) returns-2)

@@ -34,12 +34,6 @@ loop-holds : tie.Need-loop-holds Inv-loop μ-loop
 unfolding startsTo
 loop-holds c = (omega arith, refl, sym (placed-none (now (c .before .args .out)) 6))
 
-mul-value : tie.Need-mul-value Inv-loop μ-loop
-mul-value c = omega arith
-
-element-copy-out-value : tie.Need-element-copy-out-value Inv-loop μ-loop
-element-copy-out-value c = omega arith
-
 cast-put-start : tie.Need-cast-put-start Inv-loop μ-loop
 cast-put-start c = omega (arith, c .before .before .loop-test .taken)
 
@@ -49,9 +43,6 @@ put-start-requires c κs =
     let s = c .before .before .before .before .before in
     let l = c .before .before .before .loop in
     omega (arith, l .inv .1, room s (l .r) (c .before .before .loop-test .taken), long s (l .r) (l .out) (l .inv .0) (l .inv .2))
-
-start-length-requires : tie.Need-start-length-requires Inv-loop μ-loop
-start-length-requires c κs = search needs
 
 add-at : tie.Need-add-at Inv-loop μ-loop
 unfolding startOf
@@ -96,18 +87,5 @@ returns c =
 pub put-starts-spec : {M : Type 1} → statement M
 put-starts-spec =
     tie.close
-    (tie.spec
-    Inv-loop
-    μ-loop
-    loop-holds
-    mul-value
-    element-copy-out-value
-    cast-put-start
-    put-start-requires
-    start-length-requires
-    add-at
-    add-r
-    loop-less
-    loop-again
-    same-length
-    returns)
+    (tie.spec Inv-loop μ-loop loop-holds (λ c. omega arith) (λ c. omega arith) cast-put-start
+    put-start-requires (λ c κs. search needs) add-at add-r loop-less loop-again same-length returns)

@@ -12,11 +12,8 @@ use Rattle.writer.proofs.starts.start_length.Tie as tie
 returns : tie.Need-returns
 returns c = (λ k. sym (ap (λ (l : List ℕ). length l) (no-record k _ (c .if1 .taken))), omega arith)
 
-add-result : tie.Need-add-result
-add-result c = search needs
-
 returns-2 : tie.Need-returns-2
 returns-2 c = (λ k. sym (ap (λ (l : List ℕ). length l) (whole-record k _ (c .if1 .left))), omega arith)
 
 pub start-length-spec : {M : Type 1} → statement M
-start-length-spec = tie.close (tie.spec add-result returns returns-2)
+start-length-spec = tie.close (tie.spec (λ c. search needs) returns returns-2)

@@ -22,25 +22,10 @@ loop-holds : tie.Need-loop-holds Inv-loop μ-loop
 unfolding startsTo
 loop-holds c = (omega arith, refl)
 
-mul-start-length : tie.Need-mul-start-length Inv-loop μ-loop
-mul-start-length c = omega arith
-
-element-copy-out-start-length : tie.Need-element-copy-out-start-length Inv-loop μ-loop
-element-copy-out-start-length c = omega arith
-
-start-length-requires : tie.Need-start-length-requires Inv-loop μ-loop
-start-length-requires c κs = search needs
-
 add-at : tie.Need-add-at Inv-loop μ-loop
 add-at c =
     let l = c .before .before .before .loop in
     omega (arith, l .inv .0, l .inv .1, starts-most (now (c .before .before .before .before .args .starts)) (l .r), c .start-length .ensures .1)
-
-add-r : tie.Need-add-r Inv-loop μ-loop
-add-r c = omega arith
-
-loop-less : tie.Need-loop-less Inv-loop μ-loop
-loop-less c = omega arith
 
 loop-again : tie.Need-loop-again Inv-loop μ-loop
 unfolding startOf
@@ -57,15 +42,5 @@ returns c =
 pub starts-end-spec : {M : Type 1} → statement M
 starts-end-spec =
     tie.close
-    (tie.spec
-    Inv-loop
-    μ-loop
-    loop-holds
-    mul-start-length
-    element-copy-out-start-length
-    start-length-requires
-    add-at
-    add-r
-    loop-less
-    loop-again
-    returns)
+    (tie.spec Inv-loop μ-loop loop-holds (λ c. omega arith) (λ c. omega arith)
+    (λ c κs. search needs) add-at (λ c. omega arith) (λ c. omega arith) loop-again returns)

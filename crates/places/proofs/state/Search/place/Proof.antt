@@ -6,12 +6,6 @@ use Rattle.places.proofs.StateLaws.{room-lt, room-at, room-bits, extend
 use Rattle.places.proofs.state.Search.place.Statement.{statement}
 use Rattle.places.proofs.state.Search.place.Tie as tie
 
-without-requires : tie.Need-without-requires
-without-requires c κs = search needs
-
-add-t5 : tie.Need-add-t5
-add-t5 c = search needs
-
 mul-t6 : tie.Need-mul-t6
 mul-t6 c = let start = c .before .before .before in omega (arith, room-bits (start .args .self) (start .pre .0 .sound) (room-at (start .pre .0)))
 
@@ -32,4 +26,5 @@ returns c =
     extends (start .args .self) (start .args .t) (start .args .outcome) (c .before .before .without .result) (start .pre .0) (start .pre .1) (c .before .before .without .ensures)
 
 pub place-spec : {M : Type 1} → statement M
-place-spec = tie.close (tie.spec without-requires add-t5 mul-t6 mul-t8 add-t9 add-t10 returns)
+place-spec = tie.close (tie.spec (λ c κs. search needs) (λ c. search needs) mul-t6 mul-t8 add-t9
+    add-t10 returns)
