@@ -72,7 +72,8 @@ pub fn count_transactions(
     values: &[u32],
     count: usize,
 ) -> Counting
-    ensures { λ r. ⌜ r ≡ transactionsAnswer (columns (now (kinds .entry)) (now (transactions .entry)) (now (registers .entry)) (now (values .entry))) count ⌝ }
+    ensures { λ r. ⌜ r ≡ transactionsAnswer (columns (now (kinds .entry)) (now (transactions .entry)) (now (registers .entry))
+        (now (values .entry))) count ⌝ }
 {
     let starts = [0u32; 32];
     if count <= 64 {
@@ -111,7 +112,8 @@ pub fn count_store_reads(
     values: &[u32],
     count: usize,
 ) -> Counting
-    ensures { λ r. ⌜ r ≡ storeReadsAnswer (columns (now (kinds .entry)) (now (transactions .entry)) (now (registers .entry)) (now (values .entry))) count ⌝ }
+    ensures { λ r. ⌜ r ≡ storeReadsAnswer (columns (now (kinds .entry)) (now (transactions .entry)) (now (registers .entry))
+        (now (values .entry))) count ⌝ }
 {
     let starts = [0u32; 32];
     if count <= 64 {
@@ -150,7 +152,8 @@ pub fn tally_transactions(
     values: &[u32],
     count: usize,
 ) -> Tallying
-    ensures { λ r. ⌜ r ≡ tallyAnswer (columns (now (kinds .entry)) (now (transactions .entry)) (now (registers .entry)) (now (values .entry))) count ⌝ }
+    ensures { λ r. ⌜ r ≡ tallyAnswer (columns (now (kinds .entry)) (now (transactions .entry)) (now (registers .entry))
+        (now (values .entry))) count ⌝ }
 {
     let starts = [0u32; 32];
     if count <= 64 {

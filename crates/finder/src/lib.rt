@@ -144,7 +144,8 @@ pub fn find_marking(
     ensures { λ r. ⌜
         gives r (now (output .exit))
         ≡ foundAnswer edition (now (starts .entry))
-        (columns (now (kinds .entry)) (now (transactions .entry)) (now (registers .entry)) (now (values .entry))) count prefix (now (output .entry)) ⌝ }
+        (columns (now (kinds .entry)) (now (transactions .entry)) (now (registers .entry)) (now (values .entry))) count prefix
+        (now (output .entry)) ⌝ }
 {
     if prefix > count {
         let held = columns_hold(kinds, transactions, registers, values, count);

@@ -165,7 +165,8 @@ fn record_step(
     requires { ⌜ begun ≤ 64 ⌝ }
     requires { ⌜ r .start + r .size ≤ length (now file) ⌝ }
     requires { ⌜ NoneBeyond (now reads) ⌝ }
-    ensures { λ x. ⌜ x ≡ bodyStep (askedBy (now (reads .entry)) begun (now (used .entry)) filled next) (r .kind) (bodyOf (now (file .entry)) r) (r .start + r .size) ⌝ }
+    ensures { λ x. ⌜ x ≡ bodyStep (askedBy (now (reads .entry)) begun (now (used .entry)) filled next) (r .kind)
+        (bodyOf (now (file .entry)) r) (r .start + r .size) ⌝ }
 {
     let start = r.start;
     let end = start + r.size;
@@ -241,7 +242,8 @@ pub fn step_at(
 ) -> Step
     requires { ⌜ (count ≤ 2048) × (begun ≤ 64) ⌝ }
     requires { ⌜ NoneBeyond (now reads) ⌝ }
-    ensures { λ x. ⌜ x ≡ stepAt (askedBy (now (reads .entry)) begun (now (used .entry)) filled next) (every (pointBy (now (reads .entry)) (now (gaps .entry))) count) (now (file .entry)) at ⌝ }
+    ensures { λ x. ⌜ x ≡ stepAt (askedBy (now (reads .entry)) begun (now (used .entry)) filled next)
+        (every (pointBy (now (reads .entry)) (now (gaps .entry))) count) (now (file .entry)) at ⌝ }
 {
     let found = record_at(file, at);
     match found {

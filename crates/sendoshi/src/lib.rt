@@ -14,7 +14,21 @@ ghost use Rattle.marking.specs.Answer.{verdictAnswer, said as checkSaid};
 ghost use Rattle.straighten.specs.Answer.{straightenedAnswer, said as straightSaid};
 ghost use Rattle.counts.specs.Answer.{transactionsAnswer, storeReadsAnswer, tallyAnswer, countSaid, tallySaid};
 ghost use Rattle.codes.specs.Decoded.{decoded, noValue, oneValue, twoValues, fourValues, always, never, ofMarking};
-ghost use Rattle.sendoshi.specs.Calls.{filled, startsAfter, put, putBoth, readCall, writeCall, findCall, scanCall, checkCall, straightenCall, transactionsCall, storeReadsCall, tallyCall};
+ghost use Rattle.sendoshi.specs.Calls.{
+  filled,
+  startsAfter,
+  put,
+  putBoth,
+  readCall,
+  writeCall,
+  findCall,
+  scanCall,
+  checkCall,
+  straightenCall,
+  transactionsCall,
+  storeReadsCall,
+  tallyCall,
+};
 use codes::check_code;
 use codes::count_code;
 use codes::found_code;
@@ -49,8 +63,11 @@ pub extern "C" fn sendoshi_read(
     registers: &mut [u16],
     values: &mut [u32],
 ) -> u64
-    ensures { λ r. ⌜ filled r (now (starts .exit)) (columns (now (kinds .exit)) (now (transactions .exit)) (now (registers .exit)) (now (values .exit))) ≡ readCall (now (file .entry)) (now (starts .entry)) (columns (now (kinds .entry)) (now (transactions .entry)) (now (registers .entry)) (now (values .entry))) ⌝ }
-    ensures { λ r. ⌜ decoded twoValues always r ≡ readSaid (readAnswer (now (file .entry)) (columns (now (kinds .entry)) (now (transactions .entry)) (now (registers .entry)) (now (values .entry))) .result) ⌝ }
+    ensures { λ r. ⌜ filled r (now (starts .exit)) (columns (now (kinds .exit)) (now (transactions .exit)) (now (registers .exit))
+        (now (values .exit))) ≡ readCall (now (file .entry)) (now (starts .entry))
+        (columns (now (kinds .entry)) (now (transactions .entry)) (now (registers .entry)) (now (values .entry))) ⌝ }
+    ensures { λ r. ⌜ decoded twoValues always r ≡ readSaid (readAnswer (now (file .entry))
+        (columns (now (kinds .entry)) (now (transactions .entry)) (now (registers .entry)) (now (values .entry))) .result) ⌝ }
 {
     let answer = reader::read_history(file, kinds, transactions, registers, values);
     hand_over(answer, starts);
@@ -69,8 +86,12 @@ pub extern "C" fn sendoshi_write(
     count: u32,
     output: &mut [u8],
 ) -> u64
-    ensures { λ r. ⌜ put r (now (output .exit)) ≡ writeCall edition (now (starts .entry)) (columns (now (kinds .entry)) (now (transactions .entry)) (now (registers .entry)) (now (values .entry))) count (now (output .entry)) ⌝ }
-    ensures { λ r. ⌜ decoded oneValue never r ≡ writtenSaid (writtenAnswer edition (now (starts .entry)) (columns (now (kinds .entry)) (now (transactions .entry)) (now (registers .entry)) (now (values .entry))) count (now (output .entry)) .result) ⌝ }
+    ensures { λ r. ⌜ put r (now (output .exit)) ≡ writeCall edition (now (starts .entry))
+        (columns (now (kinds .entry)) (now (transactions .entry)) (now (registers .entry)) (now (values .entry))) count
+        (now (output .entry)) ⌝ }
+    ensures { λ r. ⌜ decoded oneValue never r ≡ writtenSaid (writtenAnswer edition (now (starts .entry))
+        (columns (now (kinds .entry)) (now (transactions .entry)) (now (registers .entry)) (now (values .entry))) count
+        (now (output .entry)) .result) ⌝ }
 {
     let answer = writer::write_history(
         edition,
@@ -99,8 +120,12 @@ pub extern "C" fn sendoshi_find(
     prefix: u32,
     output: &mut [u8],
 ) -> u64
-    ensures { λ r. ⌜ put r (now (output .exit)) ≡ findCall edition (now (starts .entry)) (columns (now (kinds .entry)) (now (transactions .entry)) (now (registers .entry)) (now (values .entry))) count prefix (now (output .entry)) ⌝ }
-    ensures { λ r. ⌜ decoded oneValue never r ≡ foundSaid (foundAnswer edition (now (starts .entry)) (columns (now (kinds .entry)) (now (transactions .entry)) (now (registers .entry)) (now (values .entry))) count prefix (now (output .entry)) .result) ⌝ }
+    ensures { λ r. ⌜ put r (now (output .exit)) ≡ findCall edition (now (starts .entry))
+        (columns (now (kinds .entry)) (now (transactions .entry)) (now (registers .entry)) (now (values .entry))) count prefix
+        (now (output .entry)) ⌝ }
+    ensures { λ r. ⌜ decoded oneValue never r ≡ foundSaid (foundAnswer edition (now (starts .entry))
+        (columns (now (kinds .entry)) (now (transactions .entry)) (now (registers .entry)) (now (values .entry))) count prefix
+        (now (output .entry)) .result) ⌝ }
 {
     let answer = finder::find_marking(
         edition,
@@ -128,8 +153,10 @@ pub extern "C" fn sendoshi_scan(
     values: &[u32],
     count: u32,
 ) -> u64
-    ensures { λ r. ⌜ r ≡ scanCall edition (now (starts .entry)) (columns (now (kinds .entry)) (now (transactions .entry)) (now (registers .entry)) (now (values .entry))) count ⌝ }
-    ensures { λ r. ⌜ decoded noValue never r ≡ scanSaid (scanAnswer edition (now (starts .entry)) (columns (now (kinds .entry)) (now (transactions .entry)) (now (registers .entry)) (now (values .entry))) count) ⌝ }
+    ensures { λ r. ⌜ r ≡ scanCall edition (now (starts .entry)) (columns (now (kinds .entry)) (now (transactions .entry))
+        (now (registers .entry)) (now (values .entry))) count ⌝ }
+    ensures { λ r. ⌜ decoded noValue never r ≡ scanSaid (scanAnswer edition (now (starts .entry))
+        (columns (now (kinds .entry)) (now (transactions .entry)) (now (registers .entry)) (now (values .entry))) count) ⌝ }
 {
     let answer = scan::scan_history(
         edition,
@@ -156,8 +183,11 @@ pub extern "C" fn sendoshi_check(
     count: u32,
     file: &[u8],
 ) -> u64
-    ensures { λ r. ⌜ r ≡ checkCall edition (now (starts .entry)) (columns (now (kinds .entry)) (now (transactions .entry)) (now (registers .entry)) (now (values .entry))) count (now (file .entry)) ⌝ }
-    ensures { λ r. ⌜ decoded noValue ofMarking r ≡ checkSaid (verdictAnswer edition (now (starts .entry)) (columns (now (kinds .entry)) (now (transactions .entry)) (now (registers .entry)) (now (values .entry))) count (now (file .entry))) ⌝ }
+    ensures { λ r. ⌜ r ≡ checkCall edition (now (starts .entry)) (columns (now (kinds .entry)) (now (transactions .entry))
+        (now (registers .entry)) (now (values .entry))) count (now (file .entry)) ⌝ }
+    ensures { λ r. ⌜ decoded noValue ofMarking r ≡ checkSaid (verdictAnswer edition (now (starts .entry))
+        (columns (now (kinds .entry)) (now (transactions .entry)) (now (registers .entry)) (now (values .entry))) count
+        (now (file .entry))) ⌝ }
 {
     let answer = marking::check::check_marking(
         edition,
@@ -188,8 +218,12 @@ pub extern "C" fn sendoshi_straighten(
     output: &mut [u8],
     moved: &mut [u32],
 ) -> u64
-    ensures { λ r. ⌜ putBoth r (now (output .exit)) (now (moved .exit)) ≡ straightenCall edition (now (starts .entry)) (columns (now (kinds .entry)) (now (transactions .entry)) (now (registers .entry)) (now (values .entry))) count (now (file .entry)) (now (output .entry)) (now (moved .entry)) ⌝ }
-    ensures { λ r. ⌜ decoded twoValues ofMarking r ≡ straightSaid (straightenedAnswer edition (now (starts .entry)) (columns (now (kinds .entry)) (now (transactions .entry)) (now (registers .entry)) (now (values .entry))) count (now (file .entry)) (now (output .entry)) (now (moved .entry)) .result) ⌝ }
+    ensures { λ r. ⌜ putBoth r (now (output .exit)) (now (moved .exit)) ≡ straightenCall edition (now (starts .entry))
+        (columns (now (kinds .entry)) (now (transactions .entry)) (now (registers .entry)) (now (values .entry))) count
+        (now (file .entry)) (now (output .entry)) (now (moved .entry)) ⌝ }
+    ensures { λ r. ⌜ decoded twoValues ofMarking r ≡ straightSaid (straightenedAnswer edition (now (starts .entry))
+        (columns (now (kinds .entry)) (now (transactions .entry)) (now (registers .entry)) (now (values .entry))) count
+        (now (file .entry)) (now (output .entry)) (now (moved .entry)) .result) ⌝ }
 {
     let answer = straighten::straighten(
         edition,
@@ -215,8 +249,10 @@ pub extern "C" fn sendoshi_transactions(
     values: &[u32],
     count: u32,
 ) -> u64
-    ensures { λ r. ⌜ r ≡ transactionsCall (columns (now (kinds .entry)) (now (transactions .entry)) (now (registers .entry)) (now (values .entry))) count ⌝ }
-    ensures { λ r. ⌜ decoded oneValue never r ≡ countSaid (transactionsAnswer (columns (now (kinds .entry)) (now (transactions .entry)) (now (registers .entry)) (now (values .entry))) count) ⌝ }
+    ensures { λ r. ⌜ r ≡ transactionsCall (columns (now (kinds .entry)) (now (transactions .entry)) (now (registers .entry))
+        (now (values .entry))) count ⌝ }
+    ensures { λ r. ⌜ decoded oneValue never r ≡ countSaid (transactionsAnswer
+        (columns (now (kinds .entry)) (now (transactions .entry)) (now (registers .entry)) (now (values .entry))) count) ⌝ }
 {
     let answer = counts::count_transactions(kinds, transactions, registers, values, count as usize);
     count_code(answer)
@@ -231,8 +267,10 @@ pub extern "C" fn sendoshi_store_reads(
     values: &[u32],
     count: u32,
 ) -> u64
-    ensures { λ r. ⌜ r ≡ storeReadsCall (columns (now (kinds .entry)) (now (transactions .entry)) (now (registers .entry)) (now (values .entry))) count ⌝ }
-    ensures { λ r. ⌜ decoded oneValue never r ≡ countSaid (storeReadsAnswer (columns (now (kinds .entry)) (now (transactions .entry)) (now (registers .entry)) (now (values .entry))) count) ⌝ }
+    ensures { λ r. ⌜ r ≡ storeReadsCall (columns (now (kinds .entry)) (now (transactions .entry)) (now (registers .entry))
+        (now (values .entry))) count ⌝ }
+    ensures { λ r. ⌜ decoded oneValue never r ≡ countSaid (storeReadsAnswer
+        (columns (now (kinds .entry)) (now (transactions .entry)) (now (registers .entry)) (now (values .entry))) count) ⌝ }
 {
     let answer = counts::count_store_reads(kinds, transactions, registers, values, count as usize);
     count_code(answer)
@@ -248,8 +286,10 @@ pub extern "C" fn sendoshi_tally(
     values: &[u32],
     count: u32,
 ) -> u64
-    ensures { λ r. ⌜ r ≡ tallyCall (columns (now (kinds .entry)) (now (transactions .entry)) (now (registers .entry)) (now (values .entry))) count ⌝ }
-    ensures { λ r. ⌜ decoded fourValues never r ≡ tallySaid (tallyAnswer (columns (now (kinds .entry)) (now (transactions .entry)) (now (registers .entry)) (now (values .entry))) count) ⌝ }
+    ensures { λ r. ⌜ r ≡ tallyCall (columns (now (kinds .entry)) (now (transactions .entry)) (now (registers .entry))
+        (now (values .entry))) count ⌝ }
+    ensures { λ r. ⌜ decoded fourValues never r ≡ tallySaid (tallyAnswer
+        (columns (now (kinds .entry)) (now (transactions .entry)) (now (registers .entry)) (now (values .entry))) count) ⌝ }
 {
     let answer = counts::tally_transactions(kinds, transactions, registers, values, count as usize);
     tally_code(answer)
