@@ -4,15 +4,16 @@ use Prim.Native.Nat.{ℕ, suc, _+_, _≤_, _<_}
 use native.Mathlib.Omega.{arith}
 use native.Mathlib.Numerals.{add-one}
 use mathlib.Core.Path.{_≡_, refl, sym, ap, _∙_}
+use mathlib.Core.Bool.{false}
 use mathlib.Core.List.{List, [], _∷_, _++_, map, map-append, append-assoc}
 use lib.ListN.{length, take, getD, drop, set, length-append, length-map, length-set, length-take}
 use lib.Seq.{drop-cons, set-at, take-length}
 use Rattle.events.specs.declared.event.Event.{Event}
 use Rattle.events.specs.Events.{eventAt}
 use Rattle.records.specs.Bytes.{over}
-use Rattle.log.specs.Columns.{Columns, filledWith}
+use Rattle.log.specs.Columns.{Columns, hold, filledWith, spilled}
 use Rattle.log.specs.Rows.{logged}
-use Rattle.log.proofs.ColumnLaws.{Held}
+use Rattle.log.proofs.ColumnLaws.{Held, hold-i}
 use Rattle.log.proofs.RowLaws.{logged-length, logged-more}
 
 -- ---- one column, of a field f
@@ -114,7 +115,12 @@ module _ (log : List (List ℕ)) (before after : Columns) (i : ℕ) (room : Held
         values = omega (arith, room .values, f .values .long);
       }
 
-  pub spilling-done : length log ≤ i → after ≡ filledWith (logged log) before
+  pub spilling-done : length log ≤ i → after ≡ spilled (logged log) before
   spilling-done l =
       let e : i ≡ length log = omega (arith, w .within) in
       filled-whole (logged log) before after (rw (e, take-length) at (w .columns))
+      ∙ sym (rw (logged-length log, hold-i before (length log) room))
+
+-- and where they have no room they stay
+pub spilled-not : (log : List (List ℕ)) (c : Columns) → hold c (length log) ≡ false → c ≡ spilled (logged log) c
+spilled-not log c h = sym (rw (logged-length log, h))

@@ -1,25 +1,30 @@
 // A log put back into columns, for the doors that hand a history out.
 ghost use mathlib.Core.Path.{_≡_};
-ghost use mathlib.Core.Bool.{true};
 ghost use lib.ListN.{length};
-ghost use Rattle.log.specs.Columns.{columns, hold, filledWith};
+ghost use Rattle.log.specs.Columns.{columns, hold, spilled};
 ghost use Rattle.log.specs.Rows.{logged};
+use crate::columns::columns_hold;
 use crate::rows::Row;
 use crate::rows::event_at;
 
-// Copies the events of a log into the first entries of the columns; the others stay as they were.
+// Copies the events of a log into the first entries of the columns, if each column has an entry for
+// each event, and says whether they have; the other entries stay as they were.
 pub fn spill(
     log: &[Row],
     kinds: &mut [u16],
     transactions: &mut [u16],
     registers: &mut [u16],
     values: &mut [u32],
-)
-    requires { ⌜ hold (columns (now kinds) (now transactions) (now registers) (now values)) (length (now log)) ≡ true ⌝ }
+) -> bool
+    ensures { λ r. ⌜ r ≡ hold (columns (now (kinds .entry)) (now (transactions .entry)) (now (registers .entry)) (now (values .entry)))
+        (length (now (log .entry))) ⌝ }
     ensures { λ _. ⌜ columns (now (kinds .exit)) (now (transactions .exit)) (now (registers .exit)) (now (values .exit))
-        ≡ filledWith (logged (now (log .entry)))
+        ≡ spilled (logged (now (log .entry)))
         (columns (now (kinds .entry)) (now (transactions .entry)) (now (registers .entry)) (now (values .entry))) ⌝ }
 {
+    if !columns_hold(kinds, transactions, registers, values, log.len()) {
+        return false;
+    }
     let mut i: usize = 0;
     while i < log.len() {
         let e = event_at(log, i);
@@ -29,4 +34,5 @@ pub fn spill(
         values[i] = e.value;
         i += 1;
     }
+    true
 }
