@@ -1,5 +1,4 @@
 -- What the proofs of several functions use, here and in the crates above.
-pub mod WitnessLaws
 pub mod ScanLaws
 pub mod AnswerLaws
 pub mod Theorems

@@ -32,8 +32,8 @@ use Rattle.tables.proofs.TableLaws.{tables-more}
 use Rattle.tables.proofs.EndMeaning.{asks-by}
 use Rattle.tables.proofs.Link.{found-by}
 use Rattle.tables.proofs.JudgedLaws.{judged-prefix}
-use Rattle.scan.specs.Witness.{kept, Carryable, Judges}
-use Rattle.scan.proofs.WitnessLaws.{begins-more, carryable, carried-on, room-on}
+use Rattle.witness.specs.Witness.{kept, Carryable, Judges}
+use Rattle.witness.proofs.WitnessLaws.{begins-more, carryable, carried-on, room-on}
 
 -- the first that passes, where none before does
 first-at : (p : ℕ → Bool) (n k : ℕ) → k < n → p k ≡ true → ((j : ℕ) → j < k → p j ≡ false) → first p n ≡ some k

@@ -26,8 +26,6 @@ use log::rows::event_at;
 use log::rows::transactions_begun;
 use opacity::verdict::Scanned;
 
-mod witness;
-
 // Question 31: at most this many transactions are searched.
 const SEARCHED: usize = 10;
 

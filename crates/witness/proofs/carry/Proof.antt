@@ -1,14 +1,14 @@
--- `scan::witness::carry` meets its contract: by the tests. Assumes nothing.
+-- `witness::carry` meets its contract: by the tests. Assumes nothing.
 use Prim.Native.Nat.{ℕ, _<_, _^_}
 use mathlib.Core.Path.{_≡_, sym, ap, ap₂, _∙_}
 use mathlib.Core.Bool.{Bool, true, false, not, cond}
 use native.Mathlib.Omega.{arith}
 use lib.Dec.{eqb}
 use Rattle.events.specs.Events.{isBegin, isRead, isCommit}
-use Rattle.scan.proofs.WitnessLaws.{kept-begin, kept-read, kept-commit, kept-abort, kept-other, room-more}
+use Rattle.witness.proofs.WitnessLaws.{kept-begin, kept-read, kept-commit, kept-abort, kept-other, room-more}
 use borrow.Author.Needs.{needs}
-use Rattle.scan.proofs.witness.carry.Statement.{statement}
-use Rattle.scan.proofs.witness.carry.Tie as tie
+use Rattle.witness.proofs.carry.Statement.{statement}
+use Rattle.witness.proofs.carry.Tie as tie
 
 -- the answers of the tests before
 begins-here : (a : tie.Then1) → isBegin (a .before .before .args .e) ≡ true

@@ -37,7 +37,7 @@ use Rattle.tables.proofs.Meaning.{Good}
 use Rattle.tables.proofs.GoodHistory.{good, tabled}
 use Rattle.tables.proofs.LookupLink.{last-held, contents-held}
 use Rattle.tables.proofs.JudgedLaws.{judged-prefix}
-use Rattle.scan.specs.Witness.{carriedCode, kept, Carryable, Judges}
+use Rattle.witness.specs.Witness.{carriedCode, kept, Carryable, Judges}
 
 -- ---- what a transaction reads
 

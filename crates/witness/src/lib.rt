@@ -7,7 +7,7 @@ ghost use Rattle.opacity.specs.Justification.{outcome};
 ghost use Rattle.opacity.specs.Carry.{seen};
 ghost use Rattle.places.specs.Places.{codesOf, decode, writesIn};
 ghost use Rattle.places.specs.State.{Ordered};
-ghost use Rattle.scan.specs.Witness.{kept, Carryable};
+ghost use Rattle.witness.specs.Witness.{kept, Carryable};
 use events::event::Event;
 use events::event::is_abort;
 use events::event::is_begin;

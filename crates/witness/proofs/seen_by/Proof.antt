@@ -1,13 +1,13 @@
--- `scan::witness::seen_by` meets its contract: an own write, or the contents before the place. Assumes nothing.
+-- `witness::seen_by` meets its contract: an own write, or the contents before the place. Assumes nothing.
 use mathlib.Core.Path.{refl, ap, _∙_}
 use mathlib.Core.List.{List}
 use Rattle.log.specs.Starts.{startOf}
 use Rattle.opacity.specs.Justification.{Place, contents}
 use Rattle.places.specs.Places.{codesOf, decode, writesIn}
-use Rattle.scan.proofs.WitnessLaws.{seen-own, seen-store}
+use Rattle.witness.proofs.WitnessLaws.{seen-own, seen-store}
 use borrow.Author.Needs.{needs}
-use Rattle.scan.proofs.witness.seen_by.Statement.{statement}
-use Rattle.scan.proofs.witness.seen_by.Tie as tie
+use Rattle.witness.proofs.seen_by.Statement.{statement}
+use Rattle.witness.proofs.seen_by.Tie as tie
 
 abbrev entered : tie.After-own → tie.Start
 entered a = a .before .before .before
