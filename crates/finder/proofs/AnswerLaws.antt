@@ -23,8 +23,8 @@ use Rattle.log.proofs.AnswerLaws.{answer-readable, readable-columns}
 use Rattle.opacity.specs.Justification.{Place}
 use Rattle.opacity.specs.Lowest.{lowestOf}
 use Rattle.opacity.specs.Marking.{marked, markingBytes}
-use Rattle.tables.specs.Calls.{thenChecked}
-use Rattle.tables.proofs.CallLaws.{asked-none, asked-yes, asked-no, asked-e, then-readable, then-refused, then-e}
+use Rattle.log.specs.Calls.{thenChecked}
+use Rattle.log.proofs.CallLaws.{asked-none, asked-yes, asked-no, asked-e, then-readable, then-refused, then-e}
 use Rattle.finder.specs.declared.Finding.{Finding}
 use Rattle.finder.specs.Answer.{markingSize, Passed, said, gives, decided, prefixRefusal, callRefusal, findRefusal, markingOf, lowestMarking, foundAnswer}
 use Rattle.finder.specs.Logs.{findOf, findAfter}

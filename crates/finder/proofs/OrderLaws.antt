@@ -20,7 +20,7 @@ use Rattle.opacity.proofs.Least.{lowest-justifies}
 use Rattle.opacity.proofs.MarkingBytes.{marking-length}
 use Rattle.opacity.proofs.Orders.{filled}
 use Rattle.places.specs.Places.{codesOf, decode}
-use Rattle.tables.specs.Order.{Judged, orderOf}
+use Rattle.lowest.specs.Order.{Judged, orderOf}
 use Rattle.opacity.specs.Marking.{markingBytes}
 use Rattle.finder.specs.Answer.{markingSize, lowestMarking}
 

@@ -27,8 +27,8 @@ use Rattle.opacity.specs.Marking.{ReadableFor, marked, markingBytes, verdict}
 use Rattle.opacity.specs.declared.verdict.Verdict.{Verdict}
 use Rattle.opacity.proofs.Least.{lowest-least}
 use Rattle.opacity.proofs.Theorems.{lowest-unique, lowest-some, lowest-none, prefix-lowest-serial, prefix-none-serial, marked-is-readable, marked-is-accepted}
-use Rattle.tables.specs.Calls.{askedOf, thenChecked}
-use Rattle.tables.proofs.CallLaws.{asked-yes, asked-no, then-then}
+use Rattle.log.specs.Calls.{askedOf, thenChecked}
+use Rattle.log.proofs.CallLaws.{asked-yes, asked-no, then-then}
 use Rattle.finder.specs.declared.Finding.{Finding}
 use Rattle.finder.specs.Answer.{Given, gives, said, Passed, decided, prefixRefusal, callRefusal, findRefusal, lowestMarking, foundAnswer, firstEditionRefusal, firstEditionAnswer}
 use Rattle.finder.specs.Words.{Passes, Found, Written}

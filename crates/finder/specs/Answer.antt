@@ -21,7 +21,7 @@ use Rattle.opacity.specs.Transactions.{storeReads}
 use Rattle.opacity.specs.Justification.{Place, zeros}
 use Rattle.opacity.specs.Lowest.{lowestOf}
 use Rattle.opacity.specs.Marking.{marked, markingBytes}
-use Rattle.tables.specs.Calls.{askedOf, thenChecked}
+use Rattle.log.specs.Calls.{askedOf, thenChecked}
 use Rattle.finder.specs.declared.Finding.{Finding}
 
 -- What a call gives: its result, and the output afterwards.

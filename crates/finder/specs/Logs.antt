@@ -7,7 +7,7 @@ use lib.ListN.{length}
 use Rattle.events.specs.declared.event.Event.{Event}
 use Rattle.log.specs.declared.admit.Checked.{Checked}
 use Rattle.log.specs.Starts.{startOf}
-use Rattle.tables.specs.Calls.{thenChecked}
+use Rattle.log.specs.Calls.{thenChecked}
 use Rattle.finder.specs.Answer.{Given, prefixRefusal, lowestMarking, decided}
 
 -- 31 and 32 of a history that comes with this count, and then what is found of it

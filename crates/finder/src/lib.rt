@@ -11,7 +11,7 @@ ghost use Rattle.log.specs.Columns.{columns};
 ghost use Rattle.log.specs.Rows.{logged, Entered};
 ghost use Rattle.log.specs.Starts.{startOf};
 ghost use Rattle.log.specs.declared.admit.Checked.the-variants.{Readable};
-ghost use Rattle.tables.specs.Order.{Judged};
+ghost use Rattle.lowest.specs.Order.{Judged};
 ghost use Rattle.finder.specs.Answer.{markingSize, lowestMarking, gives, decided, foundAnswer};
 ghost use Rattle.finder.specs.Arrays.{foundBytes};
 ghost use Rattle.finder.specs.Logs.{findOf, findAfter};
@@ -71,7 +71,7 @@ fn find_lowest(starts: &[u32; 32], log: &[Row], output: &mut [u8]) -> Finding
         gives r (now (output .exit))
         ≡ decided Readable (lowestMarking (startOf (now (starts .entry))) (logged (now (log .entry)))) (now (output .entry)) ⌝ }
 {
-    let found = tables::find_order(starts, log);
+    let found = lowest::find_order(starts, log);
     if found == 0 {
         return Finding::None;
     }

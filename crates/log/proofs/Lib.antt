@@ -7,3 +7,4 @@ pub mod RowLaws
 pub mod AdmitLaws
 pub mod DoorLaws
 pub mod SpillLaws
+pub mod CallLaws

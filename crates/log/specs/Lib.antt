@@ -2,3 +2,4 @@ pub mod Columns
 pub mod Starts
 pub mod Answer
 pub mod Rows
+pub mod Calls

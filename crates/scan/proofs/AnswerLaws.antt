@@ -21,8 +21,8 @@ use Rattle.log.proofs.StartLaws.{fine, fine-answer}
 use Rattle.log.proofs.AnswerLaws.{columns-readable, readable-columns}
 use Rattle.opacity.specs.declared.verdict.Scanned.{Scanned}
 use Rattle.opacity.specs.Scan.{scan}
-use Rattle.tables.specs.Calls.{thenChecked}
-use Rattle.tables.proofs.CallLaws.{asked-none, asked-yes, asked-no, asked-e, then-readable, then-refused, then-e}
+use Rattle.log.specs.Calls.{thenChecked}
+use Rattle.log.proofs.CallLaws.{asked-none, asked-yes, asked-no, asked-e, then-readable, then-refused, then-e}
 use Rattle.scan.specs.declared.Scanning.{Scanning}
 use Rattle.scan.specs.Answer.{Passed, scannedSaid, said, sizeRefusal, scanRefusal, decided, scanAnswer}
 use Rattle.scan.specs.Logs.{scanOf, scanAfter}

@@ -27,11 +27,11 @@ use Rattle.opacity.proofs.Opacity.{empty-justified}
 use Rattle.places.specs.Places.{codesOf, decode}
 use Rattle.places.specs.Tree.{EndAsks, firstWhole, readAnswer}
 use Rattle.tables.specs.Tables.{Tables, empty, goThrough, next, tablesOf}
-use Rattle.tables.specs.Order.{constraintsOf, decoded, Judged}
+use Rattle.lowest.specs.Order.{constraintsOf, decoded, Judged}
 use Rattle.tables.proofs.TableLaws.{tables-more}
-use Rattle.tables.proofs.EndMeaning.{asks-by}
-use Rattle.tables.proofs.Link.{found-by}
-use Rattle.tables.proofs.JudgedLaws.{judged-prefix}
+use Rattle.lowest.proofs.EndMeaning.{asks-by}
+use Rattle.lowest.proofs.Link.{found-by}
+use Rattle.lowest.proofs.JudgedLaws.{judged-prefix}
 use Rattle.witness.specs.Witness.{kept, Carryable, Judges}
 use Rattle.witness.proofs.WitnessLaws.{begins-more, carryable, carried-on, room-on}
 

@@ -17,7 +17,7 @@ use Rattle.opacity.specs.declared.verdict.Scanned.{Scanned}
 use Rattle.opacity.specs.Scan.{scan, AllJustified, FaultsAt}
 use Rattle.opacity.specs.Serial.{AllSerial}
 use Rattle.opacity.proofs.Theorems.{opaque-iff, faulted-iff, opaque-iff-serial, cause-never-four}
-use Rattle.tables.specs.Calls.{thenChecked}
+use Rattle.log.specs.Calls.{thenChecked}
 use Rattle.scan.specs.declared.Scanning.{Scanning}
 use Rattle.scan.specs.Answer.{said, Passes, Passed, sizeRefusal, scanRefusal, decided, scanAnswer, firstEditionAnswer}
 use Rattle.scan.proofs.AnswerLaws.{said-scanned, said-refused, passes, decided-refused, decided-scanned, scanned-e, refused-e, passed}

@@ -16,7 +16,7 @@ use Rattle.log.specs.Answer.{columnsAnswer, historyAnswer}
 use Rattle.opacity.specs.declared.verdict.Scanned.{Scanned}
 use Rattle.opacity.specs.Justification.{zeros}
 use Rattle.opacity.specs.Scan.{scan}
-use Rattle.tables.specs.Calls.{askedOf, thenChecked}
+use Rattle.log.specs.Calls.{askedOf, thenChecked}
 use Rattle.scan.specs.declared.Scanning.{Scanning}
 
 -- what the scan of a history says: opaque, or the event with the cause

@@ -8,7 +8,7 @@ use Rattle.events.specs.declared.event.Event.{Event}
 use Rattle.log.specs.declared.admit.Checked.{Checked}
 use Rattle.log.specs.Starts.{startOf}
 use Rattle.opacity.specs.Scan.{scan}
-use Rattle.tables.specs.Calls.{thenChecked}
+use Rattle.log.specs.Calls.{thenChecked}
 use Rattle.scan.specs.declared.Scanning.{Scanning}
 use Rattle.scan.specs.Answer.{sizeRefusal, decided}
 

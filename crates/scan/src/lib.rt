@@ -10,7 +10,7 @@ ghost use Rattle.log.specs.Rows.{logged, Entered};
 ghost use Rattle.log.specs.Starts.{startOf};
 ghost use Rattle.opacity.specs.Scan.{scan, cause};
 ghost use Rattle.opacity.specs.declared.verdict.Scanned.the-variants.{Faulted};
-ghost use Rattle.tables.specs.Order.{Judged};
+ghost use Rattle.lowest.specs.Order.{Judged};
 ghost use Rattle.scan.specs.Answer.{scanAnswer};
 ghost use Rattle.scan.specs.Logs.{scanOf, scanAfter};
 use events::event::Event;
@@ -91,7 +91,7 @@ fn scan_prefixes(starts: &[u32; 32], log: &[Row]) -> Scanned
         n = counted(n, e);
         order = kept;
         if kept == 0 {
-            order = tables::complete(starts, s, &facts, n);
+            order = lowest::complete(starts, s, &facts, n);
         }
         if order == 0 {
             return faulted(i, e);

@@ -25,7 +25,7 @@ use Rattle.lists.proofs.ListLaws.{and-l, and-r, lowest-some, Lowest}
 use Rattle.events.proofs.QuestionLaws.{asked, fit}
 use Rattle.log.proofs.AnswerLaws.{columns-readable}
 use Rattle.log.proofs.StartLaws.{fine}
-use Rattle.tables.specs.Calls.{askedOf, thenChecked}
+use Rattle.log.specs.Calls.{askedOf, thenChecked}
 use Rattle.codes.specs.Codes.{Within}
 
 abbrev pub within : ℕ → ℕ → ℕ → Bool

@@ -31,12 +31,12 @@ use Rattle.places.specs.Tree.{Completion, Answers}
 use Rattle.places.proofs.StateLaws.{one-more}
 use Rattle.places.proofs.LookupLaws.{held, decode-snoc}
 use Rattle.tables.specs.Tables.{Tabled, tablesOf}
-use Rattle.tables.specs.Order.{Judged}
+use Rattle.lowest.specs.Order.{Judged}
 use Rattle.tables.proofs.TableLaws.{take-more}
-use Rattle.tables.proofs.Meaning.{Good}
-use Rattle.tables.proofs.GoodHistory.{good, tabled}
-use Rattle.tables.proofs.LookupLink.{last-held, contents-held}
-use Rattle.tables.proofs.JudgedLaws.{judged-prefix}
+use Rattle.lowest.proofs.Meaning.{Good}
+use Rattle.lowest.proofs.GoodHistory.{good, tabled}
+use Rattle.lowest.proofs.LookupLink.{last-held, contents-held}
+use Rattle.lowest.proofs.JudgedLaws.{judged-prefix}
 use Rattle.witness.specs.Witness.{carriedCode, kept, Carryable, Judges}
 
 -- ---- what a transaction reads

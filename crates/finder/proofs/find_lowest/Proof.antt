@@ -15,7 +15,7 @@ use Rattle.log.proofs.RowLaws.{logged-length}
 use Rattle.opacity.specs.Lowest.{lowestOf}
 use Rattle.opacity.specs.Justification.{Place}
 use Rattle.places.specs.Places.{decode}
-use Rattle.tables.specs.Order.{Judged}
+use Rattle.lowest.specs.Order.{Judged}
 use Rattle.finder.specs.Arrays.{foundBytes}
 use Rattle.finder.proofs.OrderLaws.{places-found, marking-none, marking-found, marking-fits, answer-none}
 use Rattle.finder.proofs.AnswerLaws.{decided-none, decided-marking}

@@ -10,7 +10,7 @@ use Rattle.events.specs.declared.event.Event.{Event}
 use Rattle.log.specs.Rows.{logged}
 use Rattle.log.proofs.RowLaws.{logged-length}
 use Rattle.tables.specs.Tables.{Tables, tablesBy}
-use Rattle.tables.proofs.GoodHistory.{tabled}
+use Rattle.lowest.proofs.GoodHistory.{tabled}
 use Rattle.witness.proofs.WitnessLaws.{judged-kept, judged-anew}
 use Rattle.scan.proofs.ScanLaws.{Scanning, scanning-none, few-before, may-carry, few-begun, end-asked, scanning-more, scanning-fault, scanning-end}
 use Rattle.scan.proofs.scan_prefixes.Statement.{statement}

@@ -26,10 +26,10 @@ use Rattle.places.specs.Places.{codesOf, decode, plus, writesIn}
 use Rattle.places.specs.State.{Coded}
 use Rattle.places.proofs.StateLaws.{length-codes}
 use Rattle.places.proofs.LookupLaws.{held}
-use Rattle.tables.specs.Order.{Judged}
-use Rattle.tables.proofs.GoodHistory.{good}
+use Rattle.lowest.specs.Order.{Judged}
+use Rattle.lowest.proofs.GoodHistory.{good}
 use Rattle.tables.specs.Tables.{tablesOf}
-use Rattle.tables.proofs.Meaning.{Good, written-holds}
+use Rattle.lowest.proofs.Meaning.{Good, written-holds}
 
 plus-one : (a b : Option ℕ) → plus a ≡ plus b → a ≡ b
 plus-one none none e = refl

@@ -20,8 +20,8 @@ use Rattle.places.specs.Tree.{Constraints, Completion, remove, upFrom, legalRea
 use Rattle.places.specs.Facts.{endRow}
 use Rattle.places.specs.Places.{coded, decode}
 use Rattle.places.proofs.LookupLaws.{decode-snoc}
-use Rattle.tables.specs.Order.{decoded}
-use Rattle.tables.proofs.Meaning.{digit}
+use Rattle.lowest.specs.Order.{decoded}
+use Rattle.lowest.proofs.Meaning.{digit}
 
 -- ---- codes
 

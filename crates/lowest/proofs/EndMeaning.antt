@@ -20,11 +20,11 @@ use Rattle.events.proofs.QuestionLaws.{asked-at}
 use Rattle.places.specs.Bits.{bitAt}
 use Rattle.places.specs.Facts.{endRow, afterOf, readsOf}
 use Rattle.places.specs.Tree.{EndAsks}
 use Rattle.tables.specs.Tables.{Tables, next, tablesOf}
-use Rattle.tables.specs.Order.{Judged}
+use Rattle.lowest.specs.Order.{Judged}
 use Rattle.tables.proofs.PutLaws.{end-next, end-reads-next}
-use Rattle.tables.proofs.Meaning.{Good, tab, tab-suc, has-room, shaped, bit-joined, fact-zero}
-use Rattle.tables.proofs.GoodHistory.{good}
+use Rattle.lowest.proofs.Meaning.{Good, tab, tab-suc, has-room, shaped, bit-joined, fact-zero}
+use Rattle.lowest.proofs.GoodHistory.{good}
 
 module _ (h : List Event) (fine : Good h) where
   pub end-reads : (n : ℕ) → n ≤ length h → readsOf (tab h fine n .facts) endRow ≡ 0

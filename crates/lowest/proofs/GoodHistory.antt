@@ -14,9 +14,9 @@ use Rattle.events.specs.Events.{noEvent, eventAt, isBegin, isEnd, by, has, ende
 use Rattle.events.specs.Questions.{readable}
 use Rattle.events.proofs.QuestionLaws.{asked-at, readable-take}
 use Rattle.opacity.proofs.Bounds.{transaction-known, register-low}
 use Rattle.tables.specs.Tables.{Tabled}
-use Rattle.tables.specs.Order.{Judged}
-use Rattle.tables.proofs.Meaning.{Good}
+use Rattle.lowest.specs.Order.{Judged}
+use Rattle.lowest.proofs.Meaning.{Good}
 
 -- the transaction of an event has not ended before it
 pub going-on : (h : List Event) → readable h ≡ true → (i : ℕ) → i < length h → ended (eventAt h i .transaction) (take i h) ≡ false

@@ -21,9 +21,9 @@ use Rattle.places.specs.Bits.{bitAt}
 use Rattle.places.specs.Facts.{fact, requiredOf, writtenOf}
 use Rattle.places.specs.Places.{plus}
 use Rattle.places.proofs.BitLaws.{bit-none}
 use Rattle.tables.specs.Tables.{Tables, Tabled, clashes, expected, contradicts, readsStore, next, empty, goThrough, tablesOf}
 use Rattle.tables.proofs.PutLaws.{required-next}
-use Rattle.tables.proofs.Meaning.{Good, tab, tab-suc, has-room, shaped, bit-joined, written-holds, fact-zero}
+use Rattle.lowest.proofs.Meaning.{Good, tab, tab-suc, has-room, shaped, bit-joined, written-holds, fact-zero}
 
 no-clash : (old v : ℕ) → clashes old v ≡ false → (old ≡ 0 → ⊥) → old ≡ v
 unfolding clashes _and_

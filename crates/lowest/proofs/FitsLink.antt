@@ -26,14 +26,14 @@ use Rattle.places.specs.Tree.{upFrom, legalAt, legalReads, noneIn, ruleNext, al
 use Rattle.places.proofs.BitLaws.{bit-none}
 use Rattle.places.proofs.SetLaws.{member-passes, members-pass}
 use Rattle.places.proofs.FactLaws.{asked-reads, reads-asked-all}
 use Rattle.tables.specs.Tables.{tablesOf}
-use Rattle.tables.specs.Order.{constraintsOf}
+use Rattle.lowest.specs.Order.{constraintsOf}
 use Rattle.tables.proofs.PutLaws.{and-true}
-use Rattle.tables.proofs.Meaning.{digit, Good, rule, after-holds, allowed-holds}
-use Rattle.tables.proofs.ReadMeaning.{Reads, Wanted, reads-hold}
-use Rattle.tables.proofs.ReadSets.{Marks, marks-hold}
-use Rattle.tables.proofs.LookupLink.{looked-up-contents}
-use Rattle.tables.proofs.TreeLink.{free, State}
+use Rattle.lowest.proofs.Meaning.{digit, Good, rule, after-holds, allowed-holds}
+use Rattle.lowest.proofs.ReadMeaning.{Reads, Wanted, reads-hold}
+use Rattle.lowest.proofs.ReadSets.{Marks, marks-hold}
+use Rattle.lowest.proofs.LookupLink.{looked-up-contents}
+use Rattle.lowest.proofs.TreeLink.{free, State}
 
 -- ---- outcomes
 

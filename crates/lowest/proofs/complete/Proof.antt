@@ -6,8 +6,8 @@ use lib.Pow.{pow-pos}
 use borrow.Author.Tests.{eq-eqb, ne-eqb}
 use Rattle.places.specs.Tree.{constraints, firstWhole, Answers}
 use Rattle.search.proofs.EndLaws.{answers-whole}
-use Rattle.tables.proofs.complete.Statement.{statement}
-use Rattle.tables.proofs.complete.Tie as tie
+use Rattle.lowest.proofs.complete.Statement.{statement}
+use Rattle.lowest.proofs.complete.Tie as tie
 
 abbrev entered : tie.After-find → tie.Start
 entered a = a .before .before .before

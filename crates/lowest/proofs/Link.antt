@@ -27,15 +27,15 @@ use Rattle.places.specs.Tree.{Completion, upFrom, firstWhole}
 use Rattle.places.proofs.BitLaws.{bit-none, lowest-in}
 use Rattle.search.proofs.EndLaws.{reads-none}
 use Rattle.log.specs.Starts.{startOf}
 use Rattle.tables.specs.Tables.{Tables, tablesOf}
-use Rattle.tables.specs.Order.{decoded, constraintsOf, foundOrder, Judged}
-use Rattle.tables.proofs.Meaning.{Good}
-use Rattle.tables.proofs.ReadMeaning.{Reads, Bad, wrong, apart, reads-hold}
+use Rattle.lowest.specs.Order.{decoded, constraintsOf, foundOrder, Judged}
+use Rattle.lowest.proofs.Meaning.{Good}
+use Rattle.lowest.proofs.ReadMeaning.{Reads, Bad, wrong, apart, reads-hold}
 use Rattle.opacity.proofs.Bounds.{transaction-known}
-use Rattle.tables.proofs.GoodHistory.{good}
-use Rattle.tables.proofs.EndMeaning.{end-reads}
-use Rattle.tables.proofs.TreeLink.{state-start, trees}
-use Rattle.tables.proofs.FitsLink.{agree}
+use Rattle.lowest.proofs.GoodHistory.{good}
+use Rattle.lowest.proofs.EndMeaning.{end-reads}
+use Rattle.lowest.proofs.TreeLink.{state-start, trees}
+use Rattle.lowest.proofs.FitsLink.{agree}
 
 -- a set that is not empty has a member
 some-member : (n : ℕ) → (n ≡ 0 → ⊥) → (t : ℕ) × (bitAt t n ≡ 1)

@@ -6,13 +6,13 @@ use mathlib.Core.Path.{_≡_, refl, sym, ap, _∙_}
 use mathlib.Core.Bool.{Bool, true, false}
 use mathlib.Core.List.{List, [], _∷_}
 use mathlib.Core.Option.{Option, Option·getD}
 use Rattle.log.specs.declared.admit.Checked.{Checked}
 use Rattle.events.specs.declared.refusal.Refusal.{Refusal}
 use Rattle.events.specs.Said.{refuse}
 use Rattle.events.specs.Questions.{Question, ask, refusal}
 use Rattle.log.specs.Answer.{refusedWith}
 use Rattle.events.proofs.QuestionLaws.{ask-yes, ask-no}
-use Rattle.tables.specs.Calls.{askedOf, thenChecked}
+use Rattle.log.specs.Calls.{askedOf, thenChecked}
 
 -- a refusal is not an answer that lets pass
 pub refused-readable : (r : Refusal) → Checked.Refused r ≡ Checked.Readable → ⊥

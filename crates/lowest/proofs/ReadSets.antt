@@ -19,10 +19,10 @@ use Rattle.lists.proofs.ListLaws.{below-cases}
 use Rattle.places.specs.Bits.{bitAt}
 use Rattle.places.specs.Facts.{fact}
 use Rattle.places.proofs.BitLaws.{bit-none, bit-with}
 use Rattle.tables.specs.Tables.{Tables, next, tablesOf}
 use Rattle.tables.proofs.PutLaws.{reads-next}
-use Rattle.tables.proofs.Meaning.{Good, tab, tab-suc, has-room, shaped, fact-zero}
-use Rattle.tables.proofs.ReadMeaning.{store-same, own-held}
+use Rattle.lowest.proofs.Meaning.{Good, tab, tab-suc, has-room, shaped, fact-zero}
+use Rattle.lowest.proofs.ReadMeaning.{store-same, own-held}
 
 -- what the sets of the facts f say of the reads below n
 pub record Marks (h : List Event) (n : ℕ) (f : List (List ℕ)) : Type 0 where

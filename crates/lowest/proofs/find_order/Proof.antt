@@ -10,14 +10,14 @@ use Rattle.events.specs.declared.event.Event.{Event}
 use Rattle.log.specs.Rows.{logged}
 use Rattle.log.proofs.RowLaws.{logged-length}
 use Rattle.places.specs.Tree.{readAnswer}
-use Rattle.tables.specs.Order.{decoded}
+use Rattle.lowest.specs.Order.{decoded}
 use Rattle.tables.specs.Tables.{Tables, tablesBy, tablesOf, goThrough}
 use Rattle.tables.proofs.TableLaws.{tables-more}
-use Rattle.tables.proofs.GoodHistory.{tabled}
-use Rattle.tables.proofs.EndMeaning.{asks-by}
-use Rattle.tables.proofs.Link.{found-by}
-use Rattle.tables.proofs.find_order.Statement.{statement}
-use Rattle.tables.proofs.find_order.Tie as tie
+use Rattle.lowest.proofs.GoodHistory.{tabled}
+use Rattle.lowest.proofs.EndMeaning.{asks-by}
+use Rattle.lowest.proofs.Link.{found-by}
+use Rattle.lowest.proofs.find_order.Statement.{statement}
+use Rattle.lowest.proofs.find_order.Tie as tie
 
 abbrev Inv-loop : tie.InvT-loop
 Inv-loop starts log facts₀ s₀ i₀ facts s i = (i ≤ length log) × (tablesBy s facts ≡ tablesOf (take i (logged log)))
