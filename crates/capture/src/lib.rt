@@ -78,7 +78,7 @@ fn marking_of(starts: &[u32; 32], log: &[Row], file: &[u8]) -> Marking
     }
 }
 
-// The four lines on a log and a marking file.
+// Judges a log and a marking file, for the four lines.
 fn judge_log(starts: &[u32; 32], log: &[Row], file: &[u8]) -> Report
     requires { ⌜ readable (logged (now log)) ≡ true ⌝ }
     ensures { λ r. ⌜ r ≡ judged (startOf (now (starts .entry))) (logged (now (log .entry))) (now (file .entry)) ⌝ }
@@ -95,7 +95,7 @@ fn judge_log(starts: &[u32; 32], log: &[Row], file: &[u8]) -> Report
     }
 }
 
-// The report, by way of rows that serve the history file; what they held makes no difference.
+// Reports by way of rows that serve the history file; what they held makes no difference.
 fn report_in(history: &[u8], marking: &[u8], rows: &mut [Row]) -> Report
     requires { ⌜ RowsFor (length (now history)) (length (now rows)) ⌝ }
     ensures { λ r. ⌜ r ≡ reportOn (now (history .entry)) (now (marking .entry)) ⌝ }
@@ -109,7 +109,7 @@ fn report_in(history: &[u8], marking: &[u8], rows: &mut [Row]) -> Report
     }
 }
 
-// The report on a history file and a marking file. A short file does not pay for the rows of a long one.
+// Reports on a history file and a marking file. A short file does not pay for the rows of a long one.
 pub fn report_on(history: &[u8], marking: &[u8]) -> Report
     ensures { λ r. ⌜ r ≡ reportOn (now (history .entry)) (now (marking .entry)) ⌝ }
 {

@@ -2,7 +2,7 @@
 -- Assumes nothing.
 use Prim.Native.Nat.{ℕ, _+_, _*_, _-_, _/_, _%_, _≤_}
 use native.Mathlib.Omega.{arith}
-use mathlib.Core.Path.{_≡_, ap, ap₂, subst, _∙_}
+use mathlib.Core.Path.{_≡_, sym, ap, ap₂, subst, _∙_}
 use mathlib.Core.Bool.{Bool, true, false}
 use mathlib.Core.List.{List, [], _∷_}
 use lib.Dec.{eqb, ltb}
@@ -113,15 +113,36 @@ module _ (values : ℕ → List ℕ) (isByte : ℕ → Bool) where
   decoded-back (atByte q b) k f = parts q b (k .1) ∙ (refused q b (k .0) ∙ ap (λ (x : Bool). refusedBy x q b) f)
 
 -- each number of what is said stands where it is put, and comes back
-abbrev pub Told : (ℕ → List ℕ) → (ℕ → Bool) → Said → Type 0
-Told values isByte s = Known s × Fits values isByte s
+abbrev pub Decodable : (ℕ → List ℕ) → (ℕ → Bool) → Said → Type 0
+Decodable values isByte s = Known s × Fits values isByte s
 
-pub told-back : (values : ℕ → List ℕ) (isByte : ℕ → Bool) (s : Said) → Told values isByte s → decoded values isByte (coded s) ≡ s
-told-back values isByte s t = decoded-back values isByte s (t .0) (t .1)
+pub decodes : (values : ℕ → List ℕ) (isByte : ℕ → Bool) (s : Said) → Decodable values isByte s → decoded values isByte (coded s) ≡ s
+decodes values isByte s t = decoded-back values isByte s (t .0) (t .1)
 
 -- the code of what is done is 0
-pub done-code : (values : ℕ → List ℕ) (isByte : ℕ → Bool) {s : Said} → Told values isByte s → (vs : List ℕ) → s ≡ done vs → codeOf (coded s) ≡ 0
+pub done-code : (values : ℕ → List ℕ) (isByte : ℕ → Bool) {s : Said} → Decodable values isByte s → (vs : List ℕ) → s ≡ done vs → codeOf (coded s) ≡ 0
 unfolding coded
 done-code values isByte t vs e =
-    let k : Told values isByte (done vs) = subst (Told values isByte) e t in
+    let k : Decodable values isByte (done vs) = subst (Decodable values isByte) e t in
     ap (λ (x : Said). codeOf (coded x)) e ∙ code-back 0 (place vs) (placed-fit vs (k .0))
+
+-- ---- an answer and the case that it is
+
+module _ {A : Type 0} (said : A → Said) {x y : A} (same : x ≡ y) where
+  pub known-as : Known (said x) → Known (said y)
+  known-as k = subst (λ (a : A). Known (said a)) same k
+
+  pub coded-as : {n : ℕ} → n ≡ coded (said y) → n ≡ coded (said x)
+  coded-as n = n ∙ sym (ap (λ (a : A). coded (said a)) same)
+
+-- what a call gives whose answer x is y by its contract: the answer may be coded, and its number is that of y and taken apart gives y back
+module _ {A : Type 0} (said : A → Said) (values : ℕ → List ℕ) (isByte : ℕ → Bool) {x y : A} (same : x ≡ y)
+    (d : Decodable values isByte (said y)) where
+  pub answer-known : Known (said x)
+  answer-known = known-as said (sym same) (d .0)
+
+  pub call-coded : {n : ℕ} → n ≡ coded (said x) → n ≡ coded (said y)
+  call-coded n = coded-as said (sym same) n
+
+  pub call-decoded : {n : ℕ} → n ≡ coded (said x) → decoded values isByte n ≡ said y
+  call-decoded n = ap (decoded values isByte) (call-coded n) ∙ decodes values isByte (said y) d

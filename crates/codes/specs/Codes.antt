@@ -37,7 +37,7 @@ coded (broken r e t) = packed (200 + r) (halves e t)
 coded (atEvent q e) = packed q e
 coded (atByte q b) = packed q b
 
--- ---- what is known of an answer before it is told: each of its numbers stands where it is put
+-- ---- what is known of an answer before it is coded: each of its numbers stands where it is put
 
 pub record Within (low high n : ℕ) : Type 0 where
   pub least : low ≤ n

@@ -36,7 +36,7 @@ const NONE: u32 = 100;
 
 const CAUSES: u32 = 100;
 
-// A code and a place as one number.
+// Packs a code and a place into one number.
 fn pack(code: u32, place: usize) -> u64
     requires { ⌜ place ≤ most ⌝ }
     ensures { λ r. ⌜ r ≡ packed code place ⌝ }
@@ -44,7 +44,7 @@ fn pack(code: u32, place: usize) -> u64
     (code as u64) * SHIFT + (place as u64)
 }
 
-// Two numbers as one place.
+// Joins two numbers in one place.
 fn join(high: usize, low: usize) -> usize
     requires { ⌜ Halves high low ⌝ }
     ensures { λ r. ⌜ (r ≡ halves high low) × (r ≤ most) ⌝ }
@@ -52,7 +52,7 @@ fn join(high: usize, low: usize) -> usize
     high * 65536 + low
 }
 
-// A refusal, whatever the answer: the question and what it is about.
+// Codes a refusal, whatever the answer: the question and what it is about.
 fn refusal_code(refusal: Refusal) -> u64
     requires { ⌜ refusal .at ≤ most ⌝ }
     ensures { λ r. ⌜ r ≡ packed (refusal .question) (refusal .at) ⌝ }
@@ -60,7 +60,7 @@ fn refusal_code(refusal: Refusal) -> u64
     pack(refusal.question as u32, refusal.at)
 }
 
-// The rules' codes.
+// Gives the code of a rule.
 fn rule_code(rule: Rule) -> u32
     ensures { λ r. ⌜ r ≡ 200 + ruleNumber rule ⌝ }
 {
@@ -73,7 +73,7 @@ fn rule_code(rule: Rule) -> u32
     }
 }
 
-// A broken rule: the place holds the event and the transaction.
+// Codes a broken rule: the place holds the event and the transaction.
 fn broken_code(rule: Rule, event: usize, transaction: usize) -> u64
     requires { ⌜ Halves event transaction ⌝ }
     ensures { λ r. ⌜ r ≡ coded (broken (ruleNumber rule) event transaction) ⌝ }
@@ -81,7 +81,7 @@ fn broken_code(rule: Rule, event: usize, transaction: usize) -> u64
     pack(rule_code(rule), join(event, transaction))
 }
 
-// The reader's answer: the place of a history holds its edition and its event count.
+// Codes the reader's answer: the place of a history holds its edition and its event count.
 pub fn read_code(answer: HistoryRead) -> u64
     requires { ⌜ Known (readSaid answer) ⌝ }
     ensures { λ r. ⌜ r ≡ coded (readSaid answer) ⌝ }
@@ -94,7 +94,7 @@ pub fn read_code(answer: HistoryRead) -> u64
     }
 }
 
-// The writer's answer.
+// Codes the writer's answer.
 pub fn written_code(answer: Writing) -> u64
     requires { ⌜ Known (writtenSaid answer) ⌝ }
     ensures { λ r. ⌜ r ≡ coded (writtenSaid answer) ⌝ }
@@ -105,7 +105,7 @@ pub fn written_code(answer: Writing) -> u64
     }
 }
 
-// The finder's answer.
+// Codes the finder's answer.
 pub fn found_code(answer: Finding) -> u64
     requires { ⌜ Known (foundSaid answer) ⌝ }
     ensures { λ r. ⌜ r ≡ coded (foundSaid answer) ⌝ }
@@ -117,7 +117,7 @@ pub fn found_code(answer: Finding) -> u64
     }
 }
 
-// What the scan of a history says.
+// Codes what the scan of a history says.
 fn scanned_code(scanned: Scanned) -> u64
     requires { ⌜ Known (scannedSaid scanned) ⌝ }
     ensures { λ r. ⌜ r ≡ coded (scannedSaid scanned) ⌝ }
@@ -128,7 +128,7 @@ fn scanned_code(scanned: Scanned) -> u64
     }
 }
 
-// The scan's answer.
+// Codes the scan's answer.
 pub fn scan_code(answer: Scanning) -> u64
     requires { ⌜ Known (scanSaid answer) ⌝ }
     ensures { λ r. ⌜ r ≡ coded (scanSaid answer) ⌝ }
@@ -139,7 +139,7 @@ pub fn scan_code(answer: Scanning) -> u64
     }
 }
 
-// The verdict of the rules.
+// Codes the verdict of the rules.
 fn verdict_code(verdict: Verdict) -> u64
     requires { ⌜ Known (verdictSaid verdict) ⌝ }
     ensures { λ r. ⌜ r ≡ coded (verdictSaid verdict) ⌝ }
@@ -154,7 +154,7 @@ fn verdict_code(verdict: Verdict) -> u64
     }
 }
 
-// The checker's answer.
+// Codes the checker's answer.
 pub fn check_code(answer: Checking) -> u64
     requires { ⌜ Known (checkSaid answer) ⌝ }
     ensures { λ r. ⌜ r ≡ coded (checkSaid answer) ⌝ }
@@ -166,7 +166,7 @@ pub fn check_code(answer: Checking) -> u64
     }
 }
 
-// The answer of the straightening: the place of a marking holds the number moved and the length.
+// Codes the answer of the straightening: the place of a marking holds the number moved and the length.
 pub fn straighten_code(answer: Straightening) -> u64
     requires { ⌜ Known (straightSaid answer) ⌝ }
     ensures { λ r. ⌜ r ≡ coded (straightSaid answer) ⌝ }
@@ -183,7 +183,7 @@ pub fn straighten_code(answer: Straightening) -> u64
     }
 }
 
-// The answer of a count.
+// Codes the answer of a count.
 pub fn count_code(answer: Counting) -> u64
     requires { ⌜ Known (countSaid answer) ⌝ }
     ensures { λ r. ⌜ r ≡ coded (countSaid answer) ⌝ }
@@ -194,7 +194,7 @@ pub fn count_code(answer: Counting) -> u64
     }
 }
 
-// The four numbers of a tally as one place.
+// Joins the four numbers of a tally in one place.
 fn tally_place(tally: Tally) -> usize
     requires { ⌜ Quarters (tally .committed) (tally .aborted) (tally .pending) (tally .live) ⌝ }
     ensures { λ r. ⌜ (r ≡ halves (pair (tally .committed) (tally .aborted)) (pair (tally .pending) (tally .live))) × (r ≤ most) ⌝ }
@@ -204,7 +204,7 @@ fn tally_place(tally: Tally) -> usize
     join(high, low)
 }
 
-// The answer of the tally.
+// Codes the answer of the tally.
 pub fn tally_code(answer: Tallying) -> u64
     requires { ⌜ Known (tallySaid answer) ⌝ }
     ensures { λ r. ⌜ r ≡ coded (tallySaid answer) ⌝ }

@@ -4,3 +4,4 @@ pub mod KindLaws
 pub mod BodyLaws
 pub mod StateLaws
 pub mod ReadableLaws
+pub mod AskedLaws

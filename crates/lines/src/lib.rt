@@ -52,7 +52,7 @@ fn put_field(out: &mut [u8], at: usize, words: &[u8], n: usize) -> usize
     put_number(out, behind, n)
 }
 
-// "events 10 transactions 2 reads 2"
+// Puts the line on the counts, as "events 10 transactions 2 reads 2".
 fn put_counts(out: &mut [u8], at: usize, counts: Counts) -> usize
     requires { ⌜ at + 89 ≤ length (now out) ⌝ }
     ensures { λ r. ⌜ Put 89 (now (out .entry)) (now (out .exit)) at (countsLine counts) r ⌝ }
@@ -63,7 +63,7 @@ fn put_counts(out: &mut [u8], at: usize, counts: Counts) -> usize
     put_text(out, reads, b"\n")
 }
 
-// "committed 1 aborted 0 pending 0 live 1"
+// Puts the line on the tally, as "committed 1 aborted 0 pending 0 live 1".
 fn put_tally(out: &mut [u8], at: usize, tally: Tally) -> usize
     requires { ⌜ at + 115 ≤ length (now out) ⌝ }
     ensures { λ r. ⌜ Put 115 (now (out .entry)) (now (out .exit)) at (tallyLine tally) r ⌝ }
@@ -75,7 +75,7 @@ fn put_tally(out: &mut [u8], at: usize, tally: Tally) -> usize
     put_text(out, live, b"\n")
 }
 
-// "history refused 5 byte 6", or the same of the marking.
+// Puts the line on a file that is refused, as "history refused 5 byte 6".
 fn put_refused(out: &mut [u8], at: usize, file: &[u8], question: usize, byte: usize) -> usize
     requires { ⌜ at + (length (now file) + 56) ≤ length (now out) ⌝ }
     ensures { λ r.
@@ -88,6 +88,7 @@ fn put_refused(out: &mut [u8], at: usize, file: &[u8], question: usize, byte: us
     put_text(out, place, b"\n")
 }
 
+// Gives the letter of a rule.
 fn letter_of(rule: Rule) -> u8
     ensures { λ r. ⌜ r ∷ [] ≡ text (letter rule) ⌝ }
 {
@@ -100,7 +101,7 @@ fn letter_of(rule: Rule) -> u8
     }
 }
 
-// "marking rule D event 9 transaction 1"
+// Puts the line on a broken rule, as "marking rule D event 9 transaction 1".
 fn put_broken(out: &mut [u8], at: usize, rule: Rule, event: usize, transaction: usize) -> usize
     requires { ⌜ at + 75 ≤ length (now out) ⌝ }
     ensures { λ r. ⌜ Put 75 (now (out .entry)) (now (out .exit)) at (brokenLine rule event transaction) r ⌝ }
@@ -113,7 +114,7 @@ fn put_broken(out: &mut [u8], at: usize, rule: Rule, event: usize, transaction: 
     put_text(out, whose, b"\n")
 }
 
-// "opaque no event 9 cause 1"
+// Puts the line on a faulted history, as "opaque no event 9 cause 1".
 fn put_faulted(out: &mut [u8], at: usize, event: usize, cause: usize) -> usize
     requires { ⌜ at + 64 ≤ length (now out) ⌝ }
     ensures { λ r. ⌜ Put 64 (now (out .entry)) (now (out .exit)) at (faultedLine event cause) r ⌝ }
@@ -123,7 +124,7 @@ fn put_faulted(out: &mut [u8], at: usize, event: usize, cause: usize) -> usize
     put_text(out, why, b"\n")
 }
 
-// "opaque refused 31"
+// Puts the line on a history that is too large for the scan, as "opaque refused 31".
 fn put_unscanned(out: &mut [u8], at: usize, question: usize) -> usize
     requires { ⌜ at + 36 ≤ length (now out) ⌝ }
     ensures { λ r. ⌜ Put 36 (now (out .entry)) (now (out .exit)) at (unscannedLine question) r ⌝ }
@@ -132,6 +133,7 @@ fn put_unscanned(out: &mut [u8], at: usize, question: usize) -> usize
     put_text(out, refused, b"\n")
 }
 
+// Puts the line on the verdict of the rules.
 fn put_verdict(out: &mut [u8], at: usize, verdict: Verdict) -> usize
     requires { ⌜ at + 75 ≤ length (now out) ⌝ }
     ensures { λ r. ⌜ Put 75 (now (out .entry)) (now (out .exit)) at (verdictLine verdict) r ⌝ }
@@ -146,7 +148,7 @@ fn put_verdict(out: &mut [u8], at: usize, verdict: Verdict) -> usize
     }
 }
 
-// The line on the marking.
+// Puts the line on the marking.
 fn put_marking(out: &mut [u8], at: usize, marking: Marking) -> usize
     requires { ⌜ at + 75 ≤ length (now out) ⌝ }
     ensures { λ r. ⌜ Put 75 (now (out .entry)) (now (out .exit)) at (markingLine marking) r ⌝ }
@@ -163,6 +165,7 @@ fn put_marking(out: &mut [u8], at: usize, marking: Marking) -> usize
     }
 }
 
+// Puts the line on what the scan says.
 fn put_scanned(out: &mut [u8], at: usize, scanned: Scanned) -> usize
     requires { ⌜ at + 64 ≤ length (now out) ⌝ }
     ensures { λ r. ⌜ Put 64 (now (out .entry)) (now (out .exit)) at (scannedLine scanned) r ⌝ }
@@ -173,7 +176,7 @@ fn put_scanned(out: &mut [u8], at: usize, scanned: Scanned) -> usize
     }
 }
 
-// The line on opacity.
+// Puts the line on opacity.
 fn put_opacity(out: &mut [u8], at: usize, opacity: Scanning) -> usize
     requires { ⌜ at + 64 ≤ length (now out) ⌝ }
     ensures { λ r. ⌜ Put 64 (now (out .entry)) (now (out .exit)) at (opacityLine opacity) r ⌝ }
@@ -184,7 +187,7 @@ fn put_opacity(out: &mut [u8], at: usize, opacity: Scanning) -> usize
     }
 }
 
-// The four lines of a history that is not refused.
+// Puts the four lines of a history that is not refused.
 fn put_judged(
     out: &mut [u8],
     counts: Counts,

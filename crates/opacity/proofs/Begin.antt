@@ -17,11 +17,11 @@ use Rattle.events.specs.Events.{noEvent, eventAt, isBegin, isRead, isWrite, ask
 use Rattle.opacity.specs.Transactions.{precedes, status, aborted, pending, live, allows}
 use Rattle.opacity.specs.Justification.{Place, isOf, placed, before, outcome, isOrder, outcomeKept, preceded, realTimeKept, Justified}
 use Rattle.opacity.specs.Lowest.{place}
-use Rattle.lists.proofs.ListLaws.{imp-e, and-l, and-r, and-i, and-false-l, and-false-r, imp-i, nor-i, nor-l, nor-r, or-l, or-r, clash, every-e, every-i, any-append, all-append, all-weaken, below-cases}
+use Rattle.lists.proofs.ListLaws.{imp-e, and-l, and-r, and-i, and-false-l, and-false-r, imp-i, nor-i, nor-l, nor-r, or-l, or-r, clash, every-e, every-i}
 use Rattle.opacity.proofs.Orders.{Fresh, before-here, no-outcome, distinct-snoc}
 use Rattle.opacity.proofs.Snoc.{unwritten, or-none, has-quiet, status-snoc, contents-snoc, own-snoc, own-new, legal-snoc, legal-new, precedes-snoc}
 use Rattle.events.proofs.EventLaws.{begins-snoc}
-use Rattle.lists.proofs.ListLaws.{any-index}
+use Rattle.lists.proofs.ListLaws.{any-append, any-index, all-append, all-weaken, below-cases}
 
 fresh-above : (n : ℕ) (J : List Place) → all (λ p. ltb (p .transaction) n) J ≡ true → Fresh n J
 unfolding all placed any

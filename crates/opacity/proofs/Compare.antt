@@ -70,14 +70,18 @@ below-trans p q r s t =
     (λ l. ⊎-elim (λ m. inl (omega arith)) (λ m. inr (l .0 ∙ m .0, l .1, m .2)) (below-e q r t)) (below-e p q s))
 
 below-total : (p q : Place) → (below p q ≡ true) ⊎ ((p ≡ q) ⊎ (below q p ≡ true))
-below-total p q =
-    elim (decLt (p .transaction) (q .transaction)) [ yes l ↦ inl (below-i p q (inl l)) | no u ↦ elim (decLt (q .transaction) (p .transaction)) [ yes m ↦ inr (inr (below-i q p (inl m))) | no w ↦ go (omega arith) (p .committed) (q .committed) refl refl ] ]
+below-total p q = by-transaction (decLt (p .transaction) (q .transaction)) (decLt (q .transaction) (p .transaction))
   where
     go : p .transaction ≡ q .transaction → (b c : Bool) → p .committed ≡ b → q .committed ≡ c → (below p q ≡ true) ⊎ ((p ≡ q) ⊎ (below q p ≡ true))
     go e true true f g = inr (inl (λ i. record { transaction = e i; committed = (f ∙ sym g) i }))
     go e true false f g = inr (inr (below-i q p (inr (sym e, g, f))))
     go e false true f g = inl (below-i p q (inr (e, f, g)))
     go e false false f g = inr (inl (λ i. record { transaction = e i; committed = (f ∙ sym g) i }))
+
+    by-transaction : Dec (p .transaction < q .transaction) → Dec (q .transaction < p .transaction) → (below p q ≡ true) ⊎ ((p ≡ q) ⊎ (below q p ≡ true))
+    by-transaction (yes l) d = inl (below-i p q (inl l))
+    by-transaction (no u) (yes m) = inr (inr (below-i q p (inl m)))
+    by-transaction (no u) (no w) = go (omega arith) (p .committed) (q .committed) refl refl
 
 pub places-ordered : StrictTotal below
 places-ordered = record { irreflexive = below-self; transitive = below-trans; total = below-total }

@@ -18,6 +18,15 @@ use Rattle.opacity.specs.Store.{put, writesOf, afterWrite, afterPlace, a
 event : ℕ → ℕ → ℕ → ℕ → Event
 event k t r v = record { kind = k; transaction = t; register = r; value = v }
 
+-- what the scan and the verdict both compute by: tests on lists, on events, on transactions and on orders
+unfoldable justification : Unit {0}
+unfolding
+    _and_ _or_ _implies_ any all keep latest every lowest first last range
+    isBegin isRead isWrite asksCommit isCommit isAbort isEnd by has begins
+    status allows precedes lastWrite ownWrite isOwnRead isStoreRead ownRight
+    placed before outcome written contents outcomeKept preceded legalOver realTimeKept
+justification = tt
+
 -- T0 writes 5 and calls commit; T1 reads 5
 pub pair : List Event
 unfolding event
@@ -26,7 +35,7 @@ pair =
     ∷ event 16 1 1 0 ∷ event 17 1 0 0 ∷ event 18 1 0 5 ∷ []
 
 pub pending-may-commit : scan (λ r. 0) pair ≡ Opaque
-unfolding _and_ _or_ _implies_ any all keep latest every lowest first last range isBegin isRead isWrite asksCommit isCommit isAbort isEnd by has begins status allows precedes lastWrite ownWrite isOwnRead isStoreRead ownRight placed before outcome written contents outcomeKept preceded legalOver realTimeKept fits lowestPlace goOn lowestOf cause scan pair
+unfolding justification fits lowestPlace goOn lowestOf cause scan pair
 pending-may-commit = refl
 
 -- T0 reads 0, writes 5 and commits; its point stands behind it
@@ -39,7 +48,7 @@ pub behind : Marking
 behind = record { places = place 0 true ∷ []; points = record { event = 2; gap = 1 } ∷ [] }
 
 pub reader-is-no-writer : verdict (λ r. 0) reader behind ≡ Accepted
-unfolding _and_ _or_ _implies_ any all keep latest every lowest first last range isBegin isRead isWrite asksCommit isCommit isAbort isEnd by has begins status allows precedes lastWrite ownWrite isOwnRead isStoreRead ownRight placed before outcome written contents outcomeKept preceded legalOver realTimeKept gapOf placeOf others between noWriterBetween valueAtGap lastEvent beginOf ruleHolds broke tries verdict reader behind
+unfolding justification gapOf placeOf others between noWriterBetween valueAtGap lastEvent beginOf ruleHolds broke tries verdict reader behind
 reader-is-no-writer = refl
 
 -- T0 writes 5 and then 6 to register 0 and commits; T1 writes 7 to registers 0 and 1 and is aborted; T2 writes 8 to register 1 and calls

@@ -37,7 +37,13 @@ pub marking-length : (m : Marking) → length (markingBytes m) ≡ 6 + (8 * leng
 unfolding markingBytes
 marking-length m =
     length-append markingHead (flat placeBytes (m .places) ++ flat pointBytes (m .points))
-    ∙ ap (λ (x : ℕ). 6 + x) (length-append (flat placeBytes (m .places)) (flat pointBytes (m .points)) ∙ rw (flat-length placeBytes 8 (m .places) (λ p. refl), flat-length pointBytes 10 (m .points) (λ q. refl)))
+    ∙ ap (λ (x : ℕ). 6 + x) (length-append (flat placeBytes (m .places)) (flat pointBytes (m .points)) ∙ rw (places, points))
+  where
+    places : length (flat placeBytes (m .places)) ≡ 8 * length (m .places)
+    places = flat-length placeBytes 8 (m .places) (λ p. refl)
+
+    points : length (flat pointBytes (m .points)) ≡ 10 * length (m .points)
+    points = flat-length pointBytes 10 (m .points) (λ q. refl)
 
 -- of a marking that is readable for a history: 8 for each of its transactions and 10 for each of its store reads
 pub readable-length : (h : List Event) (m : Marking) → ReadableFor h m → length (markingBytes m) ≡ 6 + 8 * begins h + 10 * length (storeReads h)

@@ -31,7 +31,7 @@ reader-keeps file c n = go (readAnswer file c .result .reading) refl n
     go (Read k) e f = absurd (f refl)
     go (Unread r) e f = refused-unread file c (r .question) (r .at) e .0
 
--- the calls that are told an edition and start values
+-- the calls that take an edition and start values
 module _ (edition : ℕ) (starts : List ℕ) where
   pub writer-keeps : (c : Columns) (count : ℕ) (output : List ℕ) → (number (writtenSaid (writtenAnswer edition starts c count output .result)) ≡ 0 → ⊥)
       → writtenAnswer edition starts c count output .output ≡ output

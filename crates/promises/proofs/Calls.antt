@@ -47,9 +47,9 @@ use Rattle.counts.proofs.SaidLaws.{transactions-exactly, tallied-exactly}
 use Rattle.counts.proofs.Theorems.{adds-up}
 use Rattle.codes.specs.Codes.{most, coded}
 use Rattle.codes.specs.Decoded.{decoded, noValue, oneValue, twoValues, fourValues, always, never, ofMarking, codeOf}
-use Rattle.codes.proofs.CodeLaws.{told-back, done-code}
+use Rattle.codes.proofs.CodeLaws.{decodes, done-code}
 use Rattle.sendoshi.specs.Calls.{put, startsAfter, readCall, writeCall, findCall, scanCall, checkCall, straightenCall, transactionsCall, tallyCall}
-use Rattle.sendoshi.proofs.Bounds.{read-told, write-told, find-told, scan-told, straighten-told, transactions-told, tally-told}
+use Rattle.sendoshi.proofs.Bounds.{read-decodable, write-decodable, find-decodable, scan-decodable, straighten-decodable, transactions-decodable, tally-decodable}
 use Rattle.promises.proofs.FinderAccepted.{found-accepted}
 
 -- ---- what an answer is, by what its number says
@@ -72,23 +72,23 @@ said-written (Writing.Refused r) n e = absurd (let z : _≡_ {A = ℕ} 0 1 = cc 
 module _ (file lent : List ℕ) (c : Columns) where
   pub read-says : decoded twoValues always (readCall file lent c .number) ≡ readSaid (readAnswer file c .result)
   unfolding readCall
-  read-says = told-back twoValues always _ (read-told file c)
+  read-says = decodes twoValues always _ (read-decodable file c)
 
   pub read-keeps : (codeOf (readCall file lent c .number) ≡ 0 → ⊥) → (readCall file lent c .starts ≡ lent) × (readCall file lent c .columns ≡ c)
   unfolding readCall readSaid startsAfter
   read-keeps n = go (readAnswer file c .result .reading) refl
     where
       go : (r : Reading) → readAnswer file c .result .reading ≡ r → (startsAfter (readAnswer file c .result) lent ≡ lent) × (readAnswer file c .columns ≡ c)
-      go (Reading.Read k) w = absurd (n (done-code twoValues always (read-told file c) _ (ap (saidOf (readAnswer file c .result .edition)) w)))
+      go (Reading.Read k) w = absurd (n (done-code twoValues always (read-decodable file c) _ (ap (saidOf (readAnswer file c .result .edition)) w)))
       go (Reading.Refused r) w = (rw w, refused-unread file c (r .question) (r .at) w .0)
 
   module _ (n edition : ℕ) (read : decoded twoValues always (readCall file lent c .number) ≡ done (n ∷ edition ∷ [])) where
     is-read : (readAnswer file c .result .reading ≡ Reading.Read n) × (readAnswer file c .result .edition ≡ edition)
     is-read = said-read (readAnswer file c .result) n edition (sym read-says ∙ read)
 
-    starts-told : readCall file lent c .starts ≡ readAnswer file c .result .starts
+    starts-read : readCall file lent c .starts ≡ readAnswer file c .result .starts
     unfolding readCall startsAfter
-    starts-told = let r = is-read .0 in rw r
+    starts-read = let r = is-read .0 in rw r
 
     -- writing what was read gives the file back, and nothing behind it changes
     pub read-then-write : (out : List ℕ) → Bytes file → length file ≤ length out
@@ -96,7 +96,7 @@ module _ (file lent : List ℕ) (c : Columns) where
     unfolding writeCall readCall writtenSaid
     read-then-write out by room =
         let r = is-read in
-        (λ i. writeCall (sym (r .1) i) (starts-told i) (readAnswer file c .columns) n out)
+        (λ i. writeCall (sym (r .1) i) (starts-read i) (readAnswer file c .columns) n out)
         ∙ ap (λ (a : WrittenAnswer). put (coded (writtenSaid (a .result))) (a .output)) (written-read file c n out by (r .0) room)
 
     -- behind the entries read every column is as it was
@@ -122,14 +122,14 @@ module _ (file lent : List ℕ) (c : Columns) where
 module _ (edition : ℕ) (starts : List ℕ) (c : Columns) (count : ℕ) (small : count ≤ most) (out : List ℕ) where
   pub write-says : decoded oneValue never (writeCall edition starts c count out .number) ≡ writtenSaid (writtenAnswer edition starts c count out .result)
   unfolding writeCall
-  write-says = told-back oneValue never _ (write-told edition starts c count small out)
+  write-says = decodes oneValue never _ (write-decodable edition starts c count small out)
 
   pub write-keeps : (codeOf (writeCall edition starts c count out .number) ≡ 0 → ⊥) → writeCall edition starts c count out .output ≡ out
   unfolding writeCall writtenSaid
   write-keeps n = go (writtenAnswer edition starts c count out .result) refl
     where
       go : (r : Writing) → writtenAnswer edition starts c count out .result ≡ r → writtenAnswer edition starts c count out .output ≡ out
-      go (Writing.Written k) w = absurd (n (done-code oneValue never (write-told edition starts c count small out) _ (ap writtenSaid w)))
+      go (Writing.Written k) w = absurd (n (done-code oneValue never (write-decodable edition starts c count small out) _ (ap writtenSaid w)))
       go (Writing.Refused r) w = refused-unwritten edition starts c count out r w
 
   module _ (len : ℕ) (done-so : decoded oneValue never (writeCall edition starts c count out .number) ≡ done (len ∷ [])) where
@@ -158,14 +158,14 @@ module _ (edition : ℕ) (starts : List ℕ) (c : Columns) (count : ℕ) (small 
 module _ (edition : ℕ) (starts : List ℕ) (c : Columns) (count prefix : ℕ) (small : count ≤ most) (out : List ℕ) where
   pub find-says : decoded oneValue never (findCall edition starts c count prefix out .number) ≡ foundSaid (foundAnswer edition starts c count prefix out .result)
   unfolding findCall
-  find-says = told-back oneValue never _ (find-told edition starts c count small prefix out)
+  find-says = decodes oneValue never _ (find-decodable edition starts c count small prefix out)
 
   pub find-keeps : (codeOf (findCall edition starts c count prefix out .number) ≡ 0 → ⊥) → findCall edition starts c count prefix out .output ≡ out
   unfolding findCall foundSaid
   find-keeps n = go (foundAnswer edition starts c count prefix out .result) refl
     where
       go : (r : Finding) → foundAnswer edition starts c count prefix out .result ≡ r → foundAnswer edition starts c count prefix out .output ≡ out
-      go (Finding.Marking k) w = absurd (n (done-code oneValue never (find-told edition starts c count small prefix out) _ (ap foundSaid w)))
+      go (Finding.Marking k) w = absurd (n (done-code oneValue never (find-decodable edition starts c count small prefix out) _ (ap foundSaid w)))
       go Finding.None w = none-unchanged edition starts c count prefix out w
       go (Finding.Refused r) w = refused-unchanged edition starts c count prefix out r w
 
@@ -187,14 +187,14 @@ module _ (edition : ℕ) (starts : List ℕ) (c : Columns) (count prefix : ℕ) 
 module _ (edition : ℕ) (starts : List ℕ) (c : Columns) (count : ℕ) (small : count ≤ most) (file out list : List ℕ) where
   pub straighten-says : decoded twoValues ofMarking (straightenCall edition starts c count file out list .number) ≡ straightSaid (straightenedAnswer edition starts c count file out list .result)
   unfolding straightenCall
-  straighten-says = told-back twoValues ofMarking _ (straighten-told edition starts c count small file out list)
+  straighten-says = decodes twoValues ofMarking _ (straighten-decodable edition starts c count small file out list)
 
   pub straighten-keeps : (codeOf (straightenCall edition starts c count file out list .number) ≡ 0 → ⊥)
       → (straightenCall edition starts c count file out list .output ≡ out) × (straightenCall edition starts c count file out list .list ≡ list)
   unfolding straightenCall straightSaid
   straighten-keeps n =
       untouched edition starts c count file out list
-      (λ k l w. n (done-code twoValues ofMarking (straighten-told edition starts c count small file out list) _ (ap straightSaid w)))
+      (λ k l w. n (done-code twoValues ofMarking (straighten-decodable edition starts c count small file out list) _ (ap straightSaid w)))
 
   module _ (n k : ℕ) (straight : decoded twoValues ofMarking (straightenCall edition starts c count file out list .number) ≡ done (n ∷ k ∷ [])) where
     is-straight : straightenedAnswer edition starts c count file out list .result ≡ Straightening.Straightened n k
@@ -214,7 +214,7 @@ module _ (edition : ℕ) (starts : List ℕ) (c : Columns) (count : ℕ) (small 
 pub scan-never-104 : (edition : ℕ) (starts : List ℕ) (c : Columns) (count : ℕ) → count ≤ most → (e : ℕ) → decoded noValue never (scanCall edition starts c count) ≡ faulted e 4 → ⊥
 unfolding scanCall
 scan-never-104 edition starts c count small e x =
-    let s : scanSaid (scanAnswer edition starts c count) ≡ faulted e 4 = sym (told-back noValue never _ (scan-told edition starts c count small)) ∙ x in
+    let s : scanSaid (scanAnswer edition starts c count) ≡ faulted e 4 = sym (decodes noValue never _ (scan-decodable edition starts c count small)) ∙ x in
     no-cause-four edition starts c count e (said-scanned (scanAnswer edition starts c count) (Scanned.Faulted e 4) s)
 
 -- and 204 never of a straightening
@@ -227,15 +227,15 @@ straighten-never-204 edition starts c count small file out list e t x =
 
 -- ---- the tally
 
--- The four numbers of a tally add up to the transactions that the same columns are told to hold.
+-- The four numbers of a tally add up to the number of transactions in the same columns.
 pub tally-adds-up : (c : Columns) (count : ℕ) → count ≤ most → (x : Tally)
     → decoded fourValues never (tallyCall c count) ≡ done (x .committed ∷ x .aborted ∷ x .pending ∷ x .live ∷ [])
     → decoded oneValue never (transactionsCall c count) ≡ done ((x .committed + x .aborted + x .pending + x .live) ∷ [])
 unfolding tallyCall transactionsCall counts
 tally-adds-up c count small x t =
-    let w = tallied-exactly c count x .0 (sym (told-back fourValues never _ (tally-told c count small)) ∙ t) in
+    let w = tallied-exactly c count x .0 (sym (decodes fourValues never _ (tally-decodable c count small)) ∙ t) in
     let s = ap (λ (y : Tally). y .committed + y .aborted + y .pending + y .live) (sym (w .1)) ∙ adds-up (history c count) in
-    told-back oneValue never _ (transactions-told c count small) ∙ transactions-exactly c count _ .1 (w .0, sym s)
+    decodes oneValue never _ (transactions-decodable c count small) ∙ transactions-exactly c count _ .1 (w .0, sym s)
 
 -- ---- buffers that are long enough
 

@@ -82,10 +82,12 @@ module _ (edition : ℕ) (starts : List ℕ) (c : Columns) (count : ℕ) where
   unscanned = scan.refused-said edition starts c count
 
   -- "no lent buffer changes;" (checker, scan, counts and tally are lent none; "every call ends on every input": every function is proved to return)
-  pub nothing-written : (output : List ℕ) → (number (writtenSaid (writtenAnswer edition starts c count output .result)) ≡ 0 → ⊥) → writtenAnswer edition starts c count output .output ≡ output
+  pub nothing-written : (output : List ℕ) → (number (writtenSaid (writtenAnswer edition starts c count output .result)) ≡ 0 → ⊥)
+      → writtenAnswer edition starts c count output .output ≡ output
   nothing-written = kept.writer-keeps edition starts c count
 
-  pub nothing-found : (prefix : ℕ) (output : List ℕ) → (number (foundSaid (foundAnswer edition starts c count prefix output .result)) ≡ 0 → ⊥) → foundAnswer edition starts c count prefix output .output ≡ output
+  pub nothing-found : (prefix : ℕ) (output : List ℕ) → (number (foundSaid (foundAnswer edition starts c count prefix output .result)) ≡ 0 → ⊥)
+      → foundAnswer edition starts c count prefix output .output ≡ output
   nothing-found = kept.finder-keeps edition starts c count
 
   pub nothing-straightened : (file output list : List ℕ) → ((vs : List ℕ) → straightSaid (straightenedAnswer edition starts c count file output list .result) ≡ done vs → ⊥)

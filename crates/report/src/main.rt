@@ -2,12 +2,12 @@
 // file counts as empty. Every byte that is printed is the lines crate's: this program reads, calls and
 // writes what the call put into the buffer.
 //
-// A file that is there and cannot be read to its end is told on standard error, and nothing is
+// A file that is there and cannot be read to its end is reported on standard error, and nothing is
 // printed: what was read of it would be judged as if it were the whole.
 use libc::STDOUT_FILENO;
 use lines::put_report_on;
 
-// Whether the input has ended, where fewer bytes came than were asked for.
+// Tells whether the input has ended, where fewer bytes came than were asked for.
 fn has_ended(fd: i32) -> bool {
     let mut next = [0u8; 1];
     libc::read(fd, &mut next) == 0

@@ -19,5 +19,8 @@ h0 : Constraints
 h0 = constraints (replicate 32 0) (put (put (put (put (put (replicate 11 (replicate 67 0)) 0 1 1) 0 38 8) 1 2 8) 1 6 1) 10 0 3)
 
 h0-lowest : firstCompletion h0 2 ≡ some (2 ∷ 1 ∷ [])
-unfolding h0 firstCompletion fromCandidates firstOf tryBoth tryOne fitsAt endsAt ruleNext allowsOutcome noneIn legalReads legalAt contents written latest lastWrite by isWrite _and_ all startOf decode writesIn writesFrom rowFrom remove upFrom bitAt members membersIn
+unfolding
+    h0 firstCompletion fromCandidates firstOf tryBoth tryOne fitsAt endsAt ruleNext allowsOutcome noneIn legalReads legalAt
+    contents written latest lastWrite by isWrite _and_ all startOf
+    decode writesIn writesFrom rowFrom remove upFrom bitAt members membersIn
 h0-lowest = refl

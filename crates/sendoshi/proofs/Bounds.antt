@@ -68,7 +68,7 @@ use Rattle.straighten.proofs.StraightLaws.{straight-length, moved-few}
 use Rattle.straighten.proofs.AnswerLaws.{told}
 use Rattle.codes.specs.Codes.{most, place, Within, Halves, Quarters, Known}
 use Rattle.codes.specs.Decoded.{noValue, oneValue, twoValues, fourValues, always, never, ofMarking}
-use Rattle.codes.proofs.CodeLaws.{two-back, four-back, Told}
+use Rattle.codes.proofs.CodeLaws.{two-back, four-back, Decodable}
 use Rattle.sendoshi.proofs.Numbers.{Asked, columns-number, call-readable}
 use Rattle.sendoshi.proofs.Files.{read-limits, MarkingNumber}
 use Rattle.sendoshi.proofs.Refusals.{read-refusal, write-refusal, find-refusal, scan-refusal, check-history, OfMarking, check-marking, straighten-refusal, straighten-marking}
@@ -83,20 +83,20 @@ module _ {low high count : ℕ} {r : Refusal} (small : count ≤ most) (a : Aske
   event-known : 1 ≤ low → high ≤ 99 → Known (eventRefused r)
   event-known l h = (record { least = omega (arith, a .number .least); most = omega (arith, a .number .most) }, at-fits)
 
-  pub event-told : (values : ℕ → List ℕ) → 1 ≤ low → high ≤ 99 → Told values never (eventRefused r)
-  event-told values l h = (event-known l h, refl)
+  pub event-decodable : (values : ℕ → List ℕ) → 1 ≤ low → high ≤ 99 → Decodable values never (eventRefused r)
+  event-decodable values l h = (event-known l h, refl)
 
   -- one of 3 to 17, where the marking's questions come with a byte
-  pub history-told : (values : ℕ → List ℕ) → 3 ≤ low → high ≤ 17 → Told values ofMarking (eventRefused r)
+  pub history-decodable : (values : ℕ → List ℕ) → 3 ≤ low → high ≤ 17 → Decodable values ofMarking (eventRefused r)
   unfolding ofMarking _or_
-  history-told values l h =
+  history-decodable values l h =
       let b : ltb (r .question) 3 ≡ false = le-ltb (r .question) 3 (omega (arith, a .number .least)) in
       let d : ltb 20 (r .question) ≡ false = le-ltb 20 (r .question) (omega (arith, a .number .most)) in
       (event-known (omega arith) (omega arith), rw (b, d))
 
-pub marking-told : (values : ℕ → List ℕ) {r : Refusal} → OfMarking r → Told values ofMarking (byteRefused r)
+pub marking-decodable : (values : ℕ → List ℕ) {r : Refusal} → OfMarking r → Decodable values ofMarking (byteRefused r)
 unfolding ofMarking _or_
-marking-told values {r} m =
+marking-decodable values {r} m =
     ((record { least = m .0 .least; most = omega (arith, m .0 .most) }, omega (arith, m .1)), ⊎-elim low high (m .0 .apart))
   where
     low : r .question ≤ 2 → (ltb (r .question) 3 or ltb 20 (r .question)) ≡ true
@@ -117,35 +117,35 @@ read-halves file c n x =
     let l = read-limits file (w .says) (w .file) in
     record { upper = ⊎-elim (λ a. omega arith) (λ a. omega arith) (l .edition); lower = omega (arith, l .events, w .count) }
 
-pub read-told : (file : List ℕ) (c : Columns) → Told twoValues always (readSaid (readAnswer file c .result))
+pub read-decodable : (file : List ℕ) (c : Columns) → Decodable twoValues always (readSaid (readAnswer file c .result))
 unfolding readSaid
-read-told file c = go (readAnswer file c .result .reading) refl
+read-decodable file c = go (readAnswer file c .result .reading) refl
   where
     edition : ℕ
     edition = readAnswer file c .result .edition
 
-    tells : (r : Reading) → readAnswer file c .result .reading ≡ r → Told twoValues always (saidOf edition r)
+    tells : (r : Reading) → readAnswer file c .result .reading ≡ r → Decodable twoValues always (saidOf edition r)
     tells (Reading.Read n) w = let h = read-halves file c n w in (h, two-back edition n h)
     tells (Reading.Refused r) w =
         let n = read-refusal file c r w in
         ((record { least = n .0 .least; most = omega (arith, n .0 .most) }, omega (arith, n .1)), refl)
 
-    go : (r : Reading) → readAnswer file c .result .reading ≡ r → Told twoValues always (saidOf edition (readAnswer file c .result .reading))
-    go r w = subst (λ (x : Reading). Told twoValues always (saidOf edition x)) (sym w) (tells r w)
+    go : (r : Reading) → readAnswer file c .result .reading ≡ r → Decodable twoValues always (saidOf edition (readAnswer file c .result .reading))
+    go r w = subst (λ (x : Reading). Decodable twoValues always (saidOf edition x)) (sym w) (tells r w)
 
 -- ---- the writer
 
 module _ (edition : ℕ) (starts : List ℕ) (c : Columns) (count : ℕ) (small : count ≤ most) where
-  pub write-told : (output : List ℕ) → Told oneValue never (writtenSaid (writtenAnswer edition starts c count output .result))
+  pub write-decodable : (output : List ℕ) → Decodable oneValue never (writtenSaid (writtenAnswer edition starts c count output .result))
   unfolding writtenSaid place
-  write-told output = go (writtenAnswer edition starts c count output .result) refl
+  write-decodable output = go (writtenAnswer edition starts c count output .result) refl
     where
-      go : (r : Writing) → writtenAnswer edition starts c count output .result ≡ r → Told oneValue never (writtenSaid r)
+      go : (r : Writing) → writtenAnswer edition starts c count output .result ≡ r → Decodable oneValue never (writtenSaid r)
       go (Writing.Written n) w =
           let a = was-written edition starts c count output n w in
           let h = history c count in
           (omega (arith, a .length-is, length-file edition starts h, starts-most starts 32, length-most h, readable-most h (a .events)), refl)
-      go (Writing.Refused r) w = event-told small (write-refusal edition starts c count output r w) oneValue (omega arith) (omega arith)
+      go (Writing.Refused r) w = event-decodable small (write-refusal edition starts c count output r w) oneValue (omega arith) (omega arith)
 
   -- ---- the finder
 
@@ -163,15 +163,15 @@ module _ (edition : ℕ) (starts : List ℕ) (c : Columns) (count : ℕ) (small 
       let s : length (a .bytes) ≡ markingSize h = ap length (j .2) ∙ room-is h (j .0) (places-are-n (begins h) (j .0) (o .justifies .order)) in
       omega (arith, a .size, s, p .few, reads-low h r)
 
-  pub find-told : (prefix : ℕ) (output : List ℕ) → Told oneValue never (foundSaid (foundAnswer edition starts c count prefix output .result))
+  pub find-decodable : (prefix : ℕ) (output : List ℕ) → Decodable oneValue never (foundSaid (foundAnswer edition starts c count prefix output .result))
   unfolding foundSaid place foundAnswer
-  find-told prefix output = go (foundAnswer edition starts c count prefix output .result) refl
+  find-decodable prefix output = go (foundAnswer edition starts c count prefix output .result) refl
     where
-      go : (r : Finding) → foundAnswer edition starts c count prefix output .result ≡ r → Told oneValue never (foundSaid r)
+      go : (r : Finding) → foundAnswer edition starts c count prefix output .result ≡ r → Decodable oneValue never (foundSaid r)
       go (Finding.Marking n) w = (marking-fits prefix output n w, refl)
       go Finding.None w = (tt, tt)
       go (Finding.Refused r) w =
-          event-told small (find-refusal edition starts c count prefix (length output) r (refused-e _ _ output r w .0)) oneValue (omega arith) (omega arith)
+          event-decodable small (find-refusal edition starts c count prefix (length output) r (refused-e _ _ output r w .0)) oneValue (omega arith) (omega arith)
 
   -- ---- the scan
 
@@ -185,18 +185,18 @@ module _ (edition : ℕ) (starts : List ℕ) (c : Columns) (count : ℕ) (small 
       go false false true = record { least = omega arith; most = omega arith }
       go false false false = record { least = omega arith; most = omega arith }
 
-  pub scan-told : Told noValue never (scanSaid (scanAnswer edition starts c count))
+  pub scan-decodable : Decodable noValue never (scanSaid (scanAnswer edition starts c count))
   unfolding scanSaid scanAnswer
-  scan-told = go (scanAnswer edition starts c count) refl
+  scan-decodable = go (scanAnswer edition starts c count) refl
     where
-      go : (j : Scanning) → scanAnswer edition starts c count ≡ j → Told noValue never (scanSaid j)
+      go : (j : Scanning) → scanAnswer edition starts c count ≡ j → Decodable noValue never (scanSaid j)
       go (Scanning.Scanned Scanned.Opaque) w = (tt, refl)
       go (Scanning.Scanned (Scanned.Faulted e k)) w =
           let p = scanned-e _ _ _ w .0 in
           let f = faulted-exactly edition starts c count p e k .0 w in
           let x : Within 1 4 k = rw (f .why) (its-cause _) in
           ((x, omega (arith, f .inside, readable-most (history c count) (scan-passed edition starts c count p .readable))), tt)
-      go (Scanning.Refused r) w = event-told small (scan-refusal edition starts c count r w) noValue (omega arith) (omega arith)
+      go (Scanning.Refused r) w = event-decodable small (scan-refusal edition starts c count r w) noValue (omega arith) (omega arith)
 
 -- ---- the checker
 
@@ -220,34 +220,34 @@ module _ (h : List Event) (r : readable h ≡ true) where
   rule-within Rule.D = record { least = omega arith; most = omega arith }
   rule-within Rule.E = record { least = omega arith; most = omega arith }
 
-  pub verdict-told : (values : ℕ → List ℕ) → values (place []) ≡ [] → (start : ℕ → ℕ) (m : Marking) (v : Verdict) → verdict start h m ≡ v → Told values ofMarking (verdictSaid v)
-  verdict-told values none start m Verdict.Accepted e = (tt, none)
-  verdict-told values none start m (Verdict.Broken q i t) e =
+  pub verdict-decodable : (values : ℕ → List ℕ) → values (place []) ≡ [] → (start : ℕ → ℕ) (m : Marking) (v : Verdict) → verdict start h m ≡ v → Decodable values ofMarking (verdictSaid v)
+  verdict-decodable values none start m Verdict.Accepted e = (tt, none)
+  verdict-decodable values none start m (Verdict.Broken q i t) e =
       let w = broken-iff-first start h r m q i t .0 e in
       let k = named-within q (w .0) (w .1 .inside) in
       ((rule-within q, record { upper = omega (arith, w .2, k .event); lower = omega (arith, w .3, k .transaction) }), tt)
 
 module _ (edition : ℕ) (starts : List ℕ) (c : Columns) (count : ℕ) (small : count ≤ most) where
-  pub check-told : (file : List ℕ) → Told noValue ofMarking (checkSaid (verdictAnswer edition starts c count file))
+  pub check-decodable : (file : List ℕ) → Decodable noValue ofMarking (checkSaid (verdictAnswer edition starts c count file))
   unfolding checkSaid verdictAnswer
-  check-told file = go (verdictAnswer edition starts c count file) refl
+  check-decodable file = go (verdictAnswer edition starts c count file) refl
     where
-      ruled-told : historyAnswer edition starts c count ≡ Checked.Readable → (y : FileRead) (v : Verdict) → ruled (startOf starts) (history c count) y ≡ Checking.Ruled v
-          → Told noValue ofMarking (verdictSaid v)
-      ruled-told fine (content m) v d =
+      ruled-decodable : historyAnswer edition starts c count ≡ Checked.Readable → (y : FileRead) (v : Verdict) → ruled (startOf starts) (history c count) y ≡ Checking.Ruled v
+          → Decodable noValue ofMarking (verdictSaid v)
+      ruled-decodable fine (content m) v d =
           let e : verdict (startOf starts) (history c count) m ≡ v = cc in
-          verdict-told (history c count) (call-readable edition starts c count fine) noValue refl (startOf starts) m v e
-      ruled-told fine (refused a b) v d = let z : _≡_ {A = ℕ} 0 1 = cc in absurd (omega arith)
+          verdict-decodable (history c count) (call-readable edition starts c count fine) noValue refl (startOf starts) m v e
+      ruled-decodable fine (refused a b) v d = let z : _≡_ {A = ℕ} 0 1 = cc in absurd (omega arith)
 
       judged : (v : Verdict) (y : Checked) → historyAnswer edition starts c count ≡ y → afterColumns (startOf starts) (history c count) file y ≡ Checking.Ruled v
-          → Told noValue ofMarking (verdictSaid v)
-      judged v Checked.Readable fine d = ruled-told fine (fileRead (known (history c count)) file) v d
+          → Decodable noValue ofMarking (verdictSaid v)
+      judged v Checked.Readable fine d = ruled-decodable fine (fileRead (known (history c count)) file) v d
       judged v (Checked.Refused a) fine d = let z : _≡_ {A = ℕ} 0 1 = cc in absurd (omega arith)
 
-      go : (j : Checking) → verdictAnswer edition starts c count file ≡ j → Told noValue ofMarking (checkSaid j)
+      go : (j : Checking) → verdictAnswer edition starts c count file ≡ j → Decodable noValue ofMarking (checkSaid j)
       go (Checking.Ruled v) w = judged v (historyAnswer edition starts c count) refl w
-      go (Checking.HistoryRefused r) w = history-told small (check-history edition starts c count file r w) noValue (omega arith) (omega arith)
-      go (Checking.MarkingRefused r) w = marking-told noValue (check-marking edition starts c count file r w)
+      go (Checking.HistoryRefused r) w = history-decodable small (check-history edition starts c count file r w) noValue (omega arith) (omega arith)
+      go (Checking.MarkingRefused r) w = marking-decodable noValue (check-marking edition starts c count file r w)
 
   -- ---- the straightening
 
@@ -263,40 +263,43 @@ module _ (edition : ℕ) (starts : List ℕ) (c : Columns) (count : ℕ) (small 
         lower = omega (arith, d .size, straight-length (startOf starts) h m, readable-length h m f, at-most-64 h r, reads-low h r);
       }
 
-  pub straighten-told : (file output list : List ℕ) → Told twoValues ofMarking (straightSaid (straightenedAnswer edition starts c count file output list .result))
+  pub straighten-decodable : (file output list : List ℕ) → Decodable twoValues ofMarking (straightSaid (straightenedAnswer edition starts c count file output list .result))
   unfolding straightSaid
-  straighten-told file output list = go (straightenedAnswer edition starts c count file output list .result) refl
+  straighten-decodable file output list = go (straightenedAnswer edition starts c count file output list .result) refl
     where
       -- of a broken rule no values are asked
-      broken-known : (q : Rule) (i t : ℕ) → Told noValue ofMarking (verdictSaid (Verdict.Broken q i t)) → Told twoValues ofMarking (verdictSaid (Verdict.Broken q i t))
+      broken-known : (q : Rule) (i t : ℕ) → Decodable noValue ofMarking (verdictSaid (Verdict.Broken q i t)) → Decodable twoValues ofMarking (verdictSaid (Verdict.Broken q i t))
       broken-known q i t k = k
 
-      go : (j : Straightening) → straightenedAnswer edition starts c count file output list .result ≡ j → Told twoValues ofMarking (straightSaid j)
+      go : (j : Straightening) → straightenedAnswer edition starts c count file output list .result ≡ j → Decodable twoValues ofMarking (straightSaid j)
       go (Straightening.Straightened n k) w = let h = straightened-halves file output list n k w in (h, two-back k n h)
       go (Straightening.Broken q i t) w =
           let d = told edition starts c count file output list (Straightening.Broken q i t) w .0 in
-          broken-known q i t (verdict-told (history c count) (call-readable edition starts c count (d .1 .fine)) noValue refl (startOf starts) (straightened (startOf starts) (history c count) (d .0)) (Verdict.Broken q i t) (d .2))
-      go (Straightening.Refused r) w = history-told small (straighten-refusal edition starts c count file output list r w) twoValues (omega arith) (omega arith)
-      go (Straightening.MarkingRefused r) w = marking-told twoValues (straighten-marking edition starts c count file output list r w)
+          let h = history c count in
+          let r = call-readable edition starts c count (d .1 .fine) in
+          let m = straightened (startOf starts) h (d .0) in
+          broken-known q i t (verdict-decodable h r noValue refl (startOf starts) m (Verdict.Broken q i t) (d .2))
+      go (Straightening.Refused r) w = history-decodable small (straighten-refusal edition starts c count file output list r w) twoValues (omega arith) (omega arith)
+      go (Straightening.MarkingRefused r) w = marking-decodable twoValues (straighten-marking edition starts c count file output list r w)
 
 -- ---- the counts and the tally
 
 module _ (c : Columns) (count : ℕ) (small : count ≤ most) where
-  count-told : (n : ℕ) → (readable (history c count) ≡ true → n ≤ most) → Told oneValue never (countSaid (counted (columnsAnswer c count) n))
+  count-decodable : (n : ℕ) → (readable (history c count) ≡ true → n ≤ most) → Decodable oneValue never (countSaid (counted (columnsAnswer c count) n))
   unfolding countSaid place
-  count-told n f = go (columnsAnswer c count) refl
+  count-decodable n f = go (columnsAnswer c count) refl
     where
-      go : (y : Checked) → columnsAnswer c count ≡ y → Told oneValue never (countSaid (counted y n))
+      go : (y : Checked) → columnsAnswer c count ≡ y → Decodable oneValue never (countSaid (counted y n))
       go Checked.Readable w = (f (columns-readable c count w .1), refl)
-      go (Checked.Refused r) w = event-told small (columns-number c count r w) oneValue (omega arith) (omega arith)
+      go (Checked.Refused r) w = event-decodable small (columns-number c count r w) oneValue (omega arith) (omega arith)
 
-  pub transactions-told : Told oneValue never (countSaid (transactionsAnswer c count))
+  pub transactions-decodable : Decodable oneValue never (countSaid (transactionsAnswer c count))
   unfolding transactionsAnswer counts
-  transactions-told = count-told (begins (history c count)) (λ r. omega (arith, at-most-64 (history c count) r))
+  transactions-decodable = count-decodable (begins (history c count)) (λ r. omega (arith, at-most-64 (history c count) r))
 
-  pub store-reads-told : Told oneValue never (countSaid (storeReadsAnswer c count))
+  pub store-reads-decodable : Decodable oneValue never (countSaid (storeReadsAnswer c count))
   unfolding storeReadsAnswer counts
-  store-reads-told = count-told (length (storeReads (history c count))) (λ r. omega (arith, reads-low (history c count) r))
+  store-reads-decodable = count-decodable (length (storeReads (history c count))) (λ r. omega (arith, reads-low (history c count) r))
 
   -- no more transactions stand so than begin
   standing-few : readable (history c count) ≡ true → (s : Status) → length (standing s (history c count)) ≤ 64
@@ -314,10 +317,10 @@ module _ (c : Columns) (count : ℕ) (small : count ≤ most) where
         fourth = omega (arith, standing-few r live);
       }
 
-  pub tally-told : Told fourValues never (tallySaid (tallyAnswer c count))
+  pub tally-decodable : Decodable fourValues never (tallySaid (tallyAnswer c count))
   unfolding tallySaid tallyAnswer
-  tally-told = go (columnsAnswer c count) refl
+  tally-decodable = go (columnsAnswer c count) refl
     where
-      go : (y : Checked) → columnsAnswer c count ≡ y → Told fourValues never (tallySaid (tallied y (tally (history c count))))
+      go : (y : Checked) → columnsAnswer c count ≡ y → Decodable fourValues never (tallySaid (tallied y (tally (history c count))))
       go Checked.Readable w = let q = tally-quarters (columns-readable c count w .1) in (q, four-back _ _ _ _ q)
-      go (Checked.Refused r) w = event-told small (columns-number c count r w) fourValues (omega arith) (omega arith)
+      go (Checked.Refused r) w = event-decodable small (columns-number c count r w) fourValues (omega arith) (omega arith)

@@ -41,32 +41,32 @@ putBoth n o l = record { number = n; output = o; list = l }
 
 -- the lent start values afterwards: those of the history that was read, and on a refusal what they were
 abbrev pub startsBy : Reading → List ℕ → List ℕ → List ℕ
-startsBy (Reading.Read n) told lent = told
-startsBy (Reading.Refused r) told lent = lent
+startsBy (Reading.Read n) read lent = read
+startsBy (Reading.Refused r) read lent = lent
 
 unfoldable pub startsAfter : HistoryRead → List ℕ → List ℕ
 startsAfter a lent = startsBy (a .reading) (a .starts) lent
 
-abbrev pub readTold : List ℕ → ReadAnswer → FilledHistory
-readTold lent a = filled (coded (readSaid (a .result))) (startsAfter (a .result) lent) (a .columns)
+abbrev pub readFilled : List ℕ → ReadAnswer → FilledHistory
+readFilled lent a = filled (coded (readSaid (a .result))) (startsAfter (a .result) lent) (a .columns)
 
-abbrev pub writtenTold : WrittenAnswer → FilledOutput
-writtenTold a = put (coded (writtenSaid (a .result))) (a .output)
+abbrev pub writtenFilled : WrittenAnswer → FilledOutput
+writtenFilled a = put (coded (writtenSaid (a .result))) (a .output)
 
-abbrev pub foundTold : Given → FilledOutput
-foundTold a = put (coded (foundSaid (a .result))) (a .output)
+abbrev pub foundFilled : Given → FilledOutput
+foundFilled a = put (coded (foundSaid (a .result))) (a .output)
 
-abbrev pub straightenTold : Straight → FilledBoth
-straightenTold a = putBoth (coded (straightSaid (a .result))) (a .output) (a .list)
+abbrev pub straightenFilled : Straight → FilledBoth
+straightenFilled a = putBoth (coded (straightSaid (a .result))) (a .output) (a .list)
 
 unfoldable pub readCall : List ℕ → List ℕ → Columns → FilledHistory
-readCall file starts c = readTold starts (readAnswer file c)
+readCall file starts c = readFilled starts (readAnswer file c)
 
 unfoldable pub writeCall : ℕ → List ℕ → Columns → ℕ → List ℕ → FilledOutput
-writeCall edition starts c count output = writtenTold (writtenAnswer edition starts c count output)
+writeCall edition starts c count output = writtenFilled (writtenAnswer edition starts c count output)
 
 unfoldable pub findCall : ℕ → List ℕ → Columns → ℕ → ℕ → List ℕ → FilledOutput
-findCall edition starts c count prefix output = foundTold (foundAnswer edition starts c count prefix output)
+findCall edition starts c count prefix output = foundFilled (foundAnswer edition starts c count prefix output)
 
 unfoldable pub scanCall : ℕ → List ℕ → Columns → ℕ → ℕ
 scanCall edition starts c count = coded (scanSaid (scanAnswer edition starts c count))
@@ -75,7 +75,7 @@ unfoldable pub checkCall : ℕ → List ℕ → Columns → ℕ → List ℕ →
 checkCall edition starts c count file = coded (checkSaid (verdictAnswer edition starts c count file))
 
 unfoldable pub straightenCall : ℕ → List ℕ → Columns → ℕ → List ℕ → List ℕ → List ℕ → FilledBoth
-straightenCall edition starts c count file output list = straightenTold (straightenedAnswer edition starts c count file output list)
+straightenCall edition starts c count file output list = straightenFilled (straightenedAnswer edition starts c count file output list)
 
 unfoldable pub transactionsCall : Columns → ℕ → ℕ
 transactionsCall c count = coded (countSaid (transactionsAnswer c count))

@@ -240,7 +240,7 @@ pub extern "C" fn sendoshi_straighten(
     straighten_code(answer)
 }
 
-// How many transactions begin in the first `count` events, or the question and the event.
+// Counts the transactions that begin in the first `count` events, or gives the question and the event.
 #[no_mangle]
 pub extern "C" fn sendoshi_transactions(
     kinds: &[u16],
@@ -258,7 +258,7 @@ pub extern "C" fn sendoshi_transactions(
     count_code(answer)
 }
 
-// How many store reads the first `count` events have, or the question and the event.
+// Counts the store reads of the first `count` events, or gives the question and the event.
 #[no_mangle]
 pub extern "C" fn sendoshi_store_reads(
     kinds: &[u16],
@@ -276,7 +276,7 @@ pub extern "C" fn sendoshi_store_reads(
     count_code(answer)
 }
 
-// How many of the transactions in the first `count` events are committed, aborted, pending and live, or
+// Counts the committed, aborted, pending and live transactions of the first `count` events, or gives
 // the question and the event.
 #[no_mangle]
 pub extern "C" fn sendoshi_tally(

@@ -24,5 +24,19 @@ use Rattle.straighten.specs.Straight.{stands, straightPoint, straightened, move
 use Rattle.worked.specs.Worked.{right, worked}
 
 pub worked-hold : all right worked ≡ true
-unfolding nextEvent everyPlaced hasPoint everyPointed headQuestions recordQuestions endQuestions bodyStep endStep stepAt walkMarking opening fileRead verdictAnswer checkSaid said _and_ _or_ _implies_ any all keep latest every lowest first last range isKnown isBegin isRead isWrite isCall namesRegister asksCommit isCommit isAbort isEnd by has begins ended lastOf pendingCall pendingOf latestOn refusal threadFree due fieldsDue eventQuestions columnQuestions refusedAt readable eventsAnswer historyAnswer startOf allZero admits history hold filledWith status allows precedes lastWrite ownWrite isOwnRead isStoreRead storeReads ownRight placed before outcome written contents distinct isOrder outcomeKept preceded legalOver realTimeKept fits lowestPlace goOn lowestOf flat markingBytes gapOf placeOf marked others between noWriterBetween valueAtGap lastEvent beginOf ruleHolds broke tries verdict cause scan put does eventsOf run readsRight after runsRight counts standing tally stands straightPoint straightened movedEvents right worked
+unfolding
+    _and_ _or_ _implies_ any all keep latest every lowest first last range
+    isKnown isBegin isRead isWrite isCall namesRegister asksCommit isCommit isAbort isEnd by has begins ended lastOf
+    pendingCall pendingOf latestOn refusal threadFree due fieldsDue eventQuestions columnQuestions refusedAt readable
+    eventsAnswer historyAnswer said startOf allZero admits history hold filledWith
+    status allows precedes lastWrite ownWrite isOwnRead isStoreRead storeReads ownRight
+    placed before outcome written contents distinct isOrder outcomeKept preceded legalOver realTimeKept
+    fits lowestPlace goOn lowestOf
+    flat markingBytes gapOf placeOf marked others between noWriterBetween valueAtGap lastEvent beginOf ruleHolds broke
+    tries verdict cause scan put does eventsOf run readsRight after runsRight counts
+    standing tally
+    nextEvent everyPlaced hasPoint everyPointed headQuestions recordQuestions endQuestions bodyStep endStep stepAt
+    walkMarking opening fileRead verdictAnswer checkSaid
+    stands straightPoint straightened movedEvents
+    right worked
 worked-hold = refl

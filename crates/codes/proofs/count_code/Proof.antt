@@ -1,28 +1,27 @@
 -- `codes::count_code` meets its contract.
 -- Assumes nothing.
-use mathlib.Core.Path.{_≡_, refl, sym, ap, subst, _∙_}
-use Rattle.counts.specs.declared.Counting.{Counting}
 use Rattle.counts.specs.Answer.{countSaid}
-use Rattle.codes.specs.Codes.{coded, place, Known}
+use Rattle.codes.specs.Codes.{coded, place}
+use Rattle.codes.proofs.CodeLaws.{known-as, coded-as}
 use borrow.Author.Needs.{needs}
 use Rattle.codes.proofs.count_code.Statement.{statement}
 use Rattle.codes.proofs.count_code.Tie as tie
 
 pack-requires : tie.Need-pack-requires
 unfolding countSaid
-pack-requires c κs = subst (λ (x : Counting). Known (countSaid x)) (c .before .answer .given .1) (c .before .before .before .pre)
+pack-requires c κs = known-as countSaid (c .before .answer .given .1) (c .before .before .before .pre)
 
 refusal-code-requires : tie.Need-refusal-code-requires
 unfolding countSaid
-refusal-code-requires c κs = subst (λ (x : Counting). Known (countSaid x)) (c .before .answer2 .given .1) (c .before .before .before .pre) .1
+refusal-code-requires c κs = known-as countSaid (c .before .answer2 .given .1) (c .before .before .before .pre) .1
 
 returns : tie.Need-returns
 unfolding countSaid coded place
-returns c = c .pack .ensures ∙ sym (ap (λ (x : Counting). coded (countSaid x)) (c .before .before .answer .given .1))
+returns c = coded-as countSaid (c .before .before .answer .given .1) (c .pack .ensures)
 
 returns-2 : tie.Need-returns-2
 unfolding countSaid coded
-returns-2 c = c .refusal-code .ensures ∙ sym (ap (λ (x : Counting). coded (countSaid x)) (c .before .before .answer2 .given .1))
+returns-2 c = coded-as countSaid (c .before .before .answer2 .given .1) (c .refusal-code .ensures)
 
 pub count-code-spec : {M : Type 1} → statement M
 count-code-spec =

@@ -1,11 +1,11 @@
+-- `codes::join` meets its contract.
+-- Assumes nothing.
 use mathlib.Core.Path.{refl}
 use native.Mathlib.Omega.{arith}
 use Rattle.codes.specs.Codes.{halves}
 use borrow.Author.Needs.{needs}
 use Rattle.codes.proofs.join.Statement.{statement}
 use Rattle.codes.proofs.join.Tie as tie
-use Rattle.codes.proofs.join.Reads as reads
-use Rattle.codes.proofs.join.Lts as lts
 
 returns : tie.Need-returns
 unfolding halves

@@ -1,10 +1,10 @@
+-- `codes::pack` meets its contract.
+-- Assumes nothing.
 use mathlib.Core.Path.{refl}
 use Rattle.codes.specs.Codes.{packed}
 use borrow.Author.Needs.{needs}
 use Rattle.codes.proofs.pack.Statement.{statement}
 use Rattle.codes.proofs.pack.Tie as tie
-use Rattle.codes.proofs.pack.Reads as reads
-use Rattle.codes.proofs.pack.Lts as lts
 
 returns : tie.Need-returns
 unfolding packed

@@ -1,28 +1,27 @@
 -- `codes::scan_code` meets its contract.
 -- Assumes nothing.
-use mathlib.Core.Path.{_≡_, refl, sym, ap, subst, _∙_}
-use Rattle.scan.specs.declared.Scanning.{Scanning}
 use Rattle.scan.specs.Answer.{said}
-use Rattle.codes.specs.Codes.{coded, Known}
+use Rattle.codes.specs.Codes.{coded}
+use Rattle.codes.proofs.CodeLaws.{known-as, coded-as}
 use borrow.Author.Needs.{needs}
 use Rattle.codes.proofs.scan_code.Statement.{statement}
 use Rattle.codes.proofs.scan_code.Tie as tie
 
 scanned-code-requires : tie.Need-scanned-code-requires
 unfolding said
-scanned-code-requires c κs = subst (λ (x : Scanning). Known (said x)) (c .before .answer .given .1) (c .before .before .before .pre)
+scanned-code-requires c κs = known-as said (c .before .answer .given .1) (c .before .before .before .pre)
 
 refusal-code-requires : tie.Need-refusal-code-requires
 unfolding said
-refusal-code-requires c κs = subst (λ (x : Scanning). Known (said x)) (c .before .answer2 .given .1) (c .before .before .before .pre) .1
+refusal-code-requires c κs = known-as said (c .before .answer2 .given .1) (c .before .before .before .pre) .1
 
 returns : tie.Need-returns
 unfolding said
-returns c = c .scanned-code .ensures ∙ sym (ap (λ (x : Scanning). coded (said x)) (c .before .before .answer .given .1))
+returns c = coded-as said (c .before .before .answer .given .1) (c .scanned-code .ensures)
 
 returns-2 : tie.Need-returns-2
 unfolding said coded
-returns-2 c = c .refusal-code .ensures ∙ sym (ap (λ (x : Scanning). coded (said x)) (c .before .before .answer2 .given .1))
+returns-2 c = coded-as said (c .before .before .answer2 .given .1) (c .refusal-code .ensures)
 
 pub scan-code-spec : {M : Type 1} → statement M
 scan-code-spec =

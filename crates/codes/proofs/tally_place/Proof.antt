@@ -1,7 +1,5 @@
 -- `codes::tally_place` meets its contract.
 -- Assumes nothing.
-use mathlib.Core.Path.{_∙_, ap₂}
-use native.Mathlib.Omega.{arith}
 use Rattle.codes.specs.Codes.{halves, pair}
 use borrow.Author.Needs.{needs}
 use Rattle.codes.proofs.tally_place.Statement.{statement}

@@ -1,41 +1,45 @@
 -- `sendoshi::sendoshi_find` meets its contract.
 -- Assumes nothing.
-use mathlib.Core.Path.{_≡_, sym, ap, subst, _∙_}
-use Prim.Native.Nat.{_≤_}
+use mathlib.Core.Path.{ap}
 use native.Mathlib.Omega.{arith}
 use Rattle.log.specs.Columns.{Columns, columns}
-use Rattle.finder.specs.Answer.{Given, said}
-use Rattle.codes.specs.Codes.{most, coded, Known}
-use Rattle.codes.specs.Decoded.{decoded, oneValue, never}
-use Rattle.codes.proofs.CodeLaws.{told-back}
-use Rattle.sendoshi.specs.Calls.{foundTold, findCall}
-use Rattle.sendoshi.proofs.Bounds.{find-told}
+use Rattle.events.specs.Said.{Said}
+use Rattle.finder.specs.Answer.{Given, foundAnswer, said}
+use Rattle.codes.specs.Decoded.{oneValue, never}
+use Rattle.codes.proofs.CodeLaws.{Decodable, answer-known, call-decoded}
+use Rattle.sendoshi.specs.Calls.{foundFilled, findCall}
+use Rattle.sendoshi.proofs.Bounds.{find-decodable}
 use denote.Ref.{now}
 use borrow.Author.Needs.{needs}
 use Rattle.sendoshi.proofs.sendoshi_find.Statement.{statement}
 use Rattle.sendoshi.proofs.sendoshi_find.Tie as tie
 
-abbrev given : tie.Start → Columns
-given s = columns (now (s .args .kinds)) (now (s .args .transactions)) (now (s .args .registers)) (now (s .args .values))
+-- the columns as they are lent
+abbrev lent : tie.Start → Columns
+lent s = columns (now (s .args .kinds)) (now (s .args .transactions)) (now (s .args .registers)) (now (s .args .values))
 
--- the count is what its type holds
-small : (s : tie.Start) → s .args .count ≤ most
-small s = omega (arith, s .fits .count .fits)
+-- the call, from where the answer is given
+abbrev entered : tie.After-find-marking → tie.Start
+entered c = c .before .before .before .before .before .before .before
+
+abbrev saidBy : Given → Said
+saidBy a = said (a .result)
+
+decodable : (s : tie.Start) → Decodable oneValue never (saidBy (foundAnswer (s .args .edition) (now (s .args .starts)) (lent s) (s .args .count) (s .args .prefix) (now (s .args .output))))
+decodable s =
+    find-decodable (s .args .edition) (now (s .args .starts)) (lent s) (s .args .count) (omega (arith, s .fits .count .fits))
+    (s .args .prefix) (now (s .args .output))
 
 found-code-requires : tie.Need-found-code-requires
-found-code-requires c κs =
-    let s = c .before .before .before .before .before .before .before .before .before in
-    subst (λ (x : Given). Known (said (x .result))) (sym (c .before .before .find-marking .ensures)) (find-told (s .args .edition) (now (s .args .starts)) (given s) (s .args .count) (small s) (s .args .prefix) (now (s .args .output)) .0)
+found-code-requires c κs = let a = c .before .before in answer-known saidBy oneValue never (a .find-marking .ensures) (decodable (entered a))
 
 returns : tie.Need-returns
 unfolding findCall
 returns c =
-    let s = c .before .before .before .before .before .before .before .before .before .before in
+    let a = c .before .before .before in
+    let g = a .find-marking .ensures in
     let n = c .found-code .ensures in
-    let g = c .before .before .before .find-marking .ensures in (
-      rw n (ap foundTold g),
-      ap (decoded oneValue never) (n ∙ ap (λ (x : Given). coded (said (x .result))) g) ∙ told-back oneValue never _ (find-told (s .args .edition) (now (s .args .starts)) (given s) (s .args .count) (small s) (s .args .prefix) (now (s .args .output))),
-    )
+    (rw n (ap foundFilled g), call-decoded saidBy oneValue never g (decodable (entered a)) n)
 
 pub sendoshi-find-spec : {M : Type 1} → statement M
 sendoshi-find-spec =

@@ -1,41 +1,49 @@
 -- `sendoshi::sendoshi_straighten` meets its contract.
 -- Assumes nothing.
-use mathlib.Core.Path.{_≡_, sym, ap, subst, _∙_}
-use Prim.Native.Nat.{_≤_}
+use mathlib.Core.Path.{ap}
 use native.Mathlib.Omega.{arith}
 use Rattle.log.specs.Columns.{Columns, columns}
-use Rattle.straighten.specs.Answer.{Given, said}
-use Rattle.codes.specs.Codes.{most, coded, Known}
-use Rattle.codes.specs.Decoded.{decoded, twoValues, ofMarking}
-use Rattle.codes.proofs.CodeLaws.{told-back}
-use Rattle.sendoshi.specs.Calls.{straightenTold, straightenCall}
-use Rattle.sendoshi.proofs.Bounds.{straighten-told}
+use Rattle.events.specs.Said.{Said}
+use Rattle.straighten.specs.Answer.{Given, straightenedAnswer, said}
+use Rattle.codes.specs.Decoded.{twoValues, ofMarking}
+use Rattle.codes.proofs.CodeLaws.{Decodable, answer-known, call-decoded}
+use Rattle.sendoshi.specs.Calls.{straightenFilled, straightenCall}
+use Rattle.sendoshi.proofs.Bounds.{straighten-decodable}
 use denote.Ref.{now}
 use borrow.Author.Needs.{needs}
 use Rattle.sendoshi.proofs.sendoshi_straighten.Statement.{statement}
 use Rattle.sendoshi.proofs.sendoshi_straighten.Tie as tie
 
-abbrev given : tie.Start → Columns
-given s = columns (now (s .args .kinds)) (now (s .args .transactions)) (now (s .args .registers)) (now (s .args .values))
+-- the columns as they are lent
+abbrev lent : tie.Start → Columns
+lent s = columns (now (s .args .kinds)) (now (s .args .transactions)) (now (s .args .registers)) (now (s .args .values))
 
--- the count is what its type holds
-small : (s : tie.Start) → s .args .count ≤ most
-small s = omega (arith, s .fits .count .fits)
+-- where the columns and the file are known, and where the answer is given
+abbrev read-only : tie.After-shared-slice-known5 → tie.Start
+read-only c = c .before .before .before .before .before
+
+abbrev entered : tie.After-straighten → tie.Start
+entered c = read-only (c .before .before .before .before .before)
+
+abbrev saidBy : Given → Said
+saidBy a = said (a .result)
+
+decodable : (s : tie.Start) → Decodable twoValues ofMarking (saidBy (straightenedAnswer (s .args .edition) (now (s .args .starts)) (lent s) (s .args .count)
+    (now (s .args .file)) (now (s .args .output)) (now (s .args .moved))))
+decodable s =
+    straighten-decodable (s .args .edition) (now (s .args .starts)) (lent s) (s .args .count) (omega (arith, s .fits .count .fits))
+    (now (s .args .file)) (now (s .args .output)) (now (s .args .moved))
 
 straighten-code-requires : tie.Need-straighten-code-requires
-straighten-code-requires c κs =
-    let s = c .before .before .before .before .before .before .before .before .before .before .before .before .before .before in
-    subst (λ (x : Given). Known (said (x .result))) (sym (c .before .before .before .before .straighten .ensures)) (straighten-told (s .args .edition) (now (s .args .starts)) (given s) (s .args .count) (small s) (now (s .args .file)) (now (s .args .output)) (now (s .args .moved)) .0)
+straighten-code-requires c κs = let a = c .before .before .before .before in answer-known saidBy twoValues ofMarking (a .straighten .ensures) (decodable (entered a))
 
 returns : tie.Need-returns
 unfolding straightenCall
 returns c =
-    let s = c .before .before .before .before .before .before .before .before .before .before .before .before .before .before .before in
+    let a = c .before .before .before .before .before in
+    let g = a .straighten .ensures in
     let n = c .straighten-code .ensures in
-    let g = c .before .before .before .before .before .straighten .ensures in (
-      rw n (ap straightenTold g),
-      ap (decoded twoValues ofMarking) (n ∙ ap (λ (x : Given). coded (said (x .result))) g) ∙ told-back twoValues ofMarking _ (straighten-told (s .args .edition) (now (s .args .starts)) (given s) (s .args .count) (small s) (now (s .args .file)) (now (s .args .output)) (now (s .args .moved))),
-    )
+    (rw n (ap straightenFilled g), call-decoded saidBy twoValues ofMarking g (decodable (entered a)) n)
 
 pub sendoshi-straighten-spec : {M : Type 1} → statement M
 sendoshi-straighten-spec =

@@ -1,39 +1,33 @@
 -- `sendoshi::sendoshi_tally` meets its contract.
 -- Assumes nothing.
-use mathlib.Core.Path.{_≡_, sym, ap, subst, _∙_}
-use Prim.Native.Nat.{_≤_}
 use native.Mathlib.Omega.{arith}
 use Rattle.log.specs.Columns.{Columns, columns}
-use Rattle.counts.specs.declared.Tallying.{Tallying}
-use Rattle.counts.specs.Answer.{tallySaid}
-use Rattle.codes.specs.Codes.{most, coded, Known}
-use Rattle.codes.specs.Decoded.{decoded, fourValues, never}
-use Rattle.codes.proofs.CodeLaws.{told-back}
+use Rattle.counts.specs.Answer.{tallyAnswer, tallySaid}
+use Rattle.codes.specs.Decoded.{fourValues, never}
+use Rattle.codes.proofs.CodeLaws.{Decodable, answer-known, call-coded, call-decoded}
 use Rattle.sendoshi.specs.Calls.{tallyCall}
-use Rattle.sendoshi.proofs.Bounds.{tally-told}
+use Rattle.sendoshi.proofs.Bounds.{tally-decodable}
 use denote.Ref.{now}
 use borrow.Author.Needs.{needs}
 use Rattle.sendoshi.proofs.sendoshi_tally.Statement.{statement}
 use Rattle.sendoshi.proofs.sendoshi_tally.Tie as tie
 
-abbrev given : tie.Start → Columns
-given s = columns (now (s .args .kinds)) (now (s .args .transactions)) (now (s .args .registers)) (now (s .args .values))
+-- the columns as they are lent
+abbrev lent : tie.Start → Columns
+lent s = columns (now (s .args .kinds)) (now (s .args .transactions)) (now (s .args .registers)) (now (s .args .values))
 
--- the count is what its type holds
-small : (s : tie.Start) → s .args .count ≤ most
-small s = omega (arith, s .fits)
+decodable : (s : tie.Start) → Decodable fourValues never (tallySaid (tallyAnswer (lent s) (s .args .count)))
+decodable s = tally-decodable (lent s) (s .args .count) (omega (arith, s .fits))
 
 tally-code-requires : tie.Need-tally-code-requires
-tally-code-requires c κs =
-    let s = c .before .before .before .before .before in
-    subst (λ (x : Tallying). Known (tallySaid x)) (sym (c .tally-transactions .ensures)) (tally-told (given s) (s .args .count) (small s) .0)
+tally-code-requires c κs = answer-known tallySaid fourValues never (c .tally-transactions .ensures) (decodable (c .before .before .before .before .before))
 
 returns : tie.Need-returns
 unfolding tallyCall
 returns c =
-    let s = c .before .before .before .before .before .before in
-    let e = c .tally-code .ensures ∙ ap (λ (x : Tallying). coded (tallySaid x)) (c .before .tally-transactions .ensures) in
-    (e, ap (decoded fourValues never) e ∙ told-back fourValues never _ (tally-told (given s) (s .args .count) (small s)))
+    let g = c .before .tally-transactions .ensures in
+    let d = decodable (c .before .before .before .before .before .before) in
+    (call-coded tallySaid fourValues never g d (c .tally-code .ensures), call-decoded tallySaid fourValues never g d (c .tally-code .ensures))
 
 pub sendoshi-tally-spec : {M : Type 1} → statement M
 sendoshi-tally-spec = tie.close (tie.spec (λ c κs. search needs) tally-code-requires returns)

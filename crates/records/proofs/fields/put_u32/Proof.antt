@@ -10,12 +10,20 @@ use mathlib.Core.List.{List}
 use Rattle.records.proofs.fields.put_u32.Statement.{statement}
 use Rattle.records.proofs.fields.put_u32.Tie as tie
 
+-- where the low half was put, and the call
+abbrev low-half : tie.After-slice-known3 → tie.After-put-u16
+low-half c = c .before .before .before .before .before .before
+
+abbrev entered : tie.After-put-u16 → tie.Start
+entered c = c .before .before .before
+
 returns : tie.Need-returns
 returns c =
-    let a = c .before .before .before .before .before .before .before .before .before .args in
+    let s = entered (low-half c) in
+    let a = s .args in
     c .before .before .put-u162 .ensures
-    ∙ (ap (λ (l : List ℕ). placed l (a .at + 2) (u16Bytes (a .x / 65536))) (c .before .before .before .before .before .before .put-u16 .ensures)
-    ∙ placed-more (now (a .out)) (a .at) (u16Bytes (a .x % 65536)) (u16Bytes (a .x / 65536)) (a .at + 2) refl (let h = c .before .before .before .before .before .before .before .before .before .pre in omega arith))
+    ∙ (ap (λ (l : List ℕ). placed l (a .at + 2) (u16Bytes (a .x / 65536))) (low-half c .put-u16 .ensures)
+    ∙ placed-more (now (a .out)) (a .at) (u16Bytes (a .x % 65536)) (u16Bytes (a .x / 65536)) _ refl (omega (arith, s .pre)))
 
 pub put-u32-spec : {M : Type 1} → statement M
 put-u32-spec =
