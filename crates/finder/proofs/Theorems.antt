@@ -32,7 +32,8 @@ use Rattle.log.proofs.CallLaws.{asked-yes, asked-no, then-then}
 use Rattle.finder.specs.declared.Finding.{Finding}
 use Rattle.finder.specs.Answer.{Given, gives, said, Passed, decided, prefixRefusal, callRefusal, findRefusal, lowestMarking, foundAnswer, firstEditionRefusal, firstEditionAnswer}
 use Rattle.finder.specs.Words.{Passes, Found, Written}
-use Rattle.finder.proofs.AnswerLaws.{said-marking, said-none, said-refused, passes, decided-refused, decided-marking, decided-none, marking-e, none-e, refused-e, passed, marking-some, some-marking, none-marking, marking-none}
+use Rattle.finder.proofs.AnswerLaws.{said-marking, said-none, said-refused, passes, decided-refused, decided-marking, decided-none}
+use Rattle.finder.proofs.AnswerLaws.{marking-e, none-e, refused-e, passed, marking-some, some-marking, none-marking, marking-none}
 
 -- a call: edition, start values, columns, count, prefix length, and the output as it was
 module _ (edition : ℕ) (starts : List ℕ) (c : Columns) (count prefix : ℕ) (output : List ℕ) where
@@ -59,7 +60,8 @@ module _ (edition : ℕ) (starts : List ℕ) (c : Columns) (count prefix : ℕ) 
   refused-unchanged r x = refused-e _ _ output r x .1
 
   -- A marking is found exactly where the prefix has a justification,
-  pub marking-exactly : Passes edition starts c count prefix output → ((n : ℕ) × (foundAnswer edition starts c count prefix output .result ≡ Finding.Marking n)) ↔ ((J : List Place) × Justified (startOf starts) judged J)
+  pub marking-exactly : Passes edition starts c count prefix output
+      → ((n : ℕ) × (foundAnswer edition starts c count prefix output .result ≡ Finding.Marking n)) ↔ ((J : List Place) × Justified (startOf starts) judged J)
   unfolding foundAnswer
   marking-exactly x = (
     λ w.
@@ -73,7 +75,8 @@ module _ (edition : ℕ) (starts : List ℕ) (c : Columns) (count prefix : ℕ) 
   )
 
   -- and none exactly where it has none; with none the output is as it was.
-  pub none-exactly : Passes edition starts c count prefix output → (foundAnswer edition starts c count prefix output .result ≡ Finding.None) ↔ ((J : List Place) → Justified (startOf starts) judged J → ⊥)
+  pub none-exactly : Passes edition starts c count prefix output
+      → (foundAnswer edition starts c count prefix output .result ≡ Finding.None) ↔ ((J : List Place) → Justified (startOf starts) judged J → ⊥)
   unfolding foundAnswer
   none-exactly x =
       let e = lowest-none (startOf starts) judged (judged-readable x) in (
@@ -174,15 +177,18 @@ result-same Checked.Readable (some bytes) o p = refl
 
 -- What stands in the columns past the count, and what the output held, make no difference: columns that hold the same events below the
 -- count, and an output of the same length, give the same result.
-pub past-count : (edition : ℕ) (starts : List ℕ) (c d : Columns) (count prefix : ℕ) (output before : List ℕ) → hold c count ≡ hold d count → history c count ≡ history d count → length output ≡ length before
+pub past-count : (edition : ℕ) (starts : List ℕ) (c d : Columns) (count prefix : ℕ) (output before : List ℕ)
+    → hold c count ≡ hold d count → history c count ≡ history d count → length output ≡ length before
     → foundAnswer edition starts c count prefix output .result ≡ foundAnswer edition starts d count prefix before .result
 unfolding foundAnswer
 past-count edition starts c d count prefix output before e f g =
-    ap₂ (λ (x : Checked) (m : Option (List ℕ)). decided x m output .result) (refusal-same edition starts c d count prefix e f g) (ap (λ (h : List Event). lowestMarking (startOf starts) (take prefix h)) f)
+    ap₂ (λ (x : Checked) (m : Option (List ℕ)). decided x m output .result) (refusal-same edition starts c d count prefix e f g)
+    (ap (λ (h : List Event). lowestMarking (startOf starts) (take prefix h)) f)
     ∙ result-same (findRefusal edition starts d count prefix (length before)) (lowestMarking (startOf starts) (take prefix (history d count))) output before
 
 -- and the same bytes, where they are a marking of length n
-pub past-count-bytes : (edition : ℕ) (starts : List ℕ) (c d : Columns) (count prefix : ℕ) (output before : List ℕ) (n : ℕ) → hold c count ≡ hold d count → history c count ≡ history d count → length output ≡ length before
+pub past-count-bytes : (edition : ℕ) (starts : List ℕ) (c d : Columns) (count prefix : ℕ) (output before : List ℕ) (n : ℕ)
+    → hold c count ≡ hold d count → history c count ≡ history d count → length output ≡ length before
     → foundAnswer edition starts c count prefix output .result ≡ Finding.Marking n
     → take n (foundAnswer edition starts c count prefix output .output) ≡ take n (foundAnswer edition starts d count prefix before .output)
 past-count-bytes edition starts c d count prefix output before n e f g x =
@@ -190,7 +196,8 @@ past-count-bytes edition starts c d count prefix output before n e f g x =
     let w = written edition starts d count prefix before n (sym (past-count edition starts c d count prefix output before e f g) ∙ x) in
     let h : take prefix (history c count) ≡ take prefix (history d count) = ap (take prefix) f in
     let l : LowestJustified (startOf starts) (take prefix (history c count)) (w .order) = subst (λ (y : List Event). LowestJustified (startOf starts) y (w .order)) (sym h) (w .lowest) in
-    let o : v .order ≡ w .order = lowest-unique (startOf starts) (take prefix (history c count)) (judged-readable edition starts c count prefix output (v .passes)) (v .order) (w .order) (v .lowest) l in
+    let o : v .order ≡ w .order =
+    lowest-unique (startOf starts) (take prefix (history c count)) (judged-readable edition starts c count prefix output (v .passes)) (v .order) (w .order) (v .lowest) l in
     v .bytes ∙ (ap₂ (λ (y : List Event) (J : List Place). markingBytes (marked y J)) h o ∙ sym (w .bytes))
 
 -- ---- edition 1

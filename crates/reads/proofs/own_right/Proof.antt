@@ -36,15 +36,20 @@ event-at-requires-2 c κs =
     let s = c .before .before .before .before .before in
     omega (arith, s .pre .0 .earlier (s .args .i) (omega (arith, logged-length (s .args .log .now))))
 
+-- where the event is known, and what it wrote before
+abbrev taken : tie.After-is-read → tie.After-event-at
+taken c = c .before
+
 returns-3 : tie.Need-returns-3
 returns-3 c =
-    let s = c .before .before .before .before .before .before .before .before in
+    let q = c .before .before .before .before in
+    let s = taken q .before .before .before in
     let h = logged (s .args .log .now) in
     let l : s .args .i < length h = omega (arith, logged-length (s .args .log .now)) in
     let r : isRead (eventAt h (s .args .i)) ≡ true =
-    ap isRead (sym (c .before .before .before .before .before .event-at .ensures)) ∙ (sym (c .before .before .before .before .is-read .ensures) ∙ not-false _ (c .before .before .before .if2 .left)) in
+    ap isRead (sym (taken q .event-at .ensures)) ∙ (sym (q .is-read .ensures) ∙ not-false _ (c .before .before .before .if2 .left)) in
     let e : getD (s .args .own .now) (s .args .i) 0 ≡ suc (getD (s .args .own .now) (s .args .i) 0 - 1) = omega arith in
-    rw (c .before .before .before .before .before .event-at .ensures, c .before .before .event-at2 .ensures)
+    rw (taken q .event-at .ensures, c .before .before .event-at2 .ensures)
     (sym (right-own h (s .args .own .now) (s .pre .0) (s .args .i) l (getD (s .args .own .now) (s .args .i) 0 - 1) e r))
 
 pub own-right-spec : {M : Type 1} → statement M

@@ -21,6 +21,13 @@ Inv-loop starts out₀ at₀ r₀ out at r = (r ≤ 32) × (at ≡ 6 + length (s
 abbrev μ-loop : tie.MeasureT-loop
 μ-loop starts out₀ at₀ r₀ out at r = 32 - r
 
+-- where a turn begins, and the function's entry
+abbrev turn : tie.After-start-length Inv-loop μ-loop → tie.In-loop Inv-loop μ-loop
+turn c = c .before .before .before .before .before .before
+
+abbrev entered : tie.At-loop Inv-loop μ-loop → tie.Start Inv-loop μ-loop
+entered l = l .before .before
+
 -- the output is as long as it was, and has room for one record more
 long : (s : tie.Start Inv-loop μ-loop) (r : ℕ) (out : List ℕ) → r ≤ 32 → out ≡ placed (now (s .args .out)) 6 (startsTo (now (s .args .starts)) r) → length out ≡ length (now (s .args .out))
 long s r out l e =
@@ -47,26 +54,28 @@ put-start-requires c κs =
 add-at : tie.Need-add-at Inv-loop μ-loop
 unfolding startOf
 add-at c =
-    let s = c .before .before .before .before .before .before .before .before .before in
-    let l = c .before .before .before .before .before .before .before .loop in
-    omega (arith, l .inv .1, room s (l .r) (c .before .before .before .before .before .before .loop-test .taken), c .start-length .ensures .0 (l .r))
+    let t = turn c in
+    let s = entered (t .before) in
+    let l = t .before .loop in
+    omega (arith, l .inv .1, room s (l .r) (turn c .loop-test .taken), c .start-length .ensures .0 (l .r))
 
 add-r : tie.Need-add-r Inv-loop μ-loop
-add-r c = omega (arith, c .before .before .before .before .before .before .loop-test .taken)
+add-r c = omega (arith, turn c .loop-test .taken)
 
 loop-less : tie.Need-loop-less Inv-loop μ-loop
-loop-less c = omega (arith, c .before .before .before .before .before .before .loop-test .taken)
+loop-less c = omega (arith, turn c .loop-test .taken)
 
 loop-again : tie.Need-loop-again Inv-loop μ-loop
 unfolding startOf
 loop-again c =
-    let s = c .before .before .before .before .before .before .before .before .before in
-    let l = c .before .before .before .before .before .before .before .loop in
+    let t = turn c in
+    let s = entered (t .before) in
+    let l = t .before .loop in
     let v = now (s .args .starts) in
     let m = starts-more v (l .r) in
     let d = startRecord (l .r) (startOf v (l .r)) in
     let k = starts-grow v (l .r) 32 (l .inv .0) in (
-      omega (arith, c .before .before .before .before .before .before .loop-test .taken),
+      omega (arith, turn c .loop-test .taken),
       omega (arith, l .inv .1, ap length m, length-append (startsTo v (l .r)) d, c .start-length .ensures .0 (l .r)),
       c .before .before .before .put-start .ensures
           ∙ (ap (λ (o : List ℕ). placed o (l .at) d) (l .inv .2)
