@@ -1,23 +1,13 @@
 -- Vocabulary between crates: it need not be believed, the public contracts end in the paper's definitions.
 -- The marking that stands in arrays, as bytes.
 -- Assumes nothing.
-use Prim.Native.Nat.{ℕ, zero, suc}
+use Prim.Native.Nat.{ℕ}
 use mathlib.Core.Bool.{Bool, false}
-use mathlib.Core.List.{List, [], _∷_, _++_}
-use lib.Dec.{eqb}
+use mathlib.Core.List.{List, _++_}
 use lib.ListN.{getD}
-use Rattle.opacity.specs.Justification.{Place}
+use Rattle.opacity.specs.Arrays.{placesOf}
 use Rattle.opacity.specs.Marking.{markingHead, placeBytes, flat}
 use Rattle.marking_writer.specs.Points.{pointsTo}
-
--- the place of a number: a transaction, and whether its outcome is 1
-abbrev pub placeAt : List ℕ → List ℕ → ℕ → Place
-placeAt order outcomes k = record { transaction = getD order k 0; committed = eqb (getD outcomes k 0) 1 }
-
--- the first k places
-unfoldable pub placesIn : List ℕ → List ℕ → ℕ → List Place
-placesIn order outcomes zero = []
-placesIn order outcomes (suc k) = placesIn order outcomes k ++ (placeAt order outcomes k ∷ [])
 
 -- the points of the first n events
 abbrev pub pointsIn : List Bool → List ℕ → ℕ → List ℕ
@@ -25,4 +15,4 @@ pointsIn reads gaps n = pointsTo (λ i. getD reads i false) (λ i. getD gaps i 0
 
 -- head, places and points
 abbrev pub bytesIn : List ℕ → List ℕ → ℕ → List Bool → List ℕ → ℕ → List ℕ
-bytesIn order outcomes b reads gaps n = markingHead ++ (flat placeBytes (placesIn order outcomes b) ++ pointsIn reads gaps n)
+bytesIn order outcomes b reads gaps n = markingHead ++ (flat placeBytes (placesOf order outcomes b) ++ pointsIn reads gaps n)

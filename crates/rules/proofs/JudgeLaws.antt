@@ -25,11 +25,13 @@ use Rattle.links.specs.declared.tables.Fact.the-variants.{LastEvent, LastWrite,
 use Rattle.links.specs.Tables.{Tabled, slot, earlier}
 use Rattle.links.proofs.TableLaws.{precedes-table, status-table, last-event, first-begin}
 use Rattle.links.proofs.WriteLaws.{head-le}
-use Rattle.rules.specs.Orders.{placesOf, Inverse, Apart, writerAt, Writers, broken, allowsBy, outcomeBy, pairBy, realTimeBy}
+use Rattle.opacity.specs.Arrays.{placesOf}
+use Rattle.opacity.proofs.Arrays.{places-length}
+use Rattle.rules.specs.Orders.{Inverse, Apart, writerAt, Writers, broken, allowsBy, outcomeBy, pairBy, realTimeBy}
 use Rattle.rules.specs.Walks.{Pointable, noWriter, rightValue, pointRule}
 use Rattle.rules.specs.Judge.{content, Given, tried, readsVerdict}
 use Rattle.rules.proofs.Numbers.{none-of, some-of, every-ext, first-ext}
-use Rattle.rules.proofs.OrderLaws.{places-length, before-lower, outcome-of, inverse-place, order-low, order-apart}
+use Rattle.rules.proofs.OrderLaws.{before-lower, outcome-of, inverse-place, order-low, order-apart}
 use Rattle.rules.proofs.WalkLaws.{found-between, found-before}
 
 -- the order in the arrays

@@ -25,9 +25,11 @@ use Rattle.links.specs.Tables.{Tabled}
 use Rattle.lists.proofs.FilledLaws.{filled-at}
 use Rattle.links.specs.Writes.{writeFrom, plusOne, Linked}
 use Rattle.links.proofs.WriteLaws.{Followed, follow-start, follow-none, follow-found, follow-next, write-from, following-none}
-use Rattle.rules.specs.Orders.{placesOf, placeAt, Writers}
+use Rattle.opacity.specs.Arrays.{placesOf, placeAt}
+use Rattle.opacity.proofs.Arrays.{places-length}
+use Rattle.rules.specs.Orders.{Writers}
 use Rattle.rules.specs.Walks.{startAt, lastIn, Walkable, pointHolds, pointRule}
-use Rattle.rules.proofs.OrderLaws.{places-length, places-take, own-place}
+use Rattle.rules.proofs.OrderLaws.{places-take, own-place}
 
 module _ (h : List Event) (link writers : List ℕ) (own r lo : ℕ) where
   -- nothing below the lowest place

@@ -18,7 +18,7 @@ use Rattle.opacity.specs.Transactions.{isStoreRead, storeReads, ownRight}
 use Rattle.opacity.specs.Justification.{isOrder}
 use Rattle.opacity.specs.Marking.{Marking, broke}
 use Rattle.links.specs.Writes.{Linked}
-use Rattle.rules.specs.Orders.{placesOf}
+use Rattle.opacity.specs.Arrays.{placesOf}
 use Rattle.rules.specs.Walks.{hasPoint, pointRule}
 
 -- the marking that stands in the arrays

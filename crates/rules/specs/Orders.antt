@@ -1,25 +1,16 @@
 -- Vocabulary between crates: it need not be believed, the public contracts end in the paper's definitions.
 -- Orders of places in arrays, and the rules A and B by tables.
 -- Assumes nothing.
-use Prim.Native.Nat.{ℕ, zero, suc, _≤_, _<_}
+use Prim.Native.Nat.{ℕ, _≤_, _<_}
 use mathlib.Core.Path.{_≡_}
 use mathlib.Core.Bool.{Bool, true, not, cond}
-use mathlib.Core.List.{List, [], _∷_, _++_}
+use mathlib.Core.List.{List}
 use mathlib.Core.Option.{Option·getD}
 use lib.Dec.{eqb, ltb}
 use lib.ListN.{length, getD}
 use Rattle.lists.specs.Lists.{_implies_, first, every}
-use Rattle.opacity.specs.Justification.{Place}
 use Rattle.lists.specs.Filled.{Filled}
 use Rattle.links.specs.Tables.{earlier}
-
-abbrev pub placeAt : List ℕ → List ℕ → ℕ → Place
-placeAt order outcomes k = record { transaction = getD order k 0; committed = eqb (getD outcomes k 0) 1 }
-
--- the first k places
-unfoldable pub placesOf : List ℕ → List ℕ → ℕ → List Place
-placesOf order outcomes zero = []
-placesOf order outcomes (suc k) = placesOf order outcomes k ++ (placeAt order outcomes k ∷ [])
 
 -- the first b places hold transactions that have a slot, each once
 pub record Apart (order : List ℕ) (b : ℕ) : Type 0 where
