@@ -33,18 +33,18 @@ module _ (h : List Event) (i : ℕ) (inside : i < length h) where
   other-write t r d n = last-same h t r i inside false (isWrite (eventAt h i)) d refl refl ∙ n
 
   -- the one that it is of, by what is in the set afterwards
-  own-write : (t r x : ℕ) → eqb (eventAt h i .transaction) t ≡ true → (bitAt r x ≡ 0 → lastWrite (take i h) t r ≡ none)
-      → bitAt r (withWritten (eventAt h i) x) ≡ 0 → lastWrite (take (suc i) h) t r ≡ none
+  own-write : (t r x : ℕ) → eqb (eventAt h i .transaction) t ≡ true → ((bitAt r x ≡ 1 → ⊥) → lastWrite (take i h) t r ≡ none)
+      → (bitAt r (withWritten (eventAt h i) x) ≡ 1 → ⊥) → lastWrite (take (suc i) h) t r ≡ none
   unfolding _and_
   own-write t r x d before z = go (isWrite (eventAt h i)) refl z
     where
-      hit : (k : Bool) → cond k 1 (bitAt r x) ≡ 0 → orElse (cond k (some (eventAt h i .value)) none) (lastWrite (take i h) t r) ≡ none
-      hit true w = absurd (omega arith)
+      hit : (k : Bool) → (cond k 1 (bitAt r x) ≡ 1 → ⊥) → orElse (cond k (some (eventAt h i .value)) none) (lastWrite (take i h) t r) ≡ none
+      hit true w = absurd (w refl)
       hit false w = before w
 
-      go : (b : Bool) → isWrite (eventAt h i) ≡ b → bitAt r (cond b (bitOr x (2 ^ eventAt h i .register)) x) ≡ 0 → lastWrite (take (suc i) h) t r ≡ none
+      go : (b : Bool) → isWrite (eventAt h i) ≡ b → (bitAt r (cond b (bitOr x (2 ^ eventAt h i .register)) x) ≡ 1 → ⊥) → lastWrite (take (suc i) h) t r ≡ none
       go false e q = last-same h t r i inside true false d e refl ∙ before q
-      go true e q = last-write h t r i inside d e ∙ hit (eqb (eventAt h i .register) r) (sym (bit-with r (eventAt h i .register) x) ∙ q)
+      go true e q = last-write h t r i inside d e ∙ hit (eqb (eventAt h i .register) r) (λ m. q (bit-with r (eventAt h i .register) x ∙ m))
 
   pub sets-more : {table after : List ℕ} {e : Event} → e ≡ eventAt h i → e .transaction < 64 → after ≡ registered e table
       → Sets h i table → Sets h (i + 1) after
@@ -60,13 +60,13 @@ module _ (h : List Event) (i : ℕ) (inside : i < length h) where
       at : t ≡ eventAt h i .transaction
       at = ap (λ (x : Event). x .transaction) same
 
-      go : (u r : ℕ) → u < 64 → bitAt r (getD (set table t v) u 0) ≡ 0 → (c : Bool) → eqb (eventAt h i .transaction) u ≡ c → lastWrite (take (suc i) h) u r ≡ none
+      go : (u r : ℕ) → u < 64 → (bitAt r (getD (set table t v) u 0) ≡ 1 → ⊥) → (c : Bool) → eqb (eventAt h i .transaction) u ≡ c → lastWrite (take (suc i) h) u r ≡ none
       go u r l z true d =
           let k : u ≡ t = sym (at ∙ eqb-true _ _ d) in
           let here : getD (set table t v) u 0 ≡ withWritten (eventAt h i) (getD table u 0) =
           ap (λ (x : ℕ). getD (set table t v) x 0) k
           ∙ (getD-set-same table t v 0 (rw (w .size) b)
           ∙ (ap (λ (x : Event). withWritten x (getD table t 0)) same ∙ ap (λ (x : ℕ). withWritten (eventAt h i) (getD table x 0)) (sym k))) in
-          own-write u r (getD table u 0) d (w .unwritten u r l) (ap (bitAt r) (sym here) ∙ z)
+          own-write u r (getD table u 0) d (w .unwritten u r l) (λ m. z (ap (bitAt r) here ∙ m))
       go u r l z false d =
-          other-write u r d (w .unwritten u r l (ap (bitAt r) (sym (getD-set-other table t u v 0 (λ k. eqb-false _ _ d (sym at ∙ sym k)))) ∙ z))
+          other-write u r d (w .unwritten u r l (λ m. z (ap (bitAt r) (getD-set-other table t u v 0 (λ k. eqb-false _ _ d (sym at ∙ sym k))) ∙ m)))

@@ -27,7 +27,7 @@ registered e table = set table (e .transaction) (withWritten e (getD table (e .t
 -- by transaction a set of registers: to those outside it nothing is written by the first n events
 pub record Sets (h : List Event) (n : ℕ) (table : List ℕ) : Type 0 where
   pub size : length table ≡ 64
-  pub unwritten : (t r : ℕ) → t < 64 → bitAt r (getD table t 0) ≡ 0 → lastWrite (take n h) t r ≡ none
+  pub unwritten : (t r : ℕ) → t < 64 → (bitAt r (getD table t 0) ≡ 1 → ⊥) → lastWrite (take n h) t r ≡ none
 
 -- the tables after n events
 pub record Passed (h : List Event) (n : ℕ) (standing ended began written registers : List ℕ) : Type 0 where
