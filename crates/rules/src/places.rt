@@ -25,6 +25,7 @@ pub fn places_of(order: &[u16; 64], begun: usize) -> [u16; 64]
 pub type Writer = [u32; 2];
 
 pub const LAST: usize = 0;
+
 pub const REGISTERS: usize = 1;
 
 // A number as a field of a row, and back.

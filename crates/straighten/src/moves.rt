@@ -16,6 +16,7 @@ use links::tables::tables_of;
 use log::rows::Row;
 use log::rows::event_at;
 use opacity::verdict::Rule;
+use rules::places::Writer;
 use rules::places::places_of;
 use rules::places::writers_of;
 use rules::points::holds_at;
@@ -32,7 +33,7 @@ fn breaks(
     starts: &[u32; 32],
     log: &[Row],
     link: &[u16; 2048],
-    writers: &[u16; 64],
+    writers: &[Writer; 64],
     place: &[u16; 64],
     gaps: &[u16; 2048],
     i: usize,
@@ -54,7 +55,7 @@ fn moves_of(
     starts: &[u32; 32],
     log: &[Row],
     link: &[u16; 2048],
-    writers: &[u16; 64],
+    writers: &[Writer; 64],
     place: &[u16; 64],
     gaps: &[u16; 2048],
 ) -> [bool; 2048]
