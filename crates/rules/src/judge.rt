@@ -1,8 +1,8 @@
 // The verdict: the first rule that is broken, from A to E, with its event and transaction.
 ghost use mathlib.Core.Path.{_≡_};
 ghost use mathlib.Core.Bool.{true};
-ghost use Prim.Native.Nat.{_-_, _<_};
-ghost use lib.ListN.{length};
+ghost use Prim.Native.Nat.{ℕ, _-_, _≤_, _<_};
+ghost use lib.ListN.{length, getD};
 ghost use Rattle.events.specs.Events.{eventAt};
 ghost use Rattle.events.specs.Questions.{readable};
 ghost use Rattle.log.specs.Rows.{logged};
@@ -14,7 +14,7 @@ ghost use Rattle.reads.specs.Own.{OwnWrites};
 ghost use Rattle.links.specs.Tables.{slot};
 ghost use Rattle.rules.specs.Orders.{broken};
 ghost use Rattle.rules.specs.Walks.{Pointable};
-ghost use Rattle.rules.specs.Judge.{content, Given, readsVerdict};
+ghost use Rattle.rules.specs.Judge.{content, Given, placesVerdict, readsVerdict};
 use crate::order::rule_a;
 use crate::order::rule_b;
 use crate::places::Writer;
@@ -22,6 +22,7 @@ use crate::places::places_of;
 use crate::places::writers_of;
 use crate::points::first_broken;
 use links::tables::Fact;
+use links::tables::Tables;
 use links::tables::table;
 use links::tables::tables_of;
 use links::tables::wide;
@@ -115,6 +116,33 @@ fn judge_reads(
     Verdict::Accepted
 }
 
+// Rules A and B.
+fn judge_places(
+    log: &[Row],
+    tables: Tables,
+    place: &[u16; 64],
+    outcomes: &[u8; 64],
+    begun: usize,
+) -> Verdict
+    requires { ⌜ readable (logged (now log)) ≡ true ⌝ }
+    requires { ⌜ begun ≤ 64 ⌝ }
+    requires { ⌜ ((t : ℕ) → getD (now place) t 0 < 64) ⌝ }
+    ensures { λ v. ⌜ v ≡ placesVerdict (logged (now (log .entry))) tables (now (place .entry)) (now (outcomes .entry)) begun ⌝ }
+{
+    let standing = tables.standing;
+    let t = rule_a(&standing, place, outcomes, begun);
+    if t < begun {
+        return broken_by(Rule::A, log, Fact::LastEvent, t);
+    }
+    let ended = tables.ended;
+    let began = tables.began;
+    let u = rule_b(&ended, &began, place, begun);
+    if u < begun {
+        return broken_by(Rule::B, log, Fact::FirstBegin, u);
+    }
+    Verdict::Accepted
+}
+
 // The verdict on a readable marking of a readable history, whose own writes are found and whose
 // writes are linked.
 pub fn judge(
@@ -134,16 +162,17 @@ pub fn judge(
     let begun = transactions_begun(log);
     let place = places_of(order, begun);
     let tables = tables_of(log);
-    let standing = tables.standing;
-    let t = rule_a(&standing, &place, outcomes, begun);
-    if t < begun {
-        return broken_by(Rule::A, log, Fact::LastEvent, t);
-    }
-    let ended = tables.ended;
-    let began = tables.began;
-    let u = rule_b(&ended, &began, &place, begun);
-    if u < begun {
-        return broken_by(Rule::B, log, Fact::FirstBegin, u);
+    let placed = judge_places(log, tables, &place, outcomes, begun);
+    if let Verdict::Broken {
+        rule,
+        event,
+        transaction,
+    } = placed {
+        return Verdict::Broken {
+            rule,
+            event,
+            transaction,
+        };
     }
     let written = tables.written;
     let registers = tables.registers;

@@ -1,100 +1,71 @@
--- `judge` meets its contract: A, B and then the rules of reads, by the tables.
+-- `judge` meets its contract: A and B, and then the rules of reads, by the tables.
 -- Assumes nothing.
-use Prim.Native.Nat.{_≤_}
-use mathlib.Core.Path.{_∙_}
+use mathlib.Core.Path.{sym, _∙_}
 use native.Mathlib.Omega.{arith}
 use borrow.Author.Needs.{needs}
 use Rattle.log.specs.Starts.{startOf}
-use Rattle.rules.proofs.JudgeLaws.{few-begun, all-apart, all-pointable, verdict-a, verdict-b, verdict-reads}
-use borrow.Author.Needs.{needs}
+use Rattle.rules.proofs.JudgeLaws.{few-begun, all-apart, all-pointable, verdict-broken, verdict-reads}
 use Rattle.rules.proofs.judge.judge.Statement.{statement}
 use Rattle.rules.proofs.judge.judge.Tie as tie
 
--- after rule A: where the tables, the places and the number of transactions are known, and the function's entry
-abbrev tabled : tie.After-rule-a → tie.After-tables-of
-tabled a = a .before .before .before .before
+-- after rules A and B: where the tables, the places and the number of transactions are known, and the function's entry
+abbrev tabled : tie.After-judge-places → tie.After-tables-of
+tabled p = p .before .before
 
-abbrev placed : tie.After-rule-a → tie.After-places-of
-placed a = tabled a .before
+abbrev placed : tie.After-judge-places → tie.After-places-of
+placed p = tabled p .before
 
-abbrev begun : tie.After-rule-a → tie.After-transactions-begun
-begun a = placed a .before
+abbrev begun : tie.After-judge-places → tie.After-transactions-begun
+begun p = placed p .before
 
-abbrev entered : tie.After-rule-a → tie.Start
-entered a = begun a .before
+abbrev entered : tie.After-judge-places → tie.Start
+entered p = begun p .before
 
--- after rule B: where rule A holds
-abbrev kept : tie.After-rule-b → tie.Else1
-kept b = b .before .before .before .before .before .before
-
--- after the writers: where rule B holds
-abbrev timely : tie.After-writers-of → tie.Else2
-timely w = w .before .before .before .before .before
-
-few : (b : tie.After-transactions-begun) → b .transactions-begun .result ≤ 64
-few b = omega (arith, b .transactions-begun .ensures, few-begun (b .before .pre .1))
+-- after the writers: where A and B hold
+abbrev kept : tie.After-writers-of → tie.After-enum-told
+kept w = w .before .before .before .before .before
 
 places-of-requires : tie.Need-places-of-requires
 places-of-requires c κs = all-apart (c .before .pre .1) (c .transactions-begun .ensures)
 
-rule-a-requires : tie.Need-rule-a-requires
-rule-a-requires c κs = let p = c .before .before .before .before in (few (p .before), p .places-of .ensures .low)
-
-broken-by-requires : tie.Need-broken-by-requires
-broken-by-requires c κs = let a = c .before in (entered a .pre .1 .readable, omega (arith, few (begun a), c .if1 .taken))
+judge-places-requires : tie.Need-judge-places-requires
+judge-places-requires c κs =
+    let p = c .before .before in
+    let b = p .before in
+    let y = b .before .pre .1 in
+    (y .readable, (omega (arith, b .transactions-begun .ensures, few-begun y), p .places-of .ensures .low))
 
 returns : tie.Need-returns
 returns c =
-    let a = c .before .before in
-    let s = entered a in
-    c .broken-by .ensures
-    ∙ verdict-a (s .pre .1) (begun a .transactions-begun .ensures) (placed a .places-of .ensures) (startOf (s .args .starts .now))
-    (tabled a .tables-of .ensures .stood) (a .rule-a .ensures) (c .before .if1 .taken)
-
-rule-b-requires : tie.Need-rule-b-requires
-rule-b-requires c κs = few (begun (c .before .before .before .before .before .before))
-
-broken-by-requires-2 : tie.Need-broken-by-requires-2
-broken-by-requires-2 c κs = let a = kept (c .before) .before in (entered a .pre .1 .readable, omega (arith, few (begun a), c .if2 .taken))
-
-returns-2 : tie.Need-returns-2
-returns-2 c =
-    let b = c .before .before in
-    let a = kept b .before in
-    let s = entered a in
-    let t = tabled a .tables-of .ensures in
-    c .broken-by2 .ensures
-    ∙ verdict-b (s .pre .1) (begun a .transactions-begun .ensures) (placed a .places-of .ensures) (startOf (s .args .starts .now))
-    (t .stood) (a .rule-a .ensures) (kept b .if1 .left) (t .ends) (t .begins) (b .rule-b .ensures) (c .before .if2 .taken)
+    let p = c .before .before .before in
+    let s = entered p in
+    verdict-broken (s .pre .1) (begun p .transactions-begun .ensures) (placed p .places-of .ensures) (startOf (s .args .starts .now)) (tabled p .tables-of .ensures)
+    (sym (p .judge-places .ensures) ∙ c .before .placed .given .1)
 
 writers-of-requires : tie.Need-writers-of-requires
 writers-of-requires c κs =
-    let a = kept (c .before .before .before .before .before) .before in
-    all-apart (entered a .pre .1) (begun a .transactions-begun .ensures)
+    let p = c .before .before .before .before .before .before in
+    all-apart (entered p .pre .1) (begun p .transactions-begun .ensures)
 
 judge-reads-requires : tie.Need-judge-reads-requires
 judge-reads-requires c κs =
     let w = c .before .before in
-    let a = kept (timely w .before) .before in
-    let s = entered a in
-    let t = tabled a .tables-of .ensures in
-    (s .pre .0, all-pointable (s .pre .1) (begun a .transactions-begun .ensures) (placed a .places-of .ensures) (t .writes) (t .sets) (w .writers-of .ensures))
+    let p = kept w .before .before in
+    let s = entered p in
+    let t = tabled p .tables-of .ensures in
+    (s .pre .0, all-pointable (s .pre .1) (begun p .transactions-begun .ensures) (placed p .places-of .ensures) (t .writes) (t .sets) (w .writers-of .ensures))
 
-returns-3 : tie.Need-returns-3
-returns-3 c =
+returns-2 : tie.Need-returns-2
+returns-2 c =
     let w = c .before .before .before in
-    let b = timely w .before in
-    let a = kept b .before in
-    let s = entered a in
-    let t = tabled a .tables-of .ensures in
+    let p = kept w .before .before in
+    let s = entered p in
     c .judge-reads .ensures
-    ∙ verdict-reads (s .pre .1) (begun a .transactions-begun .ensures) (placed a .places-of .ensures) (startOf (s .args .starts .now))
-    (t .stood) (a .rule-a .ensures) (kept b .if1 .left) (t .ends) (t .begins) (b .rule-b .ensures)
-    (timely w .if2 .left) (t .writes) (t .sets) (w .writers-of .ensures)
+    ∙ verdict-reads (s .pre .1) (begun p .transactions-begun .ensures) (placed p .places-of .ensures) (startOf (s .args .starts .now)) (tabled p .tables-of .ensures)
+    (sym (p .judge-places .ensures) ∙ kept w .enum-told .given .1) (w .writers-of .ensures)
 
 pub judge-spec : {M : Type 1} → statement M
 judge-spec =
     tie.close
-    (tie.spec (λ c κs. search needs) places-of-requires (λ c κs. search needs) rule-a-requires
-    broken-by-requires returns rule-b-requires broken-by-requires-2 returns-2 writers-of-requires
-    judge-reads-requires returns-3)
+    (tie.spec (λ c κs. search needs) places-of-requires (λ c κs. search needs) judge-places-requires
+    (λ c. search needs) returns (λ c. search needs) writers-of-requires judge-reads-requires returns-2)
