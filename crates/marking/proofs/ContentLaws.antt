@@ -24,7 +24,7 @@ use Rattle.opacity.proofs.Bounds.{at-most-64}
 use Rattle.opacity.specs.Transactions.{isStoreRead, storeReads}
 use Rattle.opacity.specs.Justification.{isOrder}
 use Rattle.opacity.specs.Marking.{Marking, Point, ReadableFor}
-use Rattle.rules.specs.Orders.{placesOf}
+use Rattle.opacity.specs.Arrays.{placesOf}
 use Rattle.marking.specs.declared.step.Step.{Step}
 use Rattle.marking.specs.declared.step.Step.the-variants.{Placed, Pointed, Refused, Unfinished, Finished}
 use Rattle.marking.specs.File.{Known, known, asked, everyPointed, stepAt, content, refused, goOn, walk, opening, afterOpening, fileRead}

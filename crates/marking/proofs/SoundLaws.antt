@@ -21,9 +21,9 @@ use Rattle.events.proofs.QuestionLaws.{head-yes}
 use Rattle.opacity.specs.Justification.{Place, isOf, placed, distinct, isOrder}
 use Rattle.opacity.specs.Marking.{Point}
 use Rattle.opacity.proofs.Orders.{distinct-snoc, fills, filled as full}
-use Rattle.rules.specs.Orders.{placesOf, placeAt}
+use Rattle.opacity.specs.Arrays.{placesOf, placeAt}
 use Rattle.rules.proofs.Numbers.{every-ext}
-use Rattle.rules.proofs.OrderLaws.{places-length}
+use Rattle.opacity.proofs.Arrays.{places-length}
 use Rattle.marking.specs.File.{asked, nextEvent, everyPlaced, hasPoint, everyPointed, stepAt, withPlace, withPoint, nothingRead}
 use Rattle.marking.specs.State.{knownBy, pointBy, askedBy, placeQuestions, pointQuestions, pointIn, pointsOf, soFar, Sound}
 

@@ -11,7 +11,7 @@ use Rattle.lists.specs.Lists.{_and_, _implies_, all}
 use Rattle.events.specs.Questions.{Question, ask, refusal}
 use Rattle.opacity.specs.Justification.{placed, distinct, isOrder}
 use Rattle.opacity.specs.Marking.{Marking, Point}
-use Rattle.rules.specs.Orders.{placesOf}
+use Rattle.opacity.specs.Arrays.{placesOf}
 use Rattle.marking.specs.declared.read.Reading.{Reading}
 use Rattle.marking.specs.declared.step.Step.{Step}
 use Rattle.marking.specs.declared.step.Step.the-variants.{Placed, Pointed, Refused}

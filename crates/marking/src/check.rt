@@ -51,7 +51,8 @@ pub fn check_log(starts: &[u32; 32], log: &[Row], file: &[u8]) -> Ruling
             at: reading.byte,
         });
     }
-    let link = links(log);
+    let mut link = [0u16; 2048];
+    links(log, &mut link);
     let order = reading.order;
     let outcomes = reading.outcomes;
     let gaps = reading.gaps;

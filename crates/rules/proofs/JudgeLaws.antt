@@ -5,7 +5,7 @@ use native.Mathlib.Omega.{arith}
 use mathlib.Core.Path.{_≡_, refl, sym, ap, _∙_, subst}
 use mathlib.Core.Bool.{Bool, true, false, not, cond}
 use mathlib.Core.List.{List}
-use mathlib.Core.Option.{Option, none, Option·getD}
+use mathlib.Core.Option.{Option, none, some, Option·getD}
 use lib.Dec.{eqb, ltb}
 use lib.ListN.{length, getD, take}
 use borrow.Author.Tests.{ltb-true}
@@ -23,14 +23,18 @@ use Rattle.opacity.proofs.Bounds.{at-most-64, transaction-known}
 use Rattle.opacity.proofs.Finder.{gap-marked, before-le}
 use Rattle.links.specs.declared.tables.Fact.the-variants.{LastEvent, LastWrite, LastBegin, FirstBegin, FirstEnd, Standing}
 use Rattle.links.specs.Tables.{Tabled, slot, earlier}
+use Rattle.links.specs.declared.tables.Tables.{Tables}
+use Rattle.links.specs.Registers.{Sets, AllTabled}
 use Rattle.links.proofs.TableLaws.{precedes-table, status-table, last-event, first-begin}
 use Rattle.links.proofs.WriteLaws.{head-le}
-use Rattle.rules.specs.Orders.{placesOf, Inverse, Apart, writerAt, Writers, broken, allowsBy, outcomeBy, pairBy, realTimeBy}
+use Rattle.opacity.specs.Arrays.{placesOf}
+use Rattle.opacity.proofs.Arrays.{places-length}
+use Rattle.rules.specs.Orders.{Inverse, Apart, writer, lastOf, writerAt, Writers, broken, allowsBy, outcomeBy, pairBy, realTimeBy}
 use Rattle.rules.specs.Walks.{Pointable, noWriter, rightValue, pointRule}
-use Rattle.rules.specs.Judge.{content, Given, tried, readsVerdict}
+use Rattle.rules.specs.Judge.{content, Given, placesVerdict, andThen, tried, readsVerdict}
 use Rattle.rules.proofs.Numbers.{none-of, some-of, every-ext, first-ext}
-use Rattle.rules.proofs.OrderLaws.{places-length, before-lower, outcome-of, inverse-place, order-low, order-apart}
-use Rattle.rules.proofs.WalkLaws.{found-between, found-before}
+use Rattle.rules.proofs.OrderLaws.{before-lower, outcome-of, inverse-place, order-low, order-apart}
+use Rattle.rules.proofs.WalkLaws.{row-last, found-between, found-before}
 
 -- the order in the arrays
 abbrev pub orderIn : List Event → List ℕ → List ℕ → List Place
@@ -50,6 +54,10 @@ place-le t order outcomes b = let l = before-le t (placesOf order outcomes b) in
 own-same : (start : ℕ → ℕ) (h : List Event) (m : Marking) → ruleHolds start h m C ≡ ownRight h
 unfolding ruleHolds
 own-same start h m = refl
+
+-- rules C to E of the definition
+abbrev readsIn : (ℕ → ℕ) → List Event → Marking → Verdict
+readsIn start h m = tries start h m C (tries start h m D (tries start h m E Accepted))
 
 module _ {h : List Event} {link order outcomes gaps : List ℕ} (y : Given h link order outcomes gaps) where
   pub few-begun : begins h ≤ 64
@@ -112,23 +120,25 @@ module _ {h : List Event} {link order outcomes gaps : List ℕ} (y : Given h lin
       reader-same i l = inverse-place order outcomes (begins h) (y .ordered) place v (eventAt h i .transaction) (transaction-known h (y .readable) i l)
 
       -- rules D and E
-      module _ {last writers : List ℕ} (lasts : Tabled LastWrite h last) (table : Writers order outcomes last k writers) where
-        writing : Writers order outcomes last (begins h) writers
-        writing = subst (λ (x : ℕ). Writers order outcomes last x writers) ek table
+      module _ {last registers : List ℕ} {writers : List (List ℕ)} (lasts : Tabled LastWrite h last) (sets : Sets h (length h) registers)
+          (table : Writers order outcomes last registers k writers) where
+        writing : Writers order outcomes last registers (begins h) writers
+        writing = subst (λ (x : ℕ). Writers order outcomes last registers x writers) ek table
 
         pub all-pointable : Pointable h link writers place gaps
         all-pointable =
             record {
-              walk = record { readable = y .readable; linked = y .linked; low = λ k. rw (writing .holds k) (low k (ltb k (begins h)) refl) };
+              walk = record { readable = y .readable; linked = y .linked; low = λ k. rw (row-last writers k, writing .holds k) (low k (ltb k (begins h)) refl) };
               places-low = v .low;
               gaps-low = λ i l r. (let a = y .gaps-fit i l (sym (y .pointed i l) ∙ r) in let b = few-begun in omega arith);
             }
           where
-            one : (k : ℕ) (b : Bool) → getD order k 0 < 64 → cond b (getD last (getD order k 0) 0) 0 ≤ length h
+            one : (k : ℕ) (b : Bool) → getD order k 0 < 64
+                → lastOf (cond b (writer (getD last (getD order k 0) 0) (getD registers (getD order k 0) 0)) (writer 0 0)) ≤ length h
             one k true l = rw (lasts .holds (getD order k 0) l) (head-le h (getD order k 0) (length h))
             one k false l = omega arith
 
-            low : (k : ℕ) (b : Bool) → ltb k (begins h) ≡ b → cond b (writerAt order outcomes last k) 0 ≤ length h
+            low : (k : ℕ) (b : Bool) → ltb k (begins h) ≡ b → lastOf (cond b (writerAt order outcomes last registers k) (writer 0 0)) ≤ length h
             low k true e = one k (eqb (getD outcomes k 0) 1) (apart .low k (ltb-true k (begins h) e))
             low k false e = omega arith
 
@@ -147,7 +157,7 @@ module _ {h : List Event} {link order outcomes gaps : List ℕ} (y : Given h lin
               go false e = refl
               go true e =
                   rw (reader-same i l, gap-same i l e)
-                  (ap isNone (found-between h link last order outcomes writers (begins h) (y .linked) lasts (apart .low) writing (y .ordered)
+                  (ap isNone (found-between h link last registers order outcomes writers (begins h) (y .linked) lasts sets (apart .low) writing (y .ordered)
                   (eventAt h i .transaction) (eventAt h i .register) known
                   (getD gaps i 0) (placeOf (eventAt h i .transaction) (orderIn h order outcomes)) (y .gaps-fit i l e) (place-le (eventAt h i .transaction) order outcomes (begins h))))
 
@@ -163,56 +173,72 @@ module _ {h : List Event} {link order outcomes gaps : List ℕ} (y : Given h lin
               go true e =
                   rw (reader-same i l, gap-same i l e)
                   (ap (λ (o : Option ℕ). eqb (eventAt h i .value) (Option·getD o (start (eventAt h i .register))))
-                  (found-before h link last order outcomes writers (begins h) (y .linked) lasts (apart .low) writing (y .ordered)
+                  (found-before h link last registers order outcomes writers (begins h) (y .linked) lasts sets (apart .low) writing (y .ordered)
                   (eventAt h i .transaction) (eventAt h i .register) known (getD gaps i 0) (y .gaps-fit i l e)))
 
         -- rules C to E are those of the definition
         reads-same : (start : ℕ → ℕ) → readsVerdict start h link writers place gaps
-            ≡ tries start h (content h order outcomes gaps) C (tries start h (content h order outcomes gaps) D (tries start h (content h order outcomes gaps) E Accepted))
+            ≡ readsIn start h (content h order outcomes gaps)
         unfolding readsVerdict tried tries
         reads-same start =
             let free = first-ext (pointRule start h link writers place gaps D) (ruleHolds start h (content h order outcomes gaps) D) (length h) (λ i l. d-same start i l) in
             let right = first-ext (pointRule start h link writers place gaps E) (ruleHolds start h (content h order outcomes gaps) E) (length h) (λ i l. e-same start i l) in
             rw (free, right, own-same start h (content h order outcomes gaps))
 
-      -- the verdict with what each rule said
-      module _ (start : ℕ → ℕ) {standing : List ℕ} (s : Tabled Standing h standing) {t : ℕ} (et : t ≡ broken (outcomeBy standing place outcomes) k) where
-        abbrev judged : Verdict
-        judged = verdict start h (content h order outcomes gaps)
+      -- the verdict is that of rules A and B, and then that of the reads
+      module _ (start : ℕ → ℕ) {t : Tables} (tabled : AllTabled h t) where
+        abbrev m : Marking
+        m = content h order outcomes gaps
 
-        eta : t ≡ broken (outcomeBy standing place outcomes) (begins h)
-        eta = et ∙ ap (broken (outcomeBy standing place outcomes)) ek
+        agrees-a : first (λ k. not (outcomeBy (t .standing) place outcomes k)) (begins h) ≡ first (λ k. not (outcomeKept h (orderIn h order outcomes) k)) (begins h)
+        agrees-a =
+            first-ext (outcomeBy (t .standing) place outcomes) (outcomeKept h (orderIn h order outcomes)) (begins h)
+            (outcome-same (t .standing) place (tabled .stood) v)
 
-        agrees-a : first (λ k. not (outcomeBy standing place outcomes k)) (begins h) ≡ first (λ k. not (outcomeKept h (orderIn h order outcomes) k)) (begins h)
-        agrees-a = first-ext (outcomeBy standing place outcomes) (outcomeKept h (orderIn h order outcomes)) (begins h) (outcome-same standing place s v)
+        agrees-b : first (λ k. not (realTimeBy (t .ended) (t .began) place (begins h) k)) (begins h) ≡ first (λ k. not (realTimeKept h (orderIn h order outcomes) k)) (begins h)
+        agrees-b =
+            first-ext (realTimeBy (t .ended) (t .began) place (begins h)) (realTimeKept h (orderIn h order outcomes)) (begins h)
+            (real-time-same (t .ended) (t .began) place (tabled .ends) (tabled .begins) v)
 
-        pub verdict-a : t < k → Broken A (slot LastEvent h t (length h) - 1) t ≡ judged
-        unfolding verdict tries ruleHolds content broke
-        verdict-a l =
-            rw (sym agrees-a ∙ some-of (outcomeBy standing place outcomes) (begins h) t eta (omega arith)) (ap (λ (x : ℕ). Broken A x t) (last-event h t))
+        parts : andThen (placesVerdict h t place outcomes k) (readsIn start h m) ≡ verdict start h m
+        unfolding placesVerdict verdict tries ruleHolds content broke
+        parts =
+            ap (λ (x : ℕ). andThen (placesVerdict h t place outcomes x) (readsIn start h m)) ek
+            ∙ go (first (λ k. not (outcomeBy (t .standing) place outcomes k)) (begins h)) refl
+            (first (λ k. not (realTimeBy (t .ended) (t .began) place (begins h) k)) (begins h)) refl
+          where
+            go : (a : Option ℕ) → first (λ k. not (outcomeBy (t .standing) place outcomes k)) (begins h) ≡ a
+                → (b : Option ℕ) → first (λ k. not (realTimeBy (t .ended) (t .began) place (begins h) k)) (begins h) ≡ b
+                → andThen (broke a (λ x. Broken A (slot LastEvent h x (length h) - 1) x) (broke b (λ x. Broken B (slot FirstBegin h x (length h) - 1) x) Accepted)) (readsIn start h m)
+                ≡ verdict start h m
+            go (some x) e b f = rw (sym agrees-a ∙ e) (ap (λ (n : ℕ). Broken A n x) (last-event h x))
+            go none e (some x) f = rw (sym agrees-a ∙ e, sym agrees-b ∙ f) (ap (λ (n : ℕ). Broken B n x) (first-begin h x))
+            go none e none f = rw (sym agrees-a ∙ e, sym agrees-b ∙ f)
 
-        module _ (lt : k ≤ t) {ended began : List ℕ} (a : Tabled FirstEnd h ended) (b : Tabled LastBegin h began)
-            {u : ℕ} (eu : u ≡ broken (realTimeBy ended began place k) k) where
-          none-a : first (λ k. not (outcomeKept h (orderIn h order outcomes) k)) (begins h) ≡ none
-          none-a = sym agrees-a ∙ none-of (outcomeBy standing place outcomes) (begins h) t eta (omega arith)
+        pub verdict-broken : {r : Rule} {i x : ℕ} → placesVerdict h t place outcomes k ≡ Broken r i x → Broken r i x ≡ verdict start h (content h order outcomes gaps)
+        verdict-broken e = ap (λ (d : Verdict). andThen d (readsIn start h m)) (sym e) ∙ parts
 
-          etb : u ≡ broken (realTimeBy ended began place (begins h)) (begins h)
-          etb = eu ∙ ap (λ (x : ℕ). broken (realTimeBy ended began place x) x) ek
+        pub verdict-reads : placesVerdict h t place outcomes k ≡ Accepted → {writers : List (List ℕ)} → Writers order outcomes (t .written) (t .registers) k writers
+            → readsVerdict start h link writers place gaps ≡ verdict start h (content h order outcomes gaps)
+        verdict-reads e table = reads-same (tabled .writes) (tabled .sets) table start ∙ (ap (λ (d : Verdict). andThen d (readsIn start h m)) (sym e) ∙ parts)
 
-          agrees-b : first (λ k. not (realTimeBy ended began place (begins h) k)) (begins h) ≡ first (λ k. not (realTimeKept h (orderIn h order outcomes) k)) (begins h)
-          agrees-b = first-ext (realTimeBy ended began place (begins h)) (realTimeKept h (orderIn h order outcomes)) (begins h) (real-time-same ended began place a b v)
+-- rules A and B with what the searches for their first breaches said
+module _ (h : List Event) (tables : Tables) (place outcomes : List ℕ) (b : ℕ) {t : ℕ} (et : t ≡ broken (outcomeBy (tables .standing) place outcomes) b) where
+  pub breaks-a : t < b → placesVerdict h tables place outcomes b ≡ Broken A (slot LastEvent h t (length h) - 1) t
+  unfolding placesVerdict broke
+  breaks-a l = rw (some-of (outcomeBy (tables .standing) place outcomes) b t et l)
 
-          pub verdict-b : u < k → Broken B (slot FirstBegin h u (length h) - 1) u ≡ judged
-          unfolding verdict tries ruleHolds content broke
-          verdict-b l =
-              rw (none-a, sym agrees-b ∙ some-of (realTimeBy ended began place (begins h)) (begins h) u etb (omega arith)) (ap (λ (x : ℕ). Broken B x u) (first-begin h u))
+  module _ (lt : b ≤ t) {u : ℕ} (eu : u ≡ broken (realTimeBy (tables .ended) (tables .began) place b) b) where
+    none-a : first (λ k. not (outcomeBy (tables .standing) place outcomes k)) b ≡ none
+    none-a = none-of (outcomeBy (tables .standing) place outcomes) b t et lt
 
-          pub verdict-reads : k ≤ u → {last writers : List ℕ} → Tabled LastWrite h last → Writers order outcomes last k writers
-              → readsVerdict start h link writers place gaps ≡ judged
-          unfolding verdict tries ruleHolds content broke
-          verdict-reads l {last} {writers} lasts table =
-              reads-same lasts table start
-              ∙ rw (none-a, sym agrees-b ∙ none-of (realTimeBy ended began place (begins h)) (begins h) u etb (omega arith))
+    pub breaks-b : u < b → placesVerdict h tables place outcomes b ≡ Broken B (slot FirstBegin h u (length h) - 1) u
+    unfolding placesVerdict broke
+    breaks-b l = rw (none-a, some-of (realTimeBy (tables .ended) (tables .began) place b) b u eu l)
+
+    pub breaks-neither : b ≤ u → placesVerdict h tables place outcomes b ≡ Accepted
+    unfolding placesVerdict broke
+    breaks-neither l = rw (none-a, none-of (realTimeBy (tables .ended) (tables .began) place b) b u eu l)
 
 -- a rule of events with what the search for its first breach said
 module _ (h : List Event) (r : Rule) (holds : ℕ → Bool) (rest : Verdict) {x : ℕ} (ex : x ≡ broken holds (length h)) where

@@ -51,19 +51,19 @@ returns c =
 judge-requires : tie.Need-judge-requires
 judge-requires c κs =
     let l = linked c in
-    let m = l .before .before .before in
+    let m = l .before .before .before .before in
     let s = entered m in (
       tabled m .before .before .own-writes .ensures,
       given (s .args .log .now) (counted m .transactions-begun .result) (tabled m .store-reads .result) (counted m .transactions-begun .ensures) (tabled m .store-reads .ensures)
-          (m .read-marking .result) (m .read-marking .ensures .1 (l .before .if1 .left)) (s .pre) (l .links .ensures),
+          (m .read-marking .result) (m .read-marking .ensures .1 (l .before .before .if1 .left)) (s .pre) (l .links .ensures),
     )
 
 returns-2 : tie.Need-returns-2
 returns-2 c =
     let l = linked (c .before) in
-    let m = l .before .before .before in
+    let m = l .before .before .before .before in
     let s = entered m in
-    let whole = l .before .if1 .left in
+    let whole = l .before .before .if1 .left in
     ap Ruling.Ruled (c .judge .ensures)
     ∙ sym (ap (ruling (startOf (s .args .starts .now)) (logged (s .args .log .now)))
     (reading-content (s .args .log .now) (counted m .transactions-begun .result) (tabled m .store-reads .result) (counted m .transactions-begun .ensures) (tabled m .store-reads .ensures)
