@@ -64,13 +64,13 @@ blank zero k = refl
 blank (suc n) zero = refl
 blank (suc n) (suc k) = blank n k
 
-pub noting-first : (h : List Event) → Noting h (replicate 2048 0) (replicate 2048 0) 0
+pub noting-first : (h : List Event) (own : List ℕ) → length own ≡ 2048 → Noting h (replicate 2048 0) own 0
 unfolding lastWrite latest
-noting-first h =
+noting-first h own l =
     record {
       inside = omega arith;
       size = length-replicate {A = ℕ} 2048 0;
-      long = length-replicate {A = ℕ} 2048 0;
+      long = l;
       early = λ k. omega (arith, blank 2048 k);
       slots = λ t r lt lr. rw (blank 2048 (t * 32 + r));
       earlier = λ j l. absurd (not-suc-le-zero l);
@@ -243,7 +243,7 @@ pub record Numbering (h : List Event) (last : List ℕ) (reads i : ℕ) : Type 0
 
 pub numbering-first : (h : List Event) → Numbering h (replicate 2048 0) 0 0
 unfolding keep range
-numbering-first h = record { own = replicate 2048 0; noting = noting-first h; total = refl }
+numbering-first h = record { own = replicate 2048 0; noting = noting-first h (replicate 2048 0) (length-replicate {A = ℕ} 2048 0); total = refl }
 
 -- event i is a store read by what the table has at its slot
 pub its-read : (h : List Event) (last own : List ℕ) (i : ℕ) → Noting h last own i → i < length h → Low (eventAt h i)

@@ -37,12 +37,12 @@ fn noted_at(e: Event, i: usize, before: u16) -> u16
 }
 
 // For each event, one past the last write before it of its transaction to its register, 0 for none.
-pub fn own_writes(log: &[Row]) -> [u16; 2048]
+pub fn own_writes(log: &[Row], own: &mut [u16; 2048])
     requires { ⌜ readable (logged (now log)) ≡ true ⌝ }
-    ensures { λ r. ⌜ OwnWrites (logged (now (log .entry))) r ⌝ }
+    requires { ⌜ length (now own) ≡ 2048 ⌝ }
+    ensures { λ _. ⌜ OwnWrites (logged (now (log .entry))) (now (own .exit)) ⌝ }
 {
     let mut last = [0u16; 2048];
-    let mut own = [0u16; 2048];
     let mut i: usize = 0;
     while i < log.len() {
         let e = event_at(log, i);
@@ -51,7 +51,6 @@ pub fn own_writes(log: &[Row]) -> [u16; 2048]
         last[k] = noted_at(e, i, last[k]);
         i += 1;
     }
-    own
 }
 
 // Is it a read of the store, where this is what its transaction wrote last to its register?
@@ -65,7 +64,7 @@ fn reads_store(e: Event, own: u16) -> bool
 }
 
 // Is event i a read of the store?
-fn is_store_read(log: &[Row], own: &[u16; 2048], i: usize) -> bool
+pub fn is_store_read(log: &[Row], own: &[u16; 2048], i: usize) -> bool
     requires { ⌜ OwnWrites (logged (now log)) (now own) ⌝ }
     requires { ⌜ (i < length (now log)) × (length (now log) ≤ 2048) ⌝ }
     ensures { λ r. ⌜ r ≡ isStoreRead (logged (now (log .entry))) i ⌝ }
