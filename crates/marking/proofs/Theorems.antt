@@ -28,11 +28,11 @@ use Rattle.opacity.proofs.VerdictLaws.{same-rule}
 use Rattle.opacity.proofs.Theorems.{accepted-iff-rules, accepted-iff-justified, broken-iff-first}
 use Rattle.marking.specs.declared.check.Checking.{Checking}
 use Rattle.marking.specs.declared.check.Checking.the-variants.{Ruled, HistoryRefused, MarkingRefused}
-use Rattle.marking.specs.File.{known, FileRead, content, refused, fileRead}
+use Rattle.marking_reader.specs.File.{known, FileRead, content, refused, fileRead}
 use Rattle.marking.specs.Answer.{ruled, afterColumns, verdictAnswer, firstEditionAnswer, verdictSaid, said, Justifying, Breaking}
-use Rattle.marking.proofs.ContentLaws.{content-readable}
-use Rattle.marking.proofs.ReadBack.{bytes-content}
-use Rattle.marking.proofs.WriteBack.{content-bytes}
+use Rattle.marking_reader.proofs.ContentLaws.{content-readable}
+use Rattle.marking_reader.proofs.ReadBack.{bytes-content}
+use Rattle.marking_reader.proofs.WriteBack.{content-bytes}
 
 -- ---- the file
 

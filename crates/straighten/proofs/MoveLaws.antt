@@ -27,7 +27,7 @@ use Rattle.rules.specs.Walks.{hasPoint, pointRule}
 use Rattle.rules.specs.Judge.{content, Given}
 use Rattle.rules.proofs.JudgeLaws.{place-le, gap-same, reader-same, d-same, e-same}
 use Rattle.marking.proofs.CheckLaws.{beyond-history}
-use Rattle.marking.proofs.ReadBack.{keep-passes}
+use Rattle.marking_reader.proofs.ReadBack.{keep-passes}
 use Rattle.straighten.specs.Straight.{straightened, movedEvents}
 use Rattle.straighten.specs.Tables.{breaksBy, gapBy, listed}
 use Rattle.straighten.proofs.PointLaws.{pointWith, map-same}

@@ -24,9 +24,9 @@ use Rattle.opacity.proofs.MarkingBytes.{readable-length}
 use Rattle.opacity.specs.Justification.{Place}
 use Rattle.rules.specs.Orders.{placeAt, placesOf}
 use Rattle.rules.specs.Judge.{content as inArrays, Given}
-use Rattle.marking.specs.File.{known, content, fileRead}
+use Rattle.marking_reader.specs.File.{known, content, fileRead}
 use Rattle.marking.proofs.CheckLaws.{reads-same}
-use Rattle.marking.proofs.WriteBack.{content-bytes}
+use Rattle.marking_reader.proofs.WriteBack.{content-bytes}
 use Rattle.marking_writer.specs.Points.{pointsTo}
 use Rattle.marking_writer.specs.Whole.{placesIn, pointsIn, bytesIn}
 use Rattle.marking_writer.proofs.PointLaws.{points-are}

@@ -16,8 +16,8 @@ use Rattle.opacity.specs.declared.verdict.Rule.{Rule}
 use Rattle.opacity.specs.declared.verdict.Rule.the-variants.{D, E}
 use Rattle.opacity.specs.Transactions.{isStoreRead, storeReads}
 use Rattle.reads.specs.Own.{OwnWrites}
-use Rattle.marking.specs.declared.read.Reading.{Reading}
-use Rattle.marking.specs.State.{Kept}
+use Rattle.marking_reader.specs.declared.read.Reading.{Reading}
+use Rattle.marking_reader.specs.State.{Kept}
 use Rattle.marking_writer.specs.Whole.{bytesIn}
 
 -- whether the point of an event breaks D or E

@@ -15,7 +15,7 @@ ghost use Rattle.log.specs.Columns.{columns};
 ghost use Rattle.log.specs.Rows.{logged, Entered};
 ghost use Rattle.log.specs.Starts.{startOf};
 ghost use Rattle.rules.specs.Judge.{content};
-ghost use Rattle.marking.specs.File.{known, fileRead};
+ghost use Rattle.marking_reader.specs.File.{known, fileRead};
 ghost use Rattle.straighten.specs.Answer.{gives, settled, judged, afterFile, afterColumns, straightenedAnswer};
 ghost use Rattle.straighten.specs.Tables.{Room, Read, listed, bytesOf};
 

@@ -7,7 +7,7 @@ use lib.ListN.{take}
 use lib.Seq.{length-take-le}
 use Rattle.log.specs.Rows.{logged}
 use Rattle.log.specs.Starts.{startOf}
-use Rattle.marking.specs.File.{known, fileRead}
+use Rattle.marking_reader.specs.File.{known, fileRead}
 use Rattle.straighten.specs.Answer.{afterFile}
 use borrow.Author.Needs.{needs}
 use Rattle.straighten.proofs.straighten_admitted.Statement.{statement}

@@ -17,10 +17,10 @@ use Rattle.opacity.specs.Marking.{Marking}
 use Rattle.opacity.proofs.Bounds.{at-most-64}
 use Rattle.links.proofs.LogLaws.{log-most}
 use Rattle.rules.specs.Judge.{content as inArrays}
-use Rattle.marking.specs.File.{known, content, fileRead}
-use Rattle.marking.specs.State.{Kept}
+use Rattle.marking_reader.specs.File.{known, content, fileRead}
+use Rattle.marking_reader.specs.State.{Kept}
 use Rattle.marking.proofs.CheckLaws.{none-beyond, reading-refused, reading-content}
-use Rattle.marking.proofs.ContentLaws.{content-readable}
+use Rattle.marking_reader.proofs.ContentLaws.{content-readable}
 use Rattle.straighten.specs.Answer.{afterFile}
 use Rattle.straighten.proofs.SettleLaws.{after-short, after-room, room-there}
 use borrow.Author.Needs.{needs}
