@@ -18,11 +18,13 @@ use Rattle.opacity.proofs.Finder.{events-of}
 use Rattle.opacity.proofs.Bounds.{at-most-64}
 use Rattle.marking_reader.specs.declared.step.Step.{Step}
 use Rattle.marking_reader.specs.declared.step.Step.the-variants.{Placed, Pointed, Refused, Unfinished, Finished}
-use Rattle.marking_reader.specs.File.{known, Asked, asked, everyPointed, stepAt, content, refused, goOn, walk, opening, afterOpening, fileRead}
+use Rattle.marking_reader.specs.File.{known, Asked, asked, everyPointed, stepAt, goOn, walk}
+use Rattle.marking_reader.specs.File.{content, refused, opening, afterOpening, fileRead}
 use Rattle.marking_reader.specs.State.{pointBy, askedBy, soFar, Sound, Kept}
 use Rattle.marking_reader.proofs.StepLaws.{placed-told, pointed-told, finished-told}
 use Rattle.marking_reader.proofs.PointLaws.{points-kept, gaps-low}
-use Rattle.marking_reader.proofs.SoundLaws.{arrays-fresh, sound-start, nothing-so, step-same, place-so, place-sound, point-so, point-sound, end-so, end-kept}
+use Rattle.marking_reader.proofs.SoundLaws.{arrays-fresh, sound-start, nothing-so, step-same, end-so, end-kept}
+use Rattle.marking_reader.proofs.SoundLaws.{place-so, place-sound, point-so, point-sound}
 
 -- what stands in arrays for a content that was read
 record Arrays (h : List Event) (m : Marking) : Type 0 where
@@ -40,7 +42,8 @@ module _ (h : List Event) (s : List ℕ) (m′ : Marking) where
   abbrev Going : ℕ → Type 0
   Going left =
       (at : ℕ) (order outcomes : List ℕ) (used : List Bool) (filled : ℕ) (gaps : List ℕ) (next : ℕ)
-      → Sound h order outcomes used filled gaps next → walk (known h) left s at (soFar order outcomes filled gaps next) ≡ content m′ → Arrays h m′
+      → Sound h order outcomes used filled gaps next → walk (known h) left s at (soFar order outcomes filled gaps next) ≡ content m′
+      → Arrays h m′
 
   walk-content : (left : ℕ) → Going left
   unfolding walk

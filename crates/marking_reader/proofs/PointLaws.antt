@@ -20,6 +20,10 @@ use Rattle.opacity.specs.Marking.{Point}
 use Rattle.marking_reader.specs.File.{hasPoint}
 use Rattle.marking_reader.specs.State.{pointBy, pointIn, pointsOf}
 
+-- the point of event i
+abbrev pub pt : List ℕ → ℕ → Point
+pt gaps i = record { event = i; gap = getD gaps i 0 }
+
 -- ---- which events have one
 
 isAt : ℕ → Point → Bool
@@ -32,7 +36,7 @@ has-tabled gaps (suc k) i =
     any-append (isAt i) (pointsOf gaps k) (pointIn gaps k)
     ∙ (ap (λ (x : Bool). x or any (isAt i) (pointIn gaps k)) (has-tabled gaps k i) ∙ go (eqb k i) refl (eqb (getD gaps k 0) 65535) refl)
   where
-    later : (z : Bool) → any (isAt i) (cond z [] (record { event = k; gap = getD gaps k 0 } ∷ [])) ≡ (eqb k i and not z)
+    later : (z : Bool) → any (isAt i) (cond z [] (pt gaps k ∷ [])) ≡ (eqb k i and not z)
     later true = go′ (eqb k i)
       where
         go′ : (w : Bool) → false ≡ (w and false)
@@ -45,7 +49,8 @@ has-tabled gaps (suc k) i =
         go′ false = refl
 
     go : (a : Bool) → eqb k i ≡ a → (z : Bool) → eqb (getD gaps k 0) 65535 ≡ z
-        → ((ltb i k and not (eqb (getD gaps i 0) 65535)) or any (isAt i) (cond z [] (record { event = k; gap = getD gaps k 0 } ∷ []))) ≡ (ltb i (suc k) and not (eqb (getD gaps i 0) 65535))
+        → ((ltb i k and not (eqb (getD gaps i 0) 65535)) or any (isAt i) (cond z [] (pt gaps k ∷ [])))
+        ≡ (ltb i (suc k) and not (eqb (getD gaps i 0) 65535))
     go true e z f =
         let q : k ≡ i = eqb-true k i e in
         let g : eqb (getD gaps i 0) 65535 ≡ z = ap (λ (x : ℕ). eqb (getD gaps x 0) 65535) (sym q) ∙ f in
@@ -58,7 +63,9 @@ has-tabled gaps (suc k) i =
       where
         below-one : Dec (suc i ≤ k) → ltb i (suc k) ≡ ltb i k
         below-one (yes m) = lt-ltb i (suc k) (omega arith) ∙ sym (lt-ltb i k m)
-        below-one (no u) = (let m = lt-of-not-le u in let ne : k ≡ i → ⊥ = eqb-false k i e in le-ltb i (suc k) (omega arith)) ∙ sym (le-ltb i k (let m = lt-of-not-le u in omega arith))
+        below-one (no u) =
+            let m = lt-of-not-le u in
+            le-ltb i (suc k) (omega (arith, eqb-false k i e)) ∙ sym (le-ltb i k (omega arith))
 
 -- points below k do not see a store at k
 pub points-set : (gaps : List ℕ) (e g k : ℕ) → k ≤ e → pointsOf (set gaps e g) k ≡ pointsOf gaps k
@@ -83,11 +90,9 @@ points-none gaps a (suc k) l q =
 
 -- ---- the passing events have one
 
-abbrev pub pt : List ℕ → ℕ → Point
-pt gaps i = record { event = i; gap = getD gaps i 0 }
-
 -- the points of a table that has a gap at the passing numbers
-pub points-kept : (p : ℕ → Bool) (gaps : List ℕ) (k : ℕ) → ((i : ℕ) → i < k → p i ≡ not (eqb (getD gaps i 0) 65535)) → map (pt gaps) (keep p (range k)) ≡ pointsOf gaps k
+pub points-kept : (p : ℕ → Bool) (gaps : List ℕ) (k : ℕ) → ((i : ℕ) → i < k → p i ≡ not (eqb (getD gaps i 0) 65535))
+    → map (pt gaps) (keep p (range k)) ≡ pointsOf gaps k
 unfolding pointsOf range keep
 points-kept p gaps zero f = refl
 points-kept p gaps (suc k) f =
@@ -96,20 +101,22 @@ points-kept p gaps (suc k) f =
     ∙ (ap (λ (l : List Point). l ++ map (pt gaps) (keep p (k ∷ []))) (points-kept p gaps k (λ i l. f i (le-step l)))
     ∙ ap (λ (l : List Point). pointsOf gaps k ++ l) (one (p k) (eqb (getD gaps k 0) 65535) (f k (lt-suc-self k)))))
   where
-    one : (a z : Bool) → a ≡ not z → map (pt gaps) (push a k []) ≡ cond z [] (record { event = k; gap = getD gaps k 0 } ∷ [])
+    one : (a z : Bool) → a ≡ not z → map (pt gaps) (push a k []) ≡ cond z [] (pt gaps k ∷ [])
     one true true e = absurd (true≢false e)
     one true false e = refl
     one false true e = refl
     one false false e = absurd (false≢true e)
 
 -- they are low where the gaps are
-pub gaps-low : (gaps : List ℕ) (b k : ℕ) → ((i : ℕ) → i < k → eqb (getD gaps i 0) 65535 ≡ false → getD gaps i 0 ≤ b) → all (λ p. leb (p .gap) b) (pointsOf gaps k) ≡ true
+pub gaps-low : (gaps : List ℕ) (b k : ℕ) → ((i : ℕ) → i < k → eqb (getD gaps i 0) 65535 ≡ false → getD gaps i 0 ≤ b)
+    → all (λ p. leb (p .gap) b) (pointsOf gaps k) ≡ true
 unfolding pointsOf all _and_
 gaps-low gaps b zero f = refl
 gaps-low gaps b (suc k) f =
-    all-append (λ p. leb (p .gap) b) (pointsOf gaps k) (pointIn gaps k) ∙ and-i _ _ (gaps-low gaps b k (λ i l. f i (le-step l))) (one (eqb (getD gaps k 0) 65535) refl)
+    all-append (λ p. leb (p .gap) b) (pointsOf gaps k) (pointIn gaps k)
+    ∙ and-i _ _ (gaps-low gaps b k (λ i l. f i (le-step l))) (one (eqb (getD gaps k 0) 65535) refl)
   where
-    one : (z : Bool) → eqb (getD gaps k 0) 65535 ≡ z → all (λ (p : Point). leb (p .gap) b) (cond z [] (record { event = k; gap = getD gaps k 0 } ∷ [])) ≡ true
+    one : (z : Bool) → eqb (getD gaps k 0) 65535 ≡ z → all (λ (p : Point). leb (p .gap) b) (cond z [] (pt gaps k ∷ [])) ≡ true
     one true e = refl
     one false e = rw (le-leb _ _ (f k (lt-suc-self k) e))
 

@@ -27,7 +27,9 @@ use Rattle.opacity.proofs.Bounds.{at-most-64, reads-low}
 use Rattle.opacity.proofs.MarkingBytes.{marking-length, readable-length}
 use Rattle.opacity.proofs.Orders.{distinct-at}
 use Rattle.marking_reader.specs.declared.step.Step.the-variants.{Placed, Pointed, Finished}
-use Rattle.marking_reader.specs.File.{Known, known, asked, transactionIn, outcomeIn, eventIn, gapIn, nextEvent, everyPlaced, hasPoint, everyPointed, headQuestions, endQuestions, bodyStep, endStep, stepOn, stepAt, content, goOn, walk, opening, nothingRead, afterOpening, fileRead}
+use Rattle.marking_reader.specs.File.{Known, known, asked, transactionIn, outcomeIn, eventIn, gapIn, nextEvent, everyPlaced, hasPoint}
+use Rattle.marking_reader.specs.File.{everyPointed, headQuestions, endQuestions, bodyStep, endStep, stepOn, stepAt, goOn, walk}
+use Rattle.marking_reader.specs.File.{FileRead, content, opening, nothingRead, afterOpening, fileRead}
 use Rattle.marking_reader.specs.State.{placeQuestions, pointQuestions, placeStep, pointStep}
 use Rattle.marking_reader.proofs.StepLaws.{body-place, body-point}
 use Rattle.marking_reader.proofs.PointLaws.{beyond-history}
@@ -44,7 +46,9 @@ from a (suc k) = a ∷ from (a + 1) k
 from-snoc : (a k : ℕ) → from a (suc k) ≡ from a k ++ ((a + k) ∷ [])
 unfolding from
 from-snoc a zero = ap (λ (x : ℕ). x ∷ []) (sym (add-zero a))
-from-snoc a (suc k) = ap (λ (x : List ℕ). a ∷ x) (from-snoc (a + 1) k ∙ ap (λ (x : ℕ). from (a + 1) k ++ (x ∷ [])) (add-assoc a 1 k ∙ ap (λ (x : ℕ). a + x) (one-add k)))
+from-snoc a (suc k) =
+    let next : a + 1 + k ≡ a + suc k = add-assoc a 1 k ∙ ap (λ (x : ℕ). a + x) (one-add k) in
+    ap (λ (x : List ℕ). a ∷ x) (from-snoc (a + 1) k ∙ ap (λ (x : ℕ). from (a + 1) k ++ (x ∷ [])) next)
   where
     one-add : (j : ℕ) → 1 + j ≡ suc j
     one-add j = omega arith
@@ -52,7 +56,8 @@ from-snoc a (suc k) = ap (λ (x : List ℕ). a ∷ x) (from-snoc (a + 1) k ∙ a
 range-from : (n : ℕ) → range n ≡ from 0 n
 unfolding range from
 range-from zero = refl
-range-from (suc n) = ap (λ (x : List ℕ). x ++ (n ∷ [])) (range-from n) ∙ sym (from-snoc 0 n ∙ ap (λ (x : ℕ). from 0 n ++ (x ∷ [])) (zero-add n))
+range-from (suc n) =
+    ap (λ (x : List ℕ). x ++ (n ∷ [])) (range-from n) ∙ sym (from-snoc 0 n ∙ ap (λ (x : ℕ). from 0 n ++ (x ∷ [])) (zero-add n))
   where
     zero-add : (j : ℕ) → 0 + j ≡ j
     zero-add j = omega arith
@@ -63,7 +68,8 @@ module _ (p : ℕ → Bool) where
   keep-rising a zero b l = refl
   keep-rising a (suc k) b l = go (p a) (λ c m. keep-rising (a + 1) k c m)
     where
-      go : (x : Bool) → ((c : ℕ) → c ≤ a + 1 → rising c (keep p (from (a + 1) k)) ≡ true) → rising b (push x a (keep p (from (a + 1) k))) ≡ true
+      go : (x : Bool) → ((c : ℕ) → c ≤ a + 1 → rising c (keep p (from (a + 1) k)) ≡ true)
+          → rising b (push x a (keep p (from (a + 1) k))) ≡ true
       go true ih = and-i _ _ (le-leb b a l) (ih (a + 1) (le-refl (a + 1)))
       go false ih = ih b (omega arith)
 
@@ -85,14 +91,17 @@ place-taken : (b next : ℕ) (used : ℕ → Bool) (body : List ℕ) (t o end : 
 unfolding placeStep placeQuestions refusal _and_
 place-taken b next used body t o end z x y n l u m = rw (z, x, y, n, lt-ltb t b l, u, lt-ltb o 2 m)
 
-point-taken : (b next : ℕ) (pl : Bool) (reads : ℕ → Bool) (body : List ℕ) (e g end : ℕ) → length body ≡ 6 → eventIn body ≡ e → gapIn body ≡ g
-    → pl ≡ true → leb next e ≡ true → reads e ≡ true → leb g b ≡ true → pointStep b next pl reads body end ≡ Pointed e g end
+point-taken : (b next : ℕ) (pl : Bool) (reads : ℕ → Bool) (body : List ℕ) (e g end : ℕ)
+    → length body ≡ 6 → eventIn body ≡ e → gapIn body ≡ g → pl ≡ true → leb next e ≡ true → reads e ≡ true → leb g b ≡ true
+    → pointStep b next pl reads body end ≡ Pointed e g end
 unfolding pointStep pointQuestions refusal _and_
 point-taken b next pl reads body e g end z x y p l r m = rw (z, x, y, imp-i (eqb next 0) pl (λ w. p), l, r, m)
 
 module _ (k : Known) (pointed : Bool) (m : Marking) (pre rest : List ℕ) where
-  place-back : (p : Place) → p .transaction < k .transactions → k .transactions ≤ 64 → placed (p .transaction) (m .places) ≡ false → nextEvent (m .points) ≡ 0
-      → stepAt (asked k m) pointed (pre ++ (placeBytes p ++ rest)) (length pre) ≡ Placed (p .transaction) (outcomeNumber (p .committed)) (length pre + 4 + 4)
+  place-back : (p : Place) → p .transaction < k .transactions → k .transactions ≤ 64 → placed (p .transaction) (m .places) ≡ false
+      → nextEvent (m .points) ≡ 0
+      → stepAt (asked k m) pointed (pre ++ (placeBytes p ++ rest)) (length pre)
+      ≡ Placed (p .transaction) (outcomeNumber (p .committed)) (length pre + 4 + 4)
   unfolding stepAt
   place-back p l few fresh none-yet =
       let body : List ℕ = u16Bytes (p .transaction) ++ u16Bytes (outcomeNumber (p .committed)) in
@@ -102,14 +111,14 @@ module _ (k : Known) (pointed : Bool) (m : Marking) (pre rest : List ℕ) where
       ap (stepOn (asked k m) pointed (pre ++ (placeBytes p ++ rest))) (record-back pre body rest 32 4 (omega arith) refl (omega arith))
       ∙ (ap (λ (b : List ℕ). bodyStep (asked k m) 32 b (length pre + 4 + 4)) (part-back pre body rest 32 4 (omega arith) refl (omega arith))
       ∙ (body-place (asked k m) 32 body (length pre + 4 + 4) refl
-      ∙ place-taken (k .transactions) (nextEvent (m .points)) (λ t. placed t (m .places)) body (p .transaction) (outcomeNumber (p .committed)) (length pre + 4 + 4) refl t c none-yet l fresh o))
+      ∙ place-taken (k .transactions) (nextEvent (m .points)) (λ t. placed t (m .places)) body _ _ _ refl t c none-yet l fresh o))
     where
       low-outcome : (b : Bool) → outcomeNumber b < 2
       low-outcome true = omega arith
       low-outcome false = omega arith
 
-  point-back : (q : Point) → q .event < 4294967296 → q .gap < 65536 → everyPlaced k m ≡ true → leb (nextEvent (m .points)) (q .event) ≡ true → k .storeRead (q .event) ≡ true
-      → leb (q .gap) (k .transactions) ≡ true
+  point-back : (q : Point) → q .event < 4294967296 → q .gap < 65536 → everyPlaced k m ≡ true
+      → leb (nextEvent (m .points)) (q .event) ≡ true → k .storeRead (q .event) ≡ true → leb (q .gap) (k .transactions) ≡ true
       → stepAt (asked k m) pointed (pre ++ (pointBytes q ++ rest)) (length pre) ≡ Pointed (q .event) (q .gap) (length pre + 4 + 6)
   unfolding stepAt
   point-back q le lg full above read low =
@@ -119,9 +128,10 @@ module _ (k : Known) (pointed : Bool) (m : Marking) (pre rest : List ℕ) where
       ap (stepOn (asked k m) pointed (pre ++ (pointBytes q ++ rest))) (record-back pre body rest 33 6 (omega arith) refl (omega arith))
       ∙ (ap (λ (b : List ℕ). bodyStep (asked k m) 33 b (length pre + 4 + 6)) (part-back pre body rest 33 6 (omega arith) refl (omega arith))
       ∙ (body-point (asked k m) 33 body (length pre + 4 + 6) refl
-      ∙ point-taken (k .transactions) (nextEvent (m .points)) (everyPlaced k m) (k .storeRead) body (q .event) (q .gap) (length pre + 4 + 6) refl e g full above read low))
+      ∙ point-taken (k .transactions) (nextEvent (m .points)) (everyPlaced k m) (k .storeRead) body _ _ _ refl e g full above read low))
 
-end-back : (k : Known) (m : Marking) (s : List ℕ) → everyPlaced k m ≡ true → everyPointed k m ≡ true → stepAt (asked k m) (everyPointed k m) s (length s) ≡ Finished
+end-back : (k : Known) (m : Marking) (s : List ℕ) → everyPlaced k m ≡ true → everyPointed k m ≡ true
+    → stepAt (asked k m) (everyPointed k m) s (length s) ≡ Finished
 unfolding stepAt endStep endQuestions refusal
 end-back k m s p q = rw (le-ltb (length s) (length s) (le-refl (length s)), p, q)
 
@@ -137,73 +147,93 @@ outcome-is false = refl
 module _ (k : Known) (few : k .transactions ≤ 64) (P : List Place) (all-points : List Point)
     (full : every (λ t. placed t P) (k .transactions) ≡ true)
     (complete : everyPointed k (record { places = P; points = all-points }) ≡ true) where
+  -- the whole marking, the one with the points up to some, and the one with places alone
+  abbrev whole : Marking
+  whole = record { places = P; points = all-points }
+
+  abbrev upTo : List Point → Marking
+  upTo done = record { places = P; points = done }
+
+  abbrev unpointed : List Place → Marking
+  unpointed done = record { places = done; points = [] }
+
+  -- one step of the walk
+  abbrev step : ℕ → List ℕ → ℕ → Marking → FileRead
+  step n s at m = goOn (walk k n s) s at m (stepAt (asked k m) (everyPointed k m) s at)
+
   points-back : (qs done : List Point) (pre : List ℕ) (n : ℕ) → done ++ qs ≡ all-points → length qs < n
-      → rising (nextEvent done) (map (λ q. q .event) qs) ≡ true → all (λ q. k .storeRead (q .event)) qs ≡ true → all (λ q. ltb (q .event) 4294967296) qs ≡ true
-      → all (λ q. leb (q .gap) (k .transactions)) qs ≡ true
-      → walk k n (pre ++ flat pointBytes qs) (length pre) (record { places = P; points = done }) ≡ content (record { places = P; points = all-points })
+      → rising (nextEvent done) (map (λ q. q .event) qs) ≡ true → all (λ q. k .storeRead (q .event)) qs ≡ true
+      → all (λ q. ltb (q .event) 4294967296) qs ≡ true → all (λ q. leb (q .gap) (k .transactions)) qs ≡ true
+      → walk k n (pre ++ flat pointBytes qs) (length pre) (upTo done) ≡ content whole
   unfolding walk flat everyPlaced all rising
   points-back [] done pre zero e l r a w g = absurd (omega arith)
   points-back [] done pre (suc n) e l r a w g =
       let d : done ≡ all-points = sym (append-nil done) ∙ e in
-      let c : everyPointed k (record { places = P; points = done }) ≡ true = rw d complete in
-      subst (λ (x : List ℕ). goOn (walk k n x) x (length pre) (record { places = P; points = done }) (stepAt (asked k (record { places = P; points = done })) (everyPointed k (record { places = P; points = done })) x (length pre)) ≡ content (record { places = P; points = all-points })) (sym (append-nil pre))
-      (ap (goOn (walk k n pre) pre (length pre) (record { places = P; points = done })) (end-back k (record { places = P; points = done }) pre full c)
+      let c : everyPointed k (upTo done) ≡ true = rw d complete in
+      subst (λ (x : List ℕ). step n x (length pre) (upTo done) ≡ content whole) (sym (append-nil pre))
+      (ap (goOn (walk k n pre) pre (length pre) (upTo done)) (end-back k (upTo done) pre full c)
       ∙ ap (λ (x : List Point). content (record { places = P; points = x })) d)
   points-back (q ∷ qs) done pre zero e l r a w g = absurd (omega arith)
   points-back (q ∷ qs) done pre (suc n) e l r a w g =
       let gl : q .gap ≤ k .transactions = leb-true _ _ (and-l _ _ g) in
-      let m : Marking = record { places = P; points = done } in
+      let m = upTo done in
       let x : length pre + 4 + 6 ≡ length (pre ++ pointBytes q) = omega (arith, length-append pre (pointBytes q)) in
-      let y : pre ++ (pointBytes q ++ flat pointBytes qs) ≡ (pre ++ pointBytes q) ++ flat pointBytes qs = sym (append-assoc pre (pointBytes q) (flat pointBytes qs)) in
+      let later = flat pointBytes qs in
+      let y : pre ++ (pointBytes q ++ later) ≡ (pre ++ pointBytes q) ++ later = sym (append-assoc pre (pointBytes q) later) in
       let d : (done ++ (q ∷ [])) ++ qs ≡ all-points = append-assoc done (q ∷ []) qs ∙ e in
       let v : nextEvent (done ++ (q ∷ [])) ≡ q .event + 1 = next-more done q in
-      ap (goOn (walk k n (pre ++ (pointBytes q ++ flat pointBytes qs))) (pre ++ (pointBytes q ++ flat pointBytes qs)) (length pre) m)
-      (point-back k (everyPointed k m) m pre (flat pointBytes qs) q (ltb-true _ _ (and-l _ _ w)) (omega arith) full (and-l _ _ r) (and-l _ _ a) (and-l _ _ g))
+      ap (goOn (walk k n (pre ++ (pointBytes q ++ later))) (pre ++ (pointBytes q ++ later)) (length pre) m)
+      (point-back k (everyPointed k m) m pre later q (ltb-true _ _ (and-l _ _ w)) (omega arith) full
+      (and-l _ _ r) (and-l _ _ a) (and-l _ _ g))
       ∙ ((λ i. walk k n (y i) (x i) (record { places = P; points = done ++ (q ∷ []) }))
-      ∙ points-back qs (done ++ (q ∷ [])) (pre ++ pointBytes q) n d (omega arith) (rw v (and-r _ _ r)) (and-r _ _ a) (and-r _ _ w) (and-r _ _ g))
+      ∙ points-back qs (done ++ (q ∷ [])) (pre ++ pointBytes q) n d (omega arith) (rw v (and-r _ _ r))
+      (and-r _ _ a) (and-r _ _ w) (and-r _ _ g))
 
   module _ (ordered-low : all (λ p. ltb (p .transaction) (k .transactions)) P ≡ true) (apart : distinct P ≡ true)
       (r : rising 0 (map (λ q. q .event) all-points) ≡ true) (a : all (λ q. k .storeRead (q .event)) all-points ≡ true)
       (w : all (λ q. ltb (q .event) 4294967296) all-points ≡ true) (g : all (λ q. leb (q .gap) (k .transactions)) all-points ≡ true) where
     places-back : (ps done : List Place) (pre : List ℕ) (n : ℕ) → done ++ ps ≡ P → length ps + length all-points < n
         → all (λ p. ltb (p .transaction) (k .transactions)) ps ≡ true
-        → walk k n (pre ++ (flat placeBytes ps ++ flat pointBytes all-points)) (length pre) (record { places = done; points = [] }) ≡ content (record { places = P; points = all-points })
+        → walk k n (pre ++ (flat placeBytes ps ++ flat pointBytes all-points)) (length pre) (unpointed done) ≡ content whole
     unfolding walk flat all nextEvent latest
     places-back [] done pre n e l low =
         let d : done ≡ P = sym (append-nil done) ∙ e in
         rw d (points-back all-points [] pre n refl (omega arith) r a w g)
     places-back (p ∷ ps) done pre zero e l low = absurd (omega arith)
     places-back (p ∷ ps) done pre (suc n) e l low =
-        let m : Marking = record { places = done; points = [] } in
+        let m = unpointed done in
         let rest : List ℕ = flat placeBytes ps ++ flat pointBytes all-points in
         let x : length pre + 4 + 4 ≡ length (pre ++ placeBytes p) = omega (arith, length-append pre (placeBytes p)) in
-        let z : pre ++ ((placeBytes p ++ flat placeBytes ps) ++ flat pointBytes all-points) ≡ pre ++ (placeBytes p ++ rest) = ap (λ (b : List ℕ). pre ++ b) (append-assoc (placeBytes p) (flat placeBytes ps) (flat pointBytes all-points)) in
+        let z : pre ++ ((placeBytes p ++ flat placeBytes ps) ++ flat pointBytes all-points) ≡ pre ++ (placeBytes p ++ rest) =
+        ap (λ (b : List ℕ). pre ++ b) (append-assoc (placeBytes p) (flat placeBytes ps) (flat pointBytes all-points)) in
         let y : pre ++ (placeBytes p ++ rest) ≡ (pre ++ placeBytes p) ++ rest = sym (append-assoc pre (placeBytes p) rest) in
         let d : (done ++ (p ∷ [])) ++ ps ≡ P = append-assoc done (p ∷ []) ps ∙ e in
         let fresh : placed (p .transaction) done ≡ false = distinct-at done p ps (ap distinct e ∙ apart) .0 in
         let c = outcome-is (p .committed) in
-        ap (λ (b : List ℕ). goOn (walk k n b) b (length pre) m (stepAt (asked k m) (everyPointed k m) b (length pre))) z
-        ∙ (ap (goOn (walk k n (pre ++ (placeBytes p ++ rest))) (pre ++ (placeBytes p ++ rest)) (length pre) m) (place-back k (everyPointed k m) m pre rest p (ltb-true _ _ (and-l _ _ low)) few fresh refl)
-        ∙ ((λ i. walk k n (y i) (x i) (record { places = done ++ (record { transaction = p .transaction; committed = c i } ∷ []); points = [] }))
+        ap (λ (b : List ℕ). step n b (length pre) m) z
+        ∙ (ap (goOn (walk k n (pre ++ (placeBytes p ++ rest))) (pre ++ (placeBytes p ++ rest)) (length pre) m)
+        (place-back k (everyPointed k m) m pre rest p (ltb-true _ _ (and-l _ _ low)) few fresh refl)
+        ∙ ((λ i. walk k n (y i) (x i) (unpointed (done ++ (record { transaction = p .transaction; committed = c i } ∷ []))))
         ∙ places-back ps (done ++ (p ∷ [])) (pre ++ placeBytes p) n d (omega arith) (and-r _ _ low)))
 
-    head-back : length (markingBytes (record { places = P; points = all-points })) ≤ 32768 → opening (markingBytes (record { places = P; points = all-points })) ≡ none
+    head-back : length (markingBytes whole) ≤ 32768 → opening (markingBytes whole) ≡ none
     unfolding markingBytes opening headQuestions refusal _and_
     head-back l =
         let s : List ℕ = flat placeBytes P ++ flat pointBytes all-points in
-        let e : recordAt (markingHead ++ s) 0 ≡ Whole (record { kind = 2; start = 4; size = 2 }) = whole-at (markingHead ++ s) 0 2 2 refl refl (omega (arith, length-append markingHead s)) in
+        let e : recordAt (markingHead ++ s) 0 ≡ Whole (record { kind = 2; start = 4; size = 2 }) =
+        whole-at (markingHead ++ s) 0 2 2 refl refl (omega (arith, length-append markingHead s)) in
         rw (le-leb _ _ l, e)
 
-    marking-back : length (markingBytes (record { places = P; points = all-points })) ≤ 32768
-        → fileRead k (markingBytes (record { places = P; points = all-points })) ≡ content (record { places = P; points = all-points })
+    marking-back : length (markingBytes whole) ≤ 32768
+        → fileRead k (markingBytes whole) ≡ content whole
     unfolding fileRead markingBytes
     marking-back l =
-        ap (afterOpening k (markingBytes (record { places = P; points = all-points }))) (head-back l) ∙ start
+        ap (afterOpening k (markingBytes whole)) (head-back l) ∙ start
       where
-        enough : length P + length all-points < suc (length (markingBytes (record { places = P; points = all-points })))
-        enough = omega (arith, marking-length (record { places = P; points = all-points }))
+        enough : length P + length all-points < suc (length (markingBytes whole))
+        enough = omega (arith, marking-length whole)
 
-        start : walk k (suc (length (markingBytes (record { places = P; points = all-points })))) (markingBytes (record { places = P; points = all-points })) 6 nothingRead ≡ content (record { places = P; points = all-points })
+        start : walk k (suc (length (markingBytes whole))) (markingBytes whole) 6 nothingRead ≡ content whole
         start = places-back P [] markingHead _ refl enough ordered-low
 
 -- ---- a content that is readable for a readable history
@@ -236,7 +266,9 @@ module _ (h : List Event) (m : Marking) (r : readable h ≡ true) (f : ReadableF
 
   pointed : everyPointed (known h) m ≡ true
   unfolding everyPointed hasPoint storeReads
-  pointed = every-i _ (length h) (λ i l. imp-i _ _ (λ e. any-events i (m .points) ∙ rw (f .reads) (keep-member (isStoreRead h) (length h) i l e)))
+  pointed =
+      every-i _ (length h)
+      (λ i l. imp-i _ _ (λ e. any-events i (m .points) ∙ rw (f .reads) (keep-member (isStoreRead h) (length h) i l e)))
 
   small : length (markingBytes m) ≤ 32768
   small = omega (arith, readable-length h m f, at-most-64 h r, reads-low h r)
@@ -245,7 +277,9 @@ module _ (h : List Event) (m : Marking) (r : readable h ≡ true) (f : ReadableF
   pub bytes-content : fileRead (known h) (markingBytes m) ≡ content m
   unfolding isOrder
   bytes-content =
-      marking-back (known h) (at-most-64 h r) (m .places) (m .points) (and-r _ _ (and-r _ _ (f .order))) pointed (and-l _ _ (f .order)) (and-l _ _ (and-r _ _ (f .order)))
+      let low = all-weaken (isStoreRead h) (λ i. ltb i 4294967296) (map (λ q. q .event) (m .points)) read-low reads-are in
+      marking-back (known h) (at-most-64 h r) (m .places) (m .points) (and-r _ _ (and-r _ _ (f .order))) pointed
+      (and-l _ _ (f .order)) (and-l _ _ (and-r _ _ (f .order)))
       reads-rise (all-events (isStoreRead h) (m .points) ∙ reads-are)
-      (all-events (λ i. ltb i 4294967296) (m .points) ∙ all-weaken (isStoreRead h) (λ i. ltb i 4294967296) (map (λ q. q .event) (m .points)) read-low reads-are)
+      (all-events (λ i. ltb i 4294967296) (m .points) ∙ low)
       (f .gaps) small

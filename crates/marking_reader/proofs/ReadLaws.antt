@@ -21,7 +21,8 @@ use Rattle.marking_reader.specs.File.{known, Asked, stepAt, content, ref
 use Rattle.marking_reader.specs.State.{pointBy, askedBy, pointsOf, soFar, Sound, Kept, readAs}
 use Rattle.marking_reader.proofs.StepLaws.{placed-told, pointed-told, finished-told}
 use Rattle.marking_reader.proofs.PointLaws.{pt, points-kept}
-use Rattle.marking_reader.proofs.SoundLaws.{step-same, room, place-low, outcome-low, inside, place-so, place-sound, point-so, point-sound, end-so, end-kept}
+use Rattle.marking_reader.proofs.SoundLaws.{step-same, end-so, end-kept}
+use Rattle.marking_reader.proofs.SoundLaws.{room, place-low, outcome-low, place-so, place-sound, inside, point-so, point-sound}
 use Rattle.marking_reader.proofs.WalkLaws.{Reached, reached-next, on-step, place-ends, point-ends}
 
 -- an answer is the file's, and the arrays hold what was read where no question says no

@@ -15,19 +15,21 @@ use lib.ListN.{length, getD, set, replicate, length-set, length-replicate, getD-
 use lib.Seq.{getD-set-same, getD-set-other}
 use borrow.Author.Tests.{eqb-true, ne-eqb, eqb-false, lt-ltb, ltb-true, leb-true}
 use Rattle.lists.specs.Lists.{_and_, _or_, _implies_, any, all, every, latest}
-use Rattle.lists.proofs.ListLaws.{and-i, and-l, and-r, imp-e, not-true, any-append, all-append, or-false, below-cases, latest-snoc, every-e, clash}
+use Rattle.lists.proofs.ListLaws.{and-i, and-l, and-r, imp-e, not-true, or-false, clash}
+use Rattle.lists.proofs.ListLaws.{any-append, all-append, below-cases, latest-snoc, every-e}
 use Rattle.events.specs.declared.event.Event.{Event}
 use Rattle.events.specs.Events.{begins}
 use Rattle.events.specs.Questions.{refusal}
 use Rattle.events.proofs.QuestionLaws.{head-yes}
 use Rattle.opacity.specs.Transactions.{isStoreRead}
 use Rattle.opacity.specs.Justification.{Place, isOf, placed, distinct, isOrder}
-use Rattle.opacity.specs.Marking.{Point}
+use Rattle.opacity.specs.Marking.{Marking, Point}
 use Rattle.opacity.proofs.Orders.{distinct-snoc, fills, filled as full}
 use Rattle.rules.specs.Orders.{placesOf, placeAt}
 use Rattle.rules.proofs.Numbers.{every-ext}
 use Rattle.rules.proofs.OrderLaws.{places-length}
-use Rattle.marking_reader.specs.File.{known, asked, nextEvent, everyPlaced, hasPoint, everyPointed, stepAt, withPlace, withPoint, nothingRead}
+use Rattle.marking_reader.specs.File.{known, asked, nextEvent, everyPlaced, hasPoint, everyPointed, stepAt}
+use Rattle.marking_reader.specs.File.{withPlace, withPoint, nothingRead}
 use Rattle.marking_reader.specs.State.{Fresh, pointBy, askedBy, placeQuestions, pointQuestions, pointIn, pointsOf, soFar, Sound, Kept}
 use Rattle.marking_reader.proofs.PointLaws.{has-tabled, points-set, points-none, beyond-history}
 
@@ -89,19 +91,36 @@ module _ {h : List Event} {order outcomes : List ℕ} {used : List Bool} {filled
   abbrev b : ℕ
   b = begins h
 
+  -- the places filled, and the marking read so far
+  abbrev P : List Place
+  P = placesOf order outcomes filled
+
+  abbrev read : Marking
+  read = soFar order outcomes filled gaps next
+
+  -- a table that is filled has them all
+  filled-all : filled ≡ b → every (λ t. placed t P) b ≡ true
+  filled-all e = fills b P (y .low) (y .apart) (places-length order outcomes filled ∙ e)
+
+  -- where an event has a gap, it is below the next
+  below-next : (i : ℕ) → i < 2048 → eqb (getD gaps i 0) 65535 ≡ false → i < next
+  below-next i l e = elim (decLe next i) [ yes m ↦ absurd (eqb-false _ _ e (y .none-after i m l)) | no u ↦ lt-of-not-le u ]
+
   -- ---- what the arrays say to the questions
 
-  every-placed : eqb filled b ≡ everyPlaced (known h) (soFar order outcomes filled gaps next)
+  every-placed : eqb filled b ≡ everyPlaced (known h) (read)
   unfolding everyPlaced soFar isOrder
-  every-placed = go (eqb filled b) refl (every (λ t. placed t (placesOf order outcomes filled)) b) refl
+  every-placed = go (eqb filled b) refl (every (λ t. placed t P) b) refl
     where
-      go : (x : Bool) → eqb filled b ≡ x → (z : Bool) → every (λ t. placed t (placesOf order outcomes filled)) b ≡ z → x ≡ z
+      go : (x : Bool) → eqb filled b ≡ x → (z : Bool) → every (λ t. placed t P) b ≡ z → x ≡ z
       go true e true f = refl
-      go true e false f = absurd (clash (fills b (placesOf order outcomes filled) (y .low) (y .apart) (places-length order outcomes filled ∙ eqb-true _ _ e)) f)
-      go false e true f = absurd (eqb-false _ _ e (sym (places-length order outcomes filled) ∙ full b (placesOf order outcomes filled) (and-i _ _ (y .low) (and-i _ _ (y .apart) f))))
+      go true e false f = absurd (clash (filled-all (eqb-true _ _ e)) f)
+      go false e true f =
+          let n = full b P (and-i _ _ (y .low) (and-i _ _ (y .apart) f)) in
+          absurd (eqb-false _ _ e (sym (places-length order outcomes filled) ∙ n))
       go false e false f = refl
 
-  pub asked-same : askedBy h b used filled next ≡ asked (known h) (soFar order outcomes filled gaps next)
+  pub asked-same : askedBy h b used filled next ≡ asked (known h) (read)
   unfolding soFar
   asked-same = λ i. record {
     transactions = b;
@@ -111,13 +130,13 @@ module _ {h : List Event} {order outcomes : List ℕ} {used : List Bool} {filled
     everyPlaced = every-placed i;
   }
     where
-      next-same : next ≡ nextEvent (soFar order outcomes filled gaps next .points)
+      next-same : next ≡ nextEvent (read .points)
       next-same = sym (y .next-holds)
 
       used-same : (t : ℕ) → getD used t false ≡ placed t (soFar order outcomes filled gaps next .places)
       used-same t = y .used-holds t
 
-  pub pointed-same : every (pointBy h gaps) (length h) ≡ everyPointed (known h) (soFar order outcomes filled gaps next)
+  pub pointed-same : every (pointBy h gaps) (length h) ≡ everyPointed (known h) (read)
   unfolding everyPointed soFar _and_
   pointed-same = every-ext (pointBy h gaps) (λ i. isStoreRead h i implies hasPoint (pointsOf gaps next) i) (length h) same
     where
@@ -128,18 +147,20 @@ module _ {h : List Event} {order outcomes : List ℕ} {used : List Bool} {filled
           none true = refl
           none false = refl
       there i l false e =
-          let w : i < next = elim (decLe next i) [ yes m ↦ absurd (eqb-false _ _ e (y .none-after i m (let f = y .few in omega arith))) | no u ↦ lt-of-not-le u ] in
-          rw (lt-ltb i next w)
+          let w = below-next i (omega (arith, y .few)) e in rw (lt-ltb i next w)
 
       same : (i : ℕ) → i < length h → pointBy h gaps i ≡ (isStoreRead h i implies hasPoint (pointsOf gaps next) i)
       same i l = ap (λ (x : Bool). isStoreRead h i implies x) (there i l (eqb (getD gaps i 0) 65535) refl ∙ sym (has-tabled gaps next i))
 
   pub step-same : (s : List ℕ) (at : ℕ) → stepAt (askedBy h b used filled next) (every (pointBy h gaps) (length h)) s at
-      ≡ stepAt (asked (known h) (soFar order outcomes filled gaps next)) (everyPointed (known h) (soFar order outcomes filled gaps next)) s at
+      ≡ stepAt (asked (known h) (read)) (everyPointed (known h) (read)) s at
   step-same s at = λ i. stepAt (asked-same i) (pointed-same i) s at
 
   -- ---- one place more
   module _ (t o : ℕ) (q : refusal (placeQuestions b next (getD used t false) t o) ≡ none) where
+    abbrev new : Place
+    new = record { transaction = t; committed = eqb o 1 }
+
     fine : (eqb next 0 and ltb t b and not (getD used t false)) ≡ true
     unfolding placeQuestions
     fine = head-yes _ _ q .0
@@ -151,7 +172,7 @@ module _ {h : List Event} {order outcomes : List ℕ} {used : List Bool} {filled
     unfolding placeQuestions
     outcome-low = ltb-true _ _ (head-yes _ _ (head-yes _ _ q .1) .0)
 
-    fresh : placed t (placesOf order outcomes filled) ≡ false
+    fresh : placed t P ≡ false
     fresh = sym (y .used-holds t) ∙ not-true _ (and-r _ _ (and-r _ _ fine))
 
     pub room : filled < b
@@ -160,12 +181,12 @@ module _ {h : List Event} {order outcomes : List ℕ} {used : List Bool} {filled
           | yes m ↦
               absurd
               (let e : filled ≡ b = (let k = y .filled-le in omega arith) in
-              clash {b = placed t (placesOf order outcomes filled)}
-              (every-e (λ u. placed u (placesOf order outcomes filled)) b (fills b (placesOf order outcomes filled) (y .low) (y .apart) (places-length order outcomes filled ∙ e)) t place-low) fresh)
+              clash {b = placed t P}
+              (every-e (λ u. placed u P) b (filled-all e) t place-low) fresh)
           | no u ↦ lt-of-not-le u
         ]
 
-    more-places : placesOf (set order filled t) (set outcomes filled o) (filled + 1) ≡ placesOf order outcomes filled ++ (record { transaction = t; committed = eqb o 1 } ∷ [])
+    more-places : placesOf (set order filled t) (set outcomes filled o) (filled + 1) ≡ P ++ (new ∷ [])
     unfolding placesOf
     more-places =
         let f = y .few-begun in
@@ -173,25 +194,27 @@ module _ {h : List Event} {order outcomes : List ℕ} {used : List Bool} {filled
         let lo : filled < length order = rw (y .order-size) (omega arith) in
         let lu : filled < length outcomes = rw (y .outcomes-size) (omega arith) in
         rw (add-one filled)
-        (ap (λ (P : List Place). P ++ (placeAt (set order filled t) (set outcomes filled o) filled ∷ [])) (places-set order outcomes filled t o filled (le-refl filled))
+        (ap (λ (p : List Place). p ++ (placeAt (set order filled t) (set outcomes filled o) filled ∷ []))
+        (places-set order outcomes filled t o filled (le-refl filled))
         ∙ rw (getD-set-same order filled t 0 lo, getD-set-same outcomes filled o 0 lu))
 
-    used-more : (u : ℕ) → getD (set used t true) u false ≡ placed u (placesOf order outcomes filled ++ (record { transaction = t; committed = eqb o 1 } ∷ []))
+    used-more : (u : ℕ) → getD (set used t true) u false ≡ placed u (P ++ (new ∷ []))
     unfolding placed any _or_
-    used-more u = go (eqb t u) refl ∙ sym (any-append (isOf u) (placesOf order outcomes filled) (record { transaction = t; committed = eqb o 1 } ∷ []))
+    used-more u = go (eqb t u) refl ∙ sym (any-append (isOf u) P (new ∷ []))
       where
         last : (x : Bool) → true ≡ (x or true)
         last true = refl
         last false = refl
 
-        go : (a : Bool) → eqb t u ≡ a → getD (set used t true) u false ≡ (any (isOf u) (placesOf order outcomes filled) or (eqb t u or false))
+        go : (a : Bool) → eqb t u ≡ a → getD (set used t true) u false ≡ (any (isOf u) P or (eqb t u or false))
         go true e =
             let d : t ≡ u = eqb-true t u e in
             let f = y .few-begun in
             let m = place-low in
             let k : t < length used = rw (y .used-size) (omega arith) in
-            let z : getD (set used t true) u false ≡ true = ap (λ (x : ℕ). getD (set used t true) x false) (sym d) ∙ getD-set-same used t true false k in
-            rw (z, e) (last (any (isOf u) (placesOf order outcomes filled)))
+            let z : getD (set used t true) u false ≡ true =
+            ap (λ (x : ℕ). getD (set used t true) x false) (sym d) ∙ getD-set-same used t true false k in
+            rw (z, e) (last (any (isOf u) P))
         go false e = rw (getD-set-other used t u true false (λ q. eqb-false t u e (sym q)), e, or-false) (y .used-holds u)
 
     pub place-sound : Sound h (set order filled t) (set outcomes filled o) (set used t true) (filled + 1) gaps next
@@ -207,14 +230,14 @@ module _ {h : List Event} {order outcomes : List ℕ} {used : List Bool} {filled
           gaps-size = y .gaps-size;
           used-holds = λ u. rw more-places (used-more u);
           low = rw (more-places, all-append) (and-i _ _ (y .low) (and-i _ _ (lt-ltb _ _ place-low) refl));
-          apart = rw more-places (distinct-snoc (placesOf order outcomes filled) (record { transaction = t; committed = eqb o 1 }) (y .apart) fresh);
+          apart = rw more-places (distinct-snoc P new (y .apart) fresh);
           next-holds = y .next-holds;
           next-le = y .next-le;
           none-after = y .none-after;
           fits = y .fits;
         }
 
-    pub place-so : soFar (set order filled t) (set outcomes filled o) (filled + 1) gaps next ≡ withPlace (soFar order outcomes filled gaps next) t o
+    pub place-so : soFar (set order filled t) (set outcomes filled o) (filled + 1) gaps next ≡ withPlace (read) t o
     unfolding soFar
     place-so = rw more-places
 
@@ -249,10 +272,11 @@ module _ {h : List Event} {order outcomes : List ℕ} {used : List Bool} {filled
         let le : e < length gaps = rw (y .gaps-size) (omega arith) in
         let z : eqb g 65535 ≡ false = ne-eqb g 65535 (λ d. omega arith) in
         rw (add-one e)
-        (ap (λ (P : List Point). P ++ pointIn (set gaps e g) e) (points-set gaps e g e (le-refl e) ∙ points-none gaps next e m (λ i a c. y .none-after i a (omega arith)))
+        (ap (λ (p : List Point). p ++ pointIn (set gaps e g) e)
+        (points-set gaps e g e (le-refl e) ∙ points-none gaps next e m (λ i a c. y .none-after i a (omega arith)))
         ∙ rw (getD-set-same gaps e g 0 le, z))
 
-    pub point-so : soFar order outcomes filled (set gaps e g) (e + 1) ≡ withPoint (soFar order outcomes filled gaps next) e g
+    pub point-so : soFar order outcomes filled (set gaps e g) (e + 1) ≡ withPoint (read) e g
     unfolding soFar
     point-so = rw more-points
 
@@ -269,8 +293,7 @@ module _ {h : List Event} {order outcomes : List ℕ} {used : List Bool} {filled
         let i = inside in
         let few = y .few in
         let c′ : eqb (getD gaps j 0) 65535 ≡ false = rw (getD-set-other gaps e j g 0 ne) at c in
-        let w : j < next = elim (decLe next j) [ yes m ↦ absurd (eqb-false _ _ c′ (y .none-after j m (omega arith))) | no u ↦ lt-of-not-le u ] in
-        let f = y .fits j w c′ in
+        let f = y .fits j (below-next j (omega arith) c′) c′ in
         (rw (getD-set-other gaps e j g 0 ne) (f .0), f .1)
 
     pub point-sound : Sound h order outcomes used filled (set gaps e g) (e + 1)
@@ -309,10 +332,7 @@ module _ {h : List Event} {order outcomes : List ℕ} {used : List Bool} {filled
     end-ordered =
         let e = all-filled in
         subst (λ (x : ℕ). isOrder b (placesOf order outcomes x) ≡ true) e
-        (and-i _ _ (y .low) (and-i _ _ (y .apart) (fills b (placesOf order outcomes filled) (y .low) (y .apart) (places-length order outcomes filled ∙ e))))
-
-    below-next : (i : ℕ) → i < length h → eqb (getD gaps i 0) 65535 ≡ false → i < next
-    below-next i l e = elim (decLe next i) [ yes m ↦ absurd (eqb-false _ _ e (y .none-after i m (let f = y .few in omega arith))) | no u ↦ lt-of-not-le u ]
+        (and-i _ _ (y .low) (and-i _ _ (y .apart) (filled-all e)))
 
     end-pointed : (i : ℕ) → i < length h → isStoreRead h i ≡ not (eqb (getD gaps i 0) 65535)
     end-pointed i l = go (isStoreRead h i) refl (eqb (getD gaps i 0) 65535) refl
@@ -321,12 +341,12 @@ module _ {h : List Event} {order outcomes : List ℕ} {used : List Bool} {filled
         go true e true f = absurd (clash (imp-e _ _ (every-e (pointBy h gaps) (length h) pointed-now i l) e) (ap not f))
         go true e false f = refl
         go false e true f = refl
-        go false e false f = absurd (clash (y .fits i (below-next i l f) f .1) e)
+        go false e false f = absurd (clash (y .fits i (below-next i (omega (arith, y .few)) f) f .1) e)
 
     end-fits : (i : ℕ) → i < length h → isStoreRead h i ≡ true → getD gaps i 0 ≤ b
     end-fits i l r =
         let z : eqb (getD gaps i 0) 65535 ≡ false = not-true _ (sym (end-pointed i l) ∙ r) in
-        y .fits i (below-next i l z) z .0
+        y .fits i (below-next i (omega (arith, y .few)) z) z .0
 
     pub end-kept : Kept h order outcomes gaps
     end-kept = record { ordered = end-ordered; pointed = end-pointed; gaps-fit = end-fits }

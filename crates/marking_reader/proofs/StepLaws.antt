@@ -2,24 +2,25 @@
 -- Assumes nothing.
 use Prim.Native.Nat.{ℕ, suc, _+_}
 use native.Mathlib.Omega.{arith}
-use mathlib.Core.Path.{_≡_, refl, sym, ap, _∙_, subst}
+use mathlib.Core.Path.{_≡_, refl, sym, ap, _∙_}
 use mathlib.Core.Bool.{Bool, true, false, cond}
 use mathlib.Core.List.{List, [], _∷_}
 use mathlib.Core.Option.{Option, none, some}
-use lib.Dec.{eqb, ltb, leb}
+use lib.Dec.{eqb, leb}
 use lib.ListN.{length}
 use borrow.Author.Tests.{eqb-true}
 use Rattle.records.specs.declared.record.Record.{Record}
 use Rattle.records.specs.declared.record.Found.{Found}
 use Rattle.records.specs.declared.record.Found.the-variants.{Whole, Short, End}
 use Rattle.records.specs.Bytes.{u16At}
-use Rattle.lists.specs.Lists.{_and_, _or_, _implies_, all}
+use Rattle.lists.specs.Lists.{_and_, _or_, _implies_}
 use Rattle.events.specs.Questions.{Question, ask, refusal, numbered}
 use Rattle.records.specs.Records.{recordAt, bodyOf}
-use Rattle.events.proofs.QuestionLaws.{numbered-none}
 use Rattle.marking_reader.specs.declared.step.Step.{Step}
 use Rattle.marking_reader.specs.declared.step.Step.the-variants.{Placed, Pointed, Refused, Unfinished, Finished}
-use Rattle.marking_reader.specs.File.{Asked, isPlace, isPoint, transactionIn, outcomeIn, eventIn, gapIn, headQuestions, recordQuestions, endQuestions, taken, unless, bodyStep, endStep, stepOn, stepAt, headed, opening}
+use Rattle.marking_reader.specs.File.{Asked, isPlace, isPoint, transactionIn, outcomeIn, eventIn, gapIn, taken, unless}
+use Rattle.marking_reader.specs.File.{headQuestions, recordQuestions, endQuestions, headed, opening}
+use Rattle.marking_reader.specs.File.{bodyStep, endStep, stepOn, stepAt}
 use Rattle.marking_reader.specs.State.{placeQuestions, pointQuestions, placeStep, pointStep}
 
 -- ---- by kind
@@ -28,22 +29,38 @@ sized : (b : Bool) (o : Option ℕ) (x : Step) → unless (cond b o (some 23)) R
 sized true o x = refl
 sized false o x = refl
 
-pub body-place : (a : Asked) (kind : ℕ) (body : List ℕ) (end : ℕ) → isPlace kind ≡ true → bodyStep a kind body end ≡ placeStep (a .transactions) (a .nextEvent) (a .placed) body end
-unfolding bodyStep recordQuestions refusal placeStep placeQuestions _or_ _implies_
-body-place a kind body end e =
-    let k : kind ≡ 32 = eqb-true kind 32 e in
-    rw k (sized (eqb (length body) 4) (refusal (placeQuestions (a .transactions) (a .nextEvent) (a .placed (transactionIn body)) (transactionIn body) (outcomeIn body))) (Placed (transactionIn body) (outcomeIn body) end))
+-- what is asked of a place's body and of a point's, and their steps
+module _ (a : Asked) where
+  abbrev placeAsked : List ℕ → Option ℕ
+  placeAsked body =
+      refusal (placeQuestions (a .transactions) (a .nextEvent) (a .placed (transactionIn body)) (transactionIn body) (outcomeIn body))
 
-pub body-point : (a : Asked) (kind : ℕ) (body : List ℕ) (end : ℕ) → isPoint kind ≡ true
-    → bodyStep a kind body end ≡ pointStep (a .transactions) (a .nextEvent) (a .everyPlaced) (a .storeRead) body end
-unfolding bodyStep recordQuestions refusal pointStep pointQuestions _or_ _implies_
-body-point a kind body end e =
-    let k : kind ≡ 33 = eqb-true kind 33 e in
-    rw k (sized (eqb (length body) 6) (refusal (pointQuestions (a .transactions) (a .nextEvent) (a .everyPlaced) (a .storeRead (eventIn body)) (eventIn body) (gapIn body))) (Pointed (eventIn body) (gapIn body) end))
+  abbrev pointAsked : List ℕ → Option ℕ
+  pointAsked body =
+      refusal (pointQuestions (a .transactions) (a .nextEvent) (a .everyPlaced) (a .storeRead (eventIn body)) (eventIn body) (gapIn body))
 
-pub body-other : (a : Asked) (kind : ℕ) (body : List ℕ) (end : ℕ) → isPlace kind ≡ false → isPoint kind ≡ false → bodyStep a kind body end ≡ Refused 22
-unfolding bodyStep recordQuestions refusal _or_
-body-other a kind body end e d = rw (e, d)
+  abbrev pub placeBody : List ℕ → ℕ → Step
+  placeBody body end = placeStep (a .transactions) (a .nextEvent) (a .placed) body end
+
+  abbrev pub pointBody : List ℕ → ℕ → Step
+  pointBody body end = pointStep (a .transactions) (a .nextEvent) (a .everyPlaced) (a .storeRead) body end
+
+  pub body-place : (kind : ℕ) (body : List ℕ) (end : ℕ) → isPlace kind ≡ true → bodyStep a kind body end ≡ placeBody body end
+  unfolding bodyStep recordQuestions refusal placeStep placeQuestions _or_ _implies_
+  body-place kind body end e =
+      let k : kind ≡ 32 = eqb-true kind 32 e in
+      rw k (sized (eqb (length body) 4) (placeAsked body) (Placed (transactionIn body) (outcomeIn body) end))
+
+  pub body-point : (kind : ℕ) (body : List ℕ) (end : ℕ) → isPoint kind ≡ true → bodyStep a kind body end ≡ pointBody body end
+  unfolding bodyStep recordQuestions refusal pointStep pointQuestions _or_ _implies_
+  body-point kind body end e =
+      let k : kind ≡ 33 = eqb-true kind 33 e in
+      rw k (sized (eqb (length body) 6) (pointAsked body) (Pointed (eventIn body) (gapIn body) end))
+
+  pub body-other : (kind : ℕ) (body : List ℕ) (end : ℕ) → isPlace kind ≡ false → isPoint kind ≡ false
+      → bodyStep a kind body end ≡ Refused 22
+  unfolding bodyStep recordQuestions refusal _or_
+  body-other kind body end e d = rw (e, d)
 
 -- ---- numbers of questions
 
@@ -54,20 +71,24 @@ pub unless-some : (o : Option ℕ) (f : ℕ → Step) (x : Step) (q : ℕ) → (
 unless-some none f x q z e = absurd (z e)
 unless-some (some k) f x q z e = ap f e
 
-no-zero : (n : ℕ) (b : Bool) (qs : List Question) → (0 ≡ numbered (refusal qs) → refusal qs ≡ none) → 0 ≡ numbered (refusal (ask (suc n) b ∷ qs)) → refusal (ask (suc n) b ∷ qs) ≡ none
+-- no question says no where the number is 0
+abbrev pub NoneAtZero : List Question → Type 0
+NoneAtZero qs = 0 ≡ numbered (refusal qs) → refusal qs ≡ none
+
+no-zero : (n : ℕ) (b : Bool) (qs : List Question) → NoneAtZero qs → NoneAtZero (ask (suc n) b ∷ qs)
 unfolding refusal
 no-zero n true qs f e = f e
 no-zero n false qs f e = absurd (omega arith)
 
-no-more : 0 ≡ numbered (refusal []) → refusal [] ≡ none
+no-more : NoneAtZero []
 unfolding refusal
 no-more e = refl
 
-pub place-none : (b next : ℕ) (used : Bool) (t o : ℕ) → 0 ≡ numbered (refusal (placeQuestions b next used t o)) → refusal (placeQuestions b next used t o) ≡ none
+pub place-none : (b next : ℕ) (used : Bool) (t o : ℕ) → NoneAtZero (placeQuestions b next used t o)
 unfolding placeQuestions
 place-none b next used t o e = no-zero 23 _ _ (no-zero 24 _ _ no-more) e
 
-pub point-none : (b next : ℕ) (placed read : Bool) (e g : ℕ) → 0 ≡ numbered (refusal (pointQuestions b next placed read e g)) → refusal (pointQuestions b next placed read e g) ≡ none
+pub point-none : (b next : ℕ) (placed read : Bool) (e g : ℕ) → NoneAtZero (pointQuestions b next placed read e g)
 unfolding pointQuestions
 point-none b next placed read e g d = no-zero 27 _ _ (no-zero 25 _ _ (no-zero 26 _ _ no-more)) d
 
@@ -83,7 +104,8 @@ placed≢pointed : (x y w t o e : ℕ) → Placed x y w ≡ Pointed t o e → �
 placed≢pointed x y w t o e d = let z : _≡_ {A = ℕ} 0 1 = cc in omega arith
 
 -- a body that is answered with something other than a refusal has its size, and no question says no
-body-given : (b : Bool) (o : Option ℕ) (x y : Step) → ((q : ℕ) → Refused q ≡ y → ⊥) → cond b (unless o Refused x) (Refused 23) ≡ y → (b ≡ true) × (o ≡ none) × (x ≡ y)
+body-given : (b : Bool) (o : Option ℕ) (x y : Step) → ((q : ℕ) → Refused q ≡ y → ⊥) → cond b (unless o Refused x) (Refused 23) ≡ y
+    → (b ≡ true) × (o ≡ none) × (x ≡ y)
 body-given true none x y n d = (refl, refl, d)
 body-given true (some q) x y n d = absurd (n q d)
 body-given false o x y n d = absurd (n 23 d)
@@ -110,27 +132,28 @@ pub record PointTold (a : Asked) (s : List ℕ) (at e g end : ℕ) : Type 0 wher
   pub fine : refusal (pointQuestions (a .transactions) (a .nextEvent) (a .everyPlaced) (a .storeRead e) e g) ≡ none
 
 module _ (a : Asked) (s : List ℕ) (at : ℕ) where
-  abbrev placeAsked : Record → Option ℕ
-  placeAsked r = refusal (placeQuestions (a .transactions) (a .nextEvent) (a .placed (transactionIn (bodyOf s r))) (transactionIn (bodyOf s r)) (outcomeIn (bodyOf s r)))
+  -- a record's body, and where it ends
+  abbrev body : Record → List ℕ
+  body r = bodyOf s r
+
+  abbrev ends : Record → ℕ
+  ends r = r .start + r .size
 
   abbrev placeGiven : Record → Step
-  placeGiven r = Placed (transactionIn (bodyOf s r)) (outcomeIn (bodyOf s r)) (r .start + r .size)
-
-  abbrev pointAsked : Record → Option ℕ
-  pointAsked r = refusal (pointQuestions (a .transactions) (a .nextEvent) (a .everyPlaced) (a .storeRead (eventIn (bodyOf s r))) (eventIn (bodyOf s r)) (gapIn (bodyOf s r)))
+  placeGiven r = Placed (transactionIn (body r)) (outcomeIn (body r)) (ends r)
 
   abbrev pointGiven : Record → Step
-  pointGiven r = Pointed (eventIn (bodyOf s r)) (gapIn (bodyOf s r)) (r .start + r .size)
+  pointGiven r = Pointed (eventIn (body r)) (gapIn (body r)) (ends r)
 
   placed-told-body : (r : Record) (t o end : ℕ) → recordAt s at ≡ Whole r → isPlace (r .kind) ≡ true
-      → placeStep (a .transactions) (a .nextEvent) (a .placed) (bodyOf s r) (r .start + r .size) ≡ Placed t o end → PlaceTold a s at t o end
+      → placeBody a (body r) (ends r) ≡ Placed t o end → PlaceTold a s at t o end
   unfolding placeStep
   placed-told-body r t o end w k d =
-      let g = body-given (eqb (length (bodyOf s r)) 4) (placeAsked r) (placeGiven r) (Placed t o end) (λ q. refused≢placed q t o end) d in
+      let g = body-given _ (placeAsked a (body r)) (placeGiven r) (Placed t o end) (λ q. refused≢placed q t o end) d in
       let same = g .2 in
-      let x : transactionIn (bodyOf s r) ≡ t = cc in
-      let y : outcomeIn (bodyOf s r) ≡ o = cc in
-      let z : r .start + r .size ≡ end = cc in
+      let x : transactionIn (body r) ≡ t = cc in
+      let y : outcomeIn (body r) ≡ o = cc in
+      let z : ends r ≡ end = cc in
       record {
         whole = r;
         there = w;
@@ -143,14 +166,14 @@ module _ (a : Asked) (s : List ℕ) (at : ℕ) where
       }
 
   pointed-told-body : (r : Record) (t o end : ℕ) → recordAt s at ≡ Whole r → isPoint (r .kind) ≡ true
-      → pointStep (a .transactions) (a .nextEvent) (a .everyPlaced) (a .storeRead) (bodyOf s r) (r .start + r .size) ≡ Pointed t o end → PointTold a s at t o end
+      → pointBody a (body r) (ends r) ≡ Pointed t o end → PointTold a s at t o end
   unfolding pointStep
   pointed-told-body r t o end w k d =
-      let g = body-given (eqb (length (bodyOf s r)) 6) (pointAsked r) (pointGiven r) (Pointed t o end) (λ q. refused≢pointed q t o end) d in
+      let g = body-given _ (pointAsked a (body r)) (pointGiven r) (Pointed t o end) (λ q. refused≢pointed q t o end) d in
       let same = g .2 in
-      let x : eventIn (bodyOf s r) ≡ t = cc in
-      let y : gapIn (bodyOf s r) ≡ o = cc in
-      let z : r .start + r .size ≡ end = cc in
+      let x : eventIn (body r) ≡ t = cc in
+      let y : gapIn (body r) ≡ o = cc in
+      let z : ends r ≡ end = cc in
       record {
         whole = r;
         there = w;
@@ -159,21 +182,23 @@ module _ (a : Asked) (s : List ℕ) (at : ℕ) where
         first = x;
         second = y;
         ends = z;
-        fine = sym (λ i. refusal (pointQuestions (a .transactions) (a .nextEvent) (a .everyPlaced) (a .storeRead (x i)) (x i) (y i))) ∙ g .1;
+        fine =
+            sym (λ i. refusal (pointQuestions (a .transactions) (a .nextEvent) (a .everyPlaced) (a .storeRead (x i)) (x i) (y i)))
+            ∙ g .1;
       }
 
   -- a place's record gives no point, and no end; nor the other way round
-  place≢pointed : (r : Record) (t o end : ℕ) → placeStep (a .transactions) (a .nextEvent) (a .placed) (bodyOf s r) (r .start + r .size) ≡ Pointed t o end → ⊥
+  place≢pointed : (r : Record) (t o end : ℕ) → placeBody a (body r) (ends r) ≡ Pointed t o end → ⊥
   unfolding placeStep
   place≢pointed r t o end d =
-      placed≢pointed (transactionIn (bodyOf s r)) (outcomeIn (bodyOf s r)) (r .start + r .size) t o end
-      (body-given (eqb (length (bodyOf s r)) 4) (placeAsked r) (placeGiven r) (Pointed t o end) (λ q. refused≢pointed q t o end) d .2)
+      placed≢pointed (transactionIn (body r)) (outcomeIn (body r)) (ends r) t o end
+      (body-given (eqb (length (body r)) 4) (placeAsked a (body r)) (placeGiven r) _ (λ q. refused≢pointed q t o end) d .2)
 
-  point≢placed : (r : Record) (t o end : ℕ) → pointStep (a .transactions) (a .nextEvent) (a .everyPlaced) (a .storeRead) (bodyOf s r) (r .start + r .size) ≡ Placed t o end → ⊥
+  point≢placed : (r : Record) (t o end : ℕ) → pointBody a (body r) (ends r) ≡ Placed t o end → ⊥
   unfolding pointStep
   point≢placed r t o end d =
-      placed≢pointed t o end (eventIn (bodyOf s r)) (gapIn (bodyOf s r)) (r .start + r .size)
-      (sym (body-given (eqb (length (bodyOf s r)) 6) (pointAsked r) (pointGiven r) (Placed t o end) (λ q. refused≢placed q t o end) d .2))
+      placed≢pointed t o end (eventIn (body r)) (gapIn (body r)) (ends r)
+      (sym (body-given (eqb (length (body r)) 6) (pointAsked a (body r)) (pointGiven r) _ (λ q. refused≢placed q t o end) d .2))
 
   end≢placed : (p q : Bool) (t o e : ℕ) → endStep p q ≡ Placed t o e → ⊥
   unfolding endStep endQuestions refusal
@@ -192,14 +217,14 @@ module _ (a : Asked) (s : List ℕ) (at : ℕ) where
     unfolding stepAt
     placed-told t o end d = go (recordAt s at) refl d
       where
-        body : (r : Record) → recordAt s at ≡ Whole r → bodyStep a (r .kind) (bodyOf s r) (r .start + r .size) ≡ Placed t o end
+        by-kind : (r : Record) → recordAt s at ≡ Whole r → bodyStep a (r .kind) (body r) (ends r) ≡ Placed t o end
             → (x y : Bool) → isPlace (r .kind) ≡ x → isPoint (r .kind) ≡ y → PlaceTold a s at t o end
-        body r w k true y p q = placed-told-body r t o end w p (sym (body-place a (r .kind) (bodyOf s r) (r .start + r .size) p) ∙ k)
-        body r w k false true p q = absurd (point≢placed r t o end (sym (body-point a (r .kind) (bodyOf s r) (r .start + r .size) q) ∙ k))
-        body r w k false false p q = absurd (refused≢placed 22 t o end (sym (body-other a (r .kind) (bodyOf s r) (r .start + r .size) p q) ∙ k))
+        by-kind r w k true y p q = placed-told-body r t o end w p (sym (body-place a (r .kind) (body r) (ends r) p) ∙ k)
+        by-kind r w k false true p q = absurd (point≢placed r t o end (sym (body-point a (r .kind) (body r) (ends r) q) ∙ k))
+        by-kind r w k false false p q = absurd (refused≢placed 22 t o end (sym (body-other a (r .kind) (body r) (ends r) p q) ∙ k))
 
         go : (f : Found) → recordAt s at ≡ f → stepOn a pointed s f ≡ Placed t o end → PlaceTold a s at t o end
-        go (Whole r) w k = body r w k (isPlace (r .kind)) (isPoint (r .kind)) refl refl
+        go (Whole r) w k = by-kind r w k (isPlace (r .kind)) (isPoint (r .kind)) refl refl
         go Short w k = absurd (refused≢placed 2 t o end k)
         go End w k = absurd (end≢placed (a .everyPlaced) pointed t o end k)
 
@@ -207,14 +232,14 @@ module _ (a : Asked) (s : List ℕ) (at : ℕ) where
     unfolding stepAt
     pointed-told t o end d = go (recordAt s at) refl d
       where
-        body : (r : Record) → recordAt s at ≡ Whole r → bodyStep a (r .kind) (bodyOf s r) (r .start + r .size) ≡ Pointed t o end
+        by-kind : (r : Record) → recordAt s at ≡ Whole r → bodyStep a (r .kind) (body r) (ends r) ≡ Pointed t o end
             → (x y : Bool) → isPlace (r .kind) ≡ x → isPoint (r .kind) ≡ y → PointTold a s at t o end
-        body r w k true y p q = absurd (place≢pointed r t o end (sym (body-place a (r .kind) (bodyOf s r) (r .start + r .size) p) ∙ k))
-        body r w k false true p q = pointed-told-body r t o end w q (sym (body-point a (r .kind) (bodyOf s r) (r .start + r .size) q) ∙ k)
-        body r w k false false p q = absurd (refused≢pointed 22 t o end (sym (body-other a (r .kind) (bodyOf s r) (r .start + r .size) p q) ∙ k))
+        by-kind r w k true y p q = absurd (place≢pointed r t o end (sym (body-place a (r .kind) (body r) (ends r) p) ∙ k))
+        by-kind r w k false true p q = pointed-told-body r t o end w q (sym (body-point a (r .kind) (body r) (ends r) q) ∙ k)
+        by-kind r w k false false p q = absurd (refused≢pointed 22 t o end (sym (body-other a (r .kind) (body r) (ends r) p q) ∙ k))
 
         go : (f : Found) → recordAt s at ≡ f → stepOn a pointed s f ≡ Pointed t o end → PointTold a s at t o end
-        go (Whole r) w k = body r w k (isPlace (r .kind)) (isPoint (r .kind)) refl refl
+        go (Whole r) w k = by-kind r w k (isPlace (r .kind)) (isPoint (r .kind)) refl refl
         go Short w k = absurd (refused≢pointed 2 t o end k)
         go End w k = absurd (end≢pointed (a .everyPlaced) pointed t o end k)
 
@@ -233,7 +258,7 @@ module _ (a : Asked) (s : List ℕ) (at : ℕ) where
         no-taken true x y z t o e d = let z : _≡_ {A = ℕ} 0 1 = cc in omega arith
         no-taken false x y z t o e d = let z : _≡_ {A = ℕ} 0 1 = cc in omega arith
 
-        no-body : (r : Record) (f : Option ℕ) → unless f Refused (taken (r .kind) (bodyOf s r) (r .start + r .size)) ≡ Finished → ⊥
+        no-body : (r : Record) (f : Option ℕ) → unless f Refused (taken (r .kind) (body r) (ends r)) ≡ Finished → ⊥
         no-body r none d = no-taken (isPlace (r .kind)) _ _ _ _ _ _ d
         no-body r (some q) d = no-refused q d
 
@@ -242,60 +267,13 @@ module _ (a : Asked) (s : List ℕ) (at : ℕ) where
         ended true false d = absurd (no-unfinished 29 d)
         ended false q d = absurd (no-unfinished 28 d)
 
-        go : (f : Found) → recordAt s at ≡ f → stepOn a pointed s f ≡ Finished → (recordAt s at ≡ End) × (a .everyPlaced ≡ true) × (pointed ≡ true)
-        go (Whole r) w k = absurd (no-body r (refusal (recordQuestions a (r .kind) (bodyOf s r))) k)
+        go : (f : Found) → recordAt s at ≡ f → stepOn a pointed s f ≡ Finished
+            → (recordAt s at ≡ End) × (a .everyPlaced ≡ true) × (pointed ≡ true)
+        go (Whole r) w k = absurd (no-body r (refusal (recordQuestions a (r .kind) (body r))) k)
         go Short w k = absurd (no-refused 2 k)
         go End w k = (let e = ended (a .everyPlaced) pointed k in (w, e .0, e .1))
 
--- ---- no question has the number 0
-
-no-zero-refusal : (qs : List Question) → all (λ q. ltb 0 (q .number)) qs ≡ true → refusal qs ≡ some 0 → ⊥
-no-zero-refusal qs p e = let n : refusal qs ≡ none = numbered-none qs p (rw e) in let z : _≡_ {A = ℕ} 0 1 = cc in omega arith
-
-module _ (a : Asked) (s : List ℕ) (at : ℕ) (pointed : Bool) where
-  pub refused-number : (q : ℕ) → stepAt a pointed s at ≡ Refused q → q ≡ 0 → ⊥
-  unfolding stepAt bodyStep endStep endQuestions recordQuestions refusal all _and_
-  refused-number q d z = go (recordAt s at) (subst (λ (x : ℕ). stepAt a pointed s at ≡ Refused x) z d)
-    where
-      not-taken : (b : Bool) (x y w t o e : ℕ) → cond b (Placed x y w) (Pointed t o e) ≡ Refused 0 → ⊥
-      not-taken true x y w t o e d = refused≢placed 0 x y w (sym d)
-      not-taken false x y w t o e d = refused≢pointed 0 t o e (sym d)
-
-      body : (r : Record) (f : Option ℕ) → refusal (recordQuestions a (r .kind) (bodyOf s r)) ≡ f → unless f Refused (taken (r .kind) (bodyOf s r) (r .start + r .size)) ≡ Refused 0 → ⊥
-      body r none e d = not-taken (isPlace (r .kind)) _ _ _ _ _ _ d
-      body r (some k) e d = let w : k ≡ 0 = cc in no-zero-refusal (recordQuestions a (r .kind) (bodyOf s r)) refl (e ∙ ap some w)
-
-      ended : (p q : Bool) → endStep p q ≡ Refused 0 → ⊥
-      ended true true d = let z : _≡_ {A = ℕ} 0 1 = cc in omega arith
-      ended true false d = let z : _≡_ {A = ℕ} 0 1 = cc in omega arith
-      ended false q d = let z : _≡_ {A = ℕ} 0 1 = cc in omega arith
-
-      go : (f : Found) → stepOn a pointed s f ≡ Refused 0 → ⊥
-      go (Whole r) k = body r (refusal (recordQuestions a (r .kind) (bodyOf s r))) refl k
-      go Short k = let z : _≡_ {A = ℕ} 2 0 = cc in omega arith
-      go End k = ended (a .everyPlaced) pointed k
-
-  pub unfinished-number : (q : ℕ) → stepAt a pointed s at ≡ Unfinished q → q ≡ 0 → ⊥
-  unfolding stepAt bodyStep endStep endQuestions refusal
-  unfinished-number q d z = go (recordAt s at) (subst (λ (x : ℕ). stepAt a pointed s at ≡ Unfinished x) z d)
-    where
-      not-taken : (b : Bool) (x y w t o e : ℕ) → cond b (Placed x y w) (Pointed t o e) ≡ Unfinished 0 → ⊥
-      not-taken true x y w t o e d = let z : _≡_ {A = ℕ} 0 1 = cc in omega arith
-      not-taken false x y w t o e d = let z : _≡_ {A = ℕ} 0 1 = cc in omega arith
-
-      body : (r : Record) (f : Option ℕ) → unless f Refused (taken (r .kind) (bodyOf s r) (r .start + r .size)) ≡ Unfinished 0 → ⊥
-      body r none d = not-taken (isPlace (r .kind)) _ _ _ _ _ _ d
-      body r (some k) d = let z : _≡_ {A = ℕ} 0 1 = cc in omega arith
-
-      ended : (p q : Bool) → endStep p q ≡ Unfinished 0 → ⊥
-      ended true true d = let z : _≡_ {A = ℕ} 0 1 = cc in omega arith
-      ended true false d = let z : _≡_ {A = ℕ} 29 0 = cc in omega arith
-      ended false q d = let z : _≡_ {A = ℕ} 28 0 = cc in omega arith
-
-      go : (f : Found) → stepOn a pointed s f ≡ Unfinished 0 → ⊥
-      go (Whole r) k = body r (refusal (recordQuestions a (r .kind) (bodyOf s r))) k
-      go Short k = let z : _≡_ {A = ℕ} 0 1 = cc in omega arith
-      go End k = ended (a .everyPlaced) pointed k
+-- ---- the opening
 
 pub opening-none : (s : List ℕ) → numbered (opening s) ≡ 0 → opening s ≡ none
 unfolding opening headQuestions refusal

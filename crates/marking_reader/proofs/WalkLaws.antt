@@ -15,10 +15,14 @@ use Rattle.marking_reader.proofs.StepLaws.{PlaceTold, PointTold}
 -- a record ends behind where it begins, within the file
 module _ {a : Asked} {s : List ℕ} {at x y end : ℕ} where
   pub place-ends : PlaceTold a s at x y end → (at < end) × (end ≤ length s)
-  place-ends w = let i = whole-in s at (w .whole) (w .there) in let b = i .0 in let c = i .1 in let e = w .ends in (omega arith, omega arith)
+  place-ends w =
+      let i = whole-in s at (w .whole) (w .there) in
+      (omega (arith, i .0, i .1, w .ends), omega (arith, i .0, i .1, w .ends))
 
   pub point-ends : PointTold a s at x y end → (at < end) × (end ≤ length s)
-  point-ends w = let i = whole-in s at (w .whole) (w .there) in let b = i .0 in let c = i .1 in let e = w .ends in (omega arith, omega arith)
+  point-ends w =
+      let i = whole-in s at (w .whole) (w .there) in
+      (omega (arith, i .0, i .1, w .ends), omega (arith, i .0, i .1, w .ends))
 
 -- what is left to walk has the answer
 pub record Reached (k : Known) (s : List ℕ) (at : ℕ) (m : Marking) : Type 0 where

@@ -24,21 +24,24 @@ use Rattle.opacity.specs.Marking.{Marking, Point, markingHead, outcomeNumber, p
 use Rattle.opacity.proofs.MarkingBytes.{outcome-back, flat-append}
 use Rattle.marking_reader.specs.declared.step.Step.{Step}
 use Rattle.marking_reader.specs.declared.step.Step.the-variants.{Placed, Pointed, Refused, Unfinished, Finished}
-use Rattle.marking_reader.specs.File.{Known, Asked, asked, outcomeIn, nextEvent, everyPointed, headQuestions, stepAt, content, refused, withPlace, withPoint, goOn, walk, headed, opening, nothingRead, afterOpening, fileRead}
+use Rattle.marking_reader.specs.File.{Known, Asked, asked, outcomeIn, nextEvent, everyPointed, headQuestions, stepAt, goOn, walk}
+use Rattle.marking_reader.specs.File.{content, refused, withPlace, withPoint, headed, opening, nothingRead, afterOpening, fileRead}
 use Rattle.marking_reader.specs.State.{placeQuestions}
 use Rattle.marking_reader.proofs.StepLaws.{PlaceTold, PointTold, placed-told, pointed-told, finished-told}
 
 -- ---- a record that was read is the bytes of what it gave
 
 module _ (a : Asked) (s : List ℕ) (at : ℕ) (by : Bytes s) where
-  place-forth : (t o end : ℕ) → PlaceTold a s at t o end → o < 2 → drop at s ≡ placeBytes (record { transaction = t; committed = eqb o 1 }) ++ drop end s
+  place-forth : (t o end : ℕ) → PlaceTold a s at t o end → o < 2
+      → drop at s ≡ placeBytes (record { transaction = t; committed = eqb o 1 }) ++ drop end s
   place-forth t o end w l =
       let r = w .whole in
       let h = there s at r (w .there) in
       let x : outcomeIn (bodyOf s r) ≡ outcomeNumber (eqb o 1) = w .second ∙ sym (outcome-back o l) in
       let f = body-bytes s at r h by in
       let b : bodyOf s r ≡ u16Bytes t ++ u16Bytes (outcomeNumber (eqb o 1)) =
-      field-forth (bodyOf s r) 0 f (omega (arith, w .size)) ∙ ap (λ (l : List ℕ). u16Bytes (u16At (bodyOf s r) 0) ++ l) (field-last (bodyOf s r) 2 f (w .size))
+      field-forth (bodyOf s r) 0 f (omega (arith, w .size))
+      ∙ ap (λ (l : List ℕ). u16Bytes (u16At (bodyOf s r) 0) ++ l) (field-last (bodyOf s r) 2 f (w .size))
       ∙ (λ i. u16Bytes (w .first i) ++ u16Bytes (x i)) in
       record-forth s at r h by 4 32 end _ (sym (body-length s at r h) ∙ w .size) (eqb-true _ _ (w .kind)) b (w .ends)
 
@@ -48,19 +51,22 @@ module _ (a : Asked) (s : List ℕ) (at : ℕ) (by : Bytes s) where
       let h = there s at r (w .there) in
       let f = body-bytes s at r h by in
       let b : bodyOf s r ≡ u32Bytes e ++ u16Bytes g =
-      long-forth (bodyOf s r) 0 f (omega (arith, w .size)) ∙ ap (λ (l : List ℕ). u32Bytes (u32At (bodyOf s r) 0) ++ l) (field-last (bodyOf s r) 4 f (w .size))
+      long-forth (bodyOf s r) 0 f (omega (arith, w .size))
+      ∙ ap (λ (l : List ℕ). u32Bytes (u32At (bodyOf s r) 0) ++ l) (field-last (bodyOf s r) 4 f (w .size))
       ∙ (λ i. u32Bytes (w .first i) ++ u16Bytes (w .second i)) in
       record-forth s at r h by 6 33 end _ (sym (body-length s at r h) ∙ w .size) (eqb-true _ _ (w .kind)) b (w .ends)
 
 -- ---- the file is the bytes of its content
 
-bytes-place : (m : Marking) (t o : ℕ) → m .points ≡ [] → markingBytes (withPlace m t o) ≡ markingBytes m ++ placeBytes (record { transaction = t; committed = eqb o 1 })
+bytes-place : (m : Marking) (t o : ℕ) → m .points ≡ []
+    → markingBytes (withPlace m t o) ≡ markingBytes m ++ placeBytes (record { transaction = t; committed = eqb o 1 })
 unfolding markingBytes flat
 bytes-place m t o e =
     let p : Place = record { transaction = t; committed = eqb o 1 } in
     rw e
     (ap (λ (x : List ℕ). markingHead ++ x)
-    (append-nil (flat placeBytes (m .places ++ (p ∷ []))) ∙ flat-append placeBytes (m .places) (p ∷ []) ∙ ap (λ (x : List ℕ). x ++ placeBytes p) (sym (append-nil (flat placeBytes (m .places))))))
+    (append-nil (flat placeBytes (m .places ++ (p ∷ []))) ∙ flat-append placeBytes (m .places) (p ∷ [])
+    ∙ ap (λ (x : List ℕ). x ++ placeBytes p) (sym (append-nil (flat placeBytes (m .places))))))
 
 bytes-point : (m : Marking) (e g : ℕ) → markingBytes (withPoint m e g) ≡ markingBytes m ++ pointBytes (record { event = e; gap = g })
 unfolding markingBytes flat
@@ -103,7 +109,11 @@ module _ (k : Known) (s : List ℕ) (by : Bytes s) (m′ : Marking) where
             ∙ (ap (λ (x : List ℕ). markingBytes m ++ x) (point-forth (asked k m) s at by e g end w)
             ∙ (sym (append-assoc (markingBytes m) (pointBytes (record { event = e; gap = g })) (drop end s))
             ∙ ap (λ (x : List ℕ). x ++ drop end s) (sym (bytes-point m e g))));
-        unpointed = λ z. absurd (let n = latest-snoc (λ p. some (p .event + 1)) (m .points) (record { event = e; gap = g }) in let y : e + 1 ≡ 0 = sym (ap (λ (x : Option ℕ). Option·getD x 0) n) ∙ z in omega arith);
+        unpointed =
+            λ z.
+            let n = latest-snoc (λ p. some (p .event + 1)) (m .points) (record { event = e; gap = g }) in
+            let y : e + 1 ≡ 0 = sym (ap (λ (x : Option ℕ). Option·getD x 0) n) ∙ z in
+            absurd (omega arith);
       }
 
   walk-forth : (left at : ℕ) (m : Marking) → Forth s at m → walk k left s at m ≡ content m′ → s ≡ markingBytes m′
@@ -113,8 +123,10 @@ module _ (k : Known) (s : List ℕ) (by : Bytes s) (m′ : Marking) where
     where
       go : (x : Step) → stepAt (asked k m) (everyPointed k m) s at ≡ x → goOn (walk k left s) s at m x ≡ content m′
           → ((a : ℕ) (x : Marking) → Forth s a x → walk k left s a x ≡ content m′ → s ≡ markingBytes m′) → s ≡ markingBytes m′
-      go (Placed t o end) q d ih = ih end (withPlace m t o) (forth-place at m t o end f (placed-told (asked k m) s at (everyPointed k m) t o end q)) d
-      go (Pointed i g end) q d ih = ih end (withPoint m i g) (forth-point at m i g end f (pointed-told (asked k m) s at (everyPointed k m) i g end q)) d
+      go (Placed t o end) q d ih =
+          ih end (withPlace m t o) (forth-place at m t o end f (placed-told (asked k m) s at (everyPointed k m) t o end q)) d
+      go (Pointed i g end) q d ih =
+          ih end (withPoint m i g) (forth-point at m i g end f (pointed-told (asked k m) s at (everyPointed k m) i g end q)) d
       go (Refused x) q d ih = absurd (refused≢content x at m′ d)
       go (Unfinished x) q d ih = absurd (refused≢content x (length s) m′ d)
       go Finished q d ih =

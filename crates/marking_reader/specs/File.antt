@@ -88,7 +88,8 @@ unfoldable pub recordQuestions : Asked → ℕ → List ℕ → List Question
 recordQuestions a kind body =
     ask 22 (isPlace kind or isPoint kind)
     ∷ ask 23 (eqb (length body) (cond (isPlace kind) 4 6))
-    ∷ ask 24 (isPlace kind implies eqb (a .nextEvent) 0 and ltb (transactionIn body) (a .transactions) and not (a .placed (transactionIn body)))
+    ∷ ask 24
+    (isPlace kind implies eqb (a .nextEvent) 0 and ltb (transactionIn body) (a .transactions) and not (a .placed (transactionIn body)))
     ∷ ask 25 (isPlace kind implies ltb (outcomeIn body) 2)
     ∷ ask 28 (isPoint kind implies eqb (a .nextEvent) 0 implies a .everyPlaced)
     ∷ ask 26 (isPoint kind implies leb (a .nextEvent) (eventIn body) and a .storeRead (eventIn body))

@@ -76,7 +76,8 @@ pub fn read_marking(
     requires { ⌜ Fresh (now order) (now outcomes) (now gaps) ⌝ }
     ensures { λ r. ⌜ readAs (logged (now (log .entry))) (now (order .exit)) (now (outcomes .exit)) (now (gaps .exit)) r
         ≡ fileRead (known (logged (now (log .entry)))) (now (file .entry)) ⌝ }
-    ensures kept { λ r. ⌜ (r ≡ Readable → Kept (logged (now (log .entry))) (now (order .exit)) (now (outcomes .exit)) (now (gaps .exit))) ⌝ }
+    ensures kept { λ r. ⌜ (r ≡ Readable → Kept (logged (now (log .entry)))
+        (now (order .exit)) (now (outcomes .exit)) (now (gaps .exit))) ⌝ }
 {
     let mut used = [false; 64];
     let mut filled: usize = 0;

@@ -136,12 +136,14 @@ loop-again-2 c = (pointed c .comes, pointed c .holds)
 returns-2 : tie.Need-returns-2 Inv-loop μ-loop
 returns-2 c =
     let a = c .before .before .before .before in
-    refusing (turn a .loop .inv .0) (turn a .loop .inv .1) (c .refused2 .result) (c .refused2 .ensures) (answered a _ (c .before .before .step3 .given .1))
+    refusing (turn a .loop .inv .0) (turn a .loop .inv .1) (c .refused2 .result) (c .refused2 .ensures)
+    (answered a _ (c .before .before .step3 .given .1))
 
 returns-3 : tie.Need-returns-3 Inv-loop μ-loop
 returns-3 c =
     let a = c .before .before .before .before in
-    unfinished (turn a .loop .inv .0) (turn a .loop .inv .1) (c .refused3 .result) (c .refused3 .ensures) (answered a _ (c .before .before .step4 .given .1))
+    unfinished (turn a .loop .inv .0) (turn a .loop .inv .1) (c .refused3 .result) (c .refused3 .ensures)
+    (answered a _ (c .before .before .step4 .given .1))
 
 returns-4 : tie.Need-returns-4 Inv-loop μ-loop
 returns-4 c =

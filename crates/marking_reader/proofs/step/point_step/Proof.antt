@@ -32,7 +32,8 @@ gap c = c .before .u16-at .result
 abbrev asked : tie.After-point-asked → Option ℕ
 asked c =
     let a = start c .args in
-    refusal (pointQuestions (a .begun) (a .progress .next) (eqb (a .progress .filled) (a .begun)) (isStoreRead (logged (a .log .now)) (event c)) (event c) (gap c))
+    let read = isStoreRead (logged (a .log .now)) (event c) in
+    refusal (pointQuestions (a .begun) (a .progress .next) (eqb (a .progress .filled) (a .begun)) read (event c) (gap c))
 
 returns : tie.Need-returns
 unfolding pointStep

@@ -1,7 +1,8 @@
 -- `marking_reader::step::step_at` meets its contract: by what stands at the byte.
 -- Assumes nothing.
 use mathlib.Core.Path.{_≡_, sym, _∙_}
-use Rattle.records.specs.declared.record.Found.the-variants.{Whole, Short, End}
+use Rattle.records.specs.declared.record.Found.{Found}
+use Rattle.records.specs.declared.record.Found.the-variants.{Whole}
 use Rattle.records.specs.Records.{recordAt}
 use Rattle.records.proofs.RecordLaws.{whole-in}
 use Rattle.marking_reader.specs.File.{stepAt}
@@ -13,11 +14,14 @@ use Rattle.marking_reader.proofs.step.step_at.Tie as tie
 abbrev start : tie.After-record-at → tie.Start
 start c = c .before .before
 
+abbrev standing : tie.After-record-at → Found
+standing c = recordAt (start c .args .file .now) (start c .args .progress .at)
+
 -- where a whole record stands
 abbrev found : tie.After-known-told → tie.After-found
 found c = c .before
 
-whole : (c : tie.After-known-told) → recordAt (start (found c .before .before) .args .file .now) (start (found c .before .before) .args .progress .at) ≡ Whole (found c .found .given .0 .0)
+whole : (c : tie.After-known-told) → standing (found c .before .before) ≡ Whole (found c .found .given .0 .0)
 whole c = sym (found c .before .before .record-at .ensures) ∙ found c .found .given .1
 
 record-step-requires : tie.Need-record-step-requires
