@@ -4,7 +4,7 @@ use mathlib.Core.Path.{_≡_, refl, sym, ap, ap₂, _∙_}
 use Prim.Native.Nat.{ℕ, suc, _+_, _*_, _/_, _%_, _≤_, _<_}
 use native.Mathlib.Numerals.{add-one}
 use native.Mathlib.Omega.{arith}
-use mathlib.Core.Bool.{false}
+use mathlib.Core.Bool.{Bool, true, false, cond}
 use mathlib.Core.List.{List, [], _∷_, _++_}
 use lib.ListN.{length, take, drop, getD, take-append-drop}
 use lib.Seq.{take-suc, take-take, drop-cons, getD-take, length-take-le}
@@ -27,6 +27,16 @@ pub decode-length : (p : List ℕ) → length (decode p) ≡ length p
 unfolding decode
 decode-length [] = refl
 decode-length (c ∷ p) = ap suc (decode-length p)
+
+-- a place is none behind the last
+pub place-low : (t : ℕ) (J : List Place) → placeOf t J ≤ length J
+unfolding placeOf before
+place-low t [] = omega arith
+place-low t (p ∷ J) = go (isOf t p) (place-low t J)
+  where
+    go : (b : Bool) → length (before t J) ≤ length J → length (cond b [] (p ∷ before t J)) ≤ suc (length J)
+    go true l = omega arith
+    go false l = omega arith
 
 module _ (places : List ℕ) (size : length places ≡ 10) where
   before-all : (t : ℕ) (J : List Place) → placed t J ≡ false → before t J ≡ J

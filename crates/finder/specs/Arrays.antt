@@ -8,7 +8,8 @@ use Rattle.lists.specs.Filled.{Filled}
 use Rattle.events.specs.declared.event.Event.{Event}
 use Rattle.events.specs.Events.{eventAt}
 use Rattle.opacity.specs.Justification.{Place}
-use Rattle.opacity.specs.Marking.{placeOf}
+use Rattle.opacity.specs.Marking.{placeOf, marked, markingBytes}
+use Rattle.places.specs.Places.{decode}
 
 -- the first places of the codes: the transaction and the outcome of each
 pub record Arrayed (codes : List ℕ) (count : ℕ) (order outcomes : List ℕ) : Type 0 where
@@ -18,3 +19,7 @@ pub record Arrayed (codes : List ℕ) (count : ℕ) (order outcomes : List ℕ) 
 -- each point stands at its reader's place
 abbrev pub gapAt : List Event → List Place → ℕ → ℕ
 gapAt h J i = placeOf (eventAt h i .transaction) J
+
+-- the marking of the order that codes say, as bytes
+abbrev pub foundBytes : List Event → List ℕ → List ℕ
+foundBytes h codes = markingBytes (marked h (decode codes))

@@ -1,15 +1,11 @@
-// The order found in arrays, as the marking's writer takes it: transactions and outcomes by place, and the gap of each event's point,
-// which is its reader's place.
+// The order found in arrays, as the marking's writer takes it: transactions and outcomes by place, and places by transaction.
 ghost use mathlib.Core.Path.{_≡_};
 ghost use Prim.Native.Nat.{_≤_};
-ghost use lib.ListN.{length, take};
+ghost use lib.ListN.{take};
 ghost use Rattle.lists.specs.Filled.{Filled};
-ghost use Rattle.log.specs.Rows.{logged};
 ghost use Rattle.opacity.specs.Marking.{placeOf};
 ghost use Rattle.places.specs.Places.{decode};
-ghost use Rattle.finder.specs.Arrays.{Arrayed, gapAt};
-use log::rows::Row;
-use log::rows::event_at;
+ghost use Rattle.finder.specs.Arrays.{Arrayed};
 
 // The transaction at each place, and its outcome, 0 aborted or 1 committed.
 pub struct Placed {
@@ -55,18 +51,17 @@ fn place_of(codes: [u8; 10], count: usize, t: u16) -> usize
     i
 }
 
-// The place of each event's transaction.
-pub fn gaps_of(log: &[Row], codes: [u8; 10], count: usize) -> [u16; 2048]
+// The place of each of the first so many transactions.
+pub fn readers_by(codes: [u8; 10], count: usize) -> [u16; 64]
     requires { ⌜ count ≤ 10 ⌝ }
-    requires { ⌜ length (now log) ≤ 2048 ⌝ }
-    ensures { λ r. ⌜ Filled 2048 0 (gapAt (logged (now (log .entry))) (decode (take count codes))) (length (now (log .entry))) r ⌝ }
+    ensures { λ r. ⌜ Filled 64 0 (λ t. placeOf t (decode (take count codes))) count r ⌝ }
 {
-    let mut gaps = [0u16; 2048];
-    let mut i: usize = 0;
-    while i < log.len() {
-        let e = event_at(log, i);
-        gaps[i] = place_of(codes, count, e.transaction) as u16;
-        i += 1;
+    let mut place = [0u16; 64];
+    let mut t: u16 = 0;
+    while (t as usize) < count {
+        let k = t as usize;
+        place[k] = place_of(codes, count, t) as u16;
+        t += 1;
     }
-    gaps
+    place
 }

@@ -3,6 +3,8 @@ ghost use mathlib.Core.Path.{_≡_};
 ghost use mathlib.Core.Bool.{true, cond};
 ghost use Prim.Native.Nat.{_≤_};
 ghost use lib.ListN.{length, take};
+ghost use Rattle.records.specs.Bytes.{over};
+ghost use Rattle.events.specs.Events.{begins};
 ghost use Rattle.events.specs.Questions.{readable};
 ghost use Rattle.events.specs.Said.{refuse};
 ghost use Rattle.log.specs.Columns.{columns};
@@ -11,6 +13,7 @@ ghost use Rattle.log.specs.Starts.{startOf};
 ghost use Rattle.log.specs.declared.admit.Checked.the-variants.{Readable};
 ghost use Rattle.tables.specs.Order.{Judged};
 ghost use Rattle.finder.specs.Answer.{markingSize, lowestMarking, gives, decided, foundAnswer};
+ghost use Rattle.finder.specs.Arrays.{foundBytes};
 ghost use Rattle.finder.specs.Logs.{findOf, findAfter};
 
 mod arrays;
@@ -23,6 +26,7 @@ use log::rows::Row;
 use log::rows::transactions_begun;
 use log::starts::is_admitted;
 use marking_writer::write_marking;
+use reads::gaps_at_readers;
 use records::record::Record;
 
 // Question 31: at most this many transactions are searched.
@@ -33,6 +37,30 @@ pub enum Finding {
     Marking(usize),
     None,
     Refused(Refusal),
+}
+
+// The marking of an order found, put into an output that has room for it, by way of a lent table of gaps: each store read has its
+// point at its reader's place.
+fn write_found(
+    log: &[Row],
+    codes: [u8; 10],
+    begun: usize,
+    gaps: &mut [u16],
+    output: &mut [u8],
+) -> usize
+    requires { ⌜ Judged (logged (now log)) ⌝ }
+    requires { ⌜ (begun ≡ begins (logged (now log))) × (length (now log) ≤ length (now gaps)) ⌝ }
+    requires { ⌜ length (foundBytes (logged (now log)) (take begun codes)) ≤ length (now output) ⌝ }
+    ensures { λ r. ⌜ r ≡ length (foundBytes (logged (now (log .entry))) (take begun codes)) ⌝ }
+    ensures { λ _. ⌜ now (output .exit) ≡ over (foundBytes (logged (now (log .entry))) (take begun codes)) (now (output .entry)) ⌝ }
+{
+    let placed = arrays::placed_by(codes, begun);
+    let order = placed.order;
+    let outcomes = placed.outcomes;
+    let place = arrays::readers_by(codes, begun);
+    gaps_at_readers(log, &place, gaps);
+    let count = log.len();
+    write_marking(&order, &outcomes, begun, &gaps[..count], output)
 }
 
 // The lowest marking of a log, if it has one, put into an output that has room for any.
@@ -49,14 +77,12 @@ fn find_lowest(starts: &[u32; 32], log: &[Row], output: &mut [u8]) -> Finding
     }
     let begun = transactions_begun(log);
     let codes = places::state::codes_of(found, begun);
-    let placed = arrays::placed_by(codes, begun);
-    let order = placed.order;
-    let outcomes = placed.outcomes;
-    let own = reads::own_writes(log);
-    let store = reads::store_reads(log, &own);
-    let gaps = arrays::gaps_of(log, codes, begun);
-    let count = log.len();
-    Finding::Marking(write_marking(&order, &outcomes, begun, &store, &gaps, count, output))
+    if log.len() <= 64 {
+        let mut few = [0u16; 64];
+        return Finding::Marking(write_found(log, codes, begun, &mut few, output));
+    }
+    let mut gaps = [0u16; 2048];
+    Finding::Marking(write_found(log, codes, begun, &mut gaps, output))
 }
 
 // Questions 31 and 32, with the count as their event, and then the lowest marking, of a log.

@@ -31,14 +31,18 @@ points-are store gap (suc n) =
     last true = refl
     last false = refl
 
--- points with the same store reads and the same gaps are the same
-pub points-same : (store store′ : ℕ → Bool) (gap gap′ : ℕ → ℕ) (n : ℕ) → ((i : ℕ) → i < n → store i ≡ store′ i) → ((i : ℕ) → i < n → gap i ≡ gap′ i)
-    → pointsTo store gap n ≡ pointsTo store′ gap′ n
+-- points of the same events at the same gaps are the same
+pub points-same : (store store′ : ℕ → Bool) (gap gap′ : ℕ → ℕ) (n : ℕ) → ((i : ℕ) → i < n → store i ≡ store′ i)
+    → ((i : ℕ) → i < n → store′ i ≡ true → gap i ≡ gap′ i) → pointsTo store gap n ≡ pointsTo store′ gap′ n
 unfolding pointsTo
 points-same store store′ gap gap′ zero f g = refl
 points-same store store′ gap gap′ (suc n) f g =
     ap₂ (λ (a b : List ℕ). a ++ b) (points-same store store′ gap gap′ n (λ i l. f i (le-step l)) (λ i l. g i (le-step l)))
-    (ap₂ (λ (b : Bool) (m : ℕ). readBytes b n m) (f n (lt-suc-self n)) (g n (lt-suc-self n)))
+    (ap (λ (b : Bool). readBytes b n (gap n)) (f n (lt-suc-self n)) ∙ last (store′ n) (g n (lt-suc-self n)))
+  where
+    last : (b : Bool) → (b ≡ true → gap n ≡ gap′ n) → readBytes b n (gap n) ≡ readBytes b n (gap′ n)
+    last true e = ap (readBytes true n) (e refl)
+    last false e = refl
 
 -- each event's point is put behind those before it
 module _ (store : ℕ → Bool) (gap : ℕ → ℕ) where

@@ -3,7 +3,6 @@
 use Prim.Native.Nat.{ℕ, zero, suc, _+_, _*_}
 use native.Mathlib.Omega.{arith}
 use mathlib.Core.Path.{_≡_, refl, ap, _∙_}
-use mathlib.Core.Bool.{Bool}
 use mathlib.Core.List.{List, [], _∷_, _++_, append-nil}
 use lib.ListN.{length, length-append}
 use Rattle.opacity.specs.Marking.{placeBytes, flat}
@@ -34,5 +33,7 @@ module _ (order outcomes : List ℕ) where
   pub places-bytes : (k : ℕ) → length (placesTo k) ≡ 8 * k
   places-bytes k = flat-length placeBytes 8 (placesIn order outcomes k) (λ p. refl) ∙ ap (λ (n : ℕ). 8 * n) (places-length k)
 
-pub bytes-length : (order outcomes : List ℕ) (b : ℕ) (reads : List Bool) (gaps : List ℕ) (n : ℕ) → length (bytesIn order outcomes b reads gaps n) ≡ 6 + 8 * b + length (pointsIn reads gaps n)
-bytes-length order outcomes b reads gaps n = omega (arith, length-append (placesTo order outcomes b) (pointsIn reads gaps n), places-bytes order outcomes b)
+pub bytes-length : (order outcomes : List ℕ) (b : ℕ) (gaps : List ℕ)
+    → length (bytesIn order outcomes b gaps) ≡ 6 + 8 * b + length (pointsIn gaps (length gaps))
+bytes-length order outcomes b gaps =
+    omega (arith, length-append (placesTo order outcomes b) (pointsIn gaps (length gaps)), places-bytes order outcomes b)

@@ -2,11 +2,16 @@
 -- The read points of a marking, as a writer goes through the events.
 -- Assumes nothing.
 use Prim.Native.Nat.{ℕ, zero, suc}
-use mathlib.Core.Bool.{Bool, cond}
+use mathlib.Core.Bool.{Bool, not, cond}
 use mathlib.Core.List.{List, [], _++_}
+use lib.Dec.{eqb}
 use Rattle.opacity.specs.Marking.{pointBytes}
 
--- the point of event i, if that is a store read
+-- a gap, and not what stands for none
+abbrev pub isGap : ℕ → Bool
+isGap g = not (eqb g 65535)
+
+-- the point of event i, if that has one
 abbrev pub readBytes : Bool → ℕ → ℕ → List ℕ
 readBytes store i g = cond store (pointBytes (record { event = i; gap = g })) []
 

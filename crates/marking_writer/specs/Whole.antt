@@ -2,13 +2,12 @@
 -- The marking that stands in arrays, as bytes.
 -- Assumes nothing.
 use Prim.Native.Nat.{ℕ, zero, suc}
-use mathlib.Core.Bool.{Bool, false}
 use mathlib.Core.List.{List, [], _∷_, _++_}
 use lib.Dec.{eqb}
-use lib.ListN.{getD}
+use lib.ListN.{length, getD}
 use Rattle.opacity.specs.Justification.{Place}
 use Rattle.opacity.specs.Marking.{markingHead, placeBytes, flat}
-use Rattle.marking_writer.specs.Points.{pointsTo}
+use Rattle.marking_writer.specs.Points.{isGap, pointsTo}
 
 -- the place of a number: a transaction, and whether its outcome is 1
 abbrev pub placeAt : List ℕ → List ℕ → ℕ → Place
@@ -20,9 +19,9 @@ placesIn order outcomes zero = []
 placesIn order outcomes (suc k) = placesIn order outcomes k ++ (placeAt order outcomes k ∷ [])
 
 -- the points of the first n events
-abbrev pub pointsIn : List Bool → List ℕ → ℕ → List ℕ
-pointsIn reads gaps n = pointsTo (λ i. getD reads i false) (λ i. getD gaps i 0) n
+abbrev pub pointsIn : List ℕ → ℕ → List ℕ
+pointsIn gaps n = pointsTo (λ i. isGap (getD gaps i 0)) (λ i. getD gaps i 0) n
 
 -- head, places and points
-abbrev pub bytesIn : List ℕ → List ℕ → ℕ → List Bool → List ℕ → ℕ → List ℕ
-bytesIn order outcomes b reads gaps n = markingHead ++ (flat placeBytes (placesIn order outcomes b) ++ pointsIn reads gaps n)
+abbrev pub bytesIn : List ℕ → List ℕ → ℕ → List ℕ → List ℕ
+bytesIn order outcomes b gaps = markingHead ++ (flat placeBytes (placesIn order outcomes b) ++ pointsIn gaps (length gaps))

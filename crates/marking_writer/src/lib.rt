@@ -7,12 +7,14 @@ ghost use lib.Dec.{eqb};
 ghost use lib.ListN.{length};
 ghost use Rattle.records.specs.Bytes.{u16Bytes, u32Bytes, placed, over};
 ghost use Rattle.opacity.specs.Marking.{markingHead, outcomeNumber, placeBytes, flat};
-ghost use Rattle.marking_writer.specs.Points.{readBytes};
+ghost use Rattle.marking_writer.specs.Points.{isGap, readBytes};
 ghost use Rattle.marking_writer.specs.Whole.{placesIn, pointsIn, bytesIn};
+use reads::NO_POINT;
 use records::fields;
 use records::record::Record;
 
-pub fn put_head(out: &mut [u8])
+// The head of a marking file.
+fn put_head(out: &mut [u8])
     requires { ⌜ 6 ≤ length (now out) ⌝ }
     ensures { λ _. ⌜ now (out .exit) ≡ placed (now (out .entry)) 0 markingHead ⌝ }
 {
@@ -22,7 +24,7 @@ pub fn put_head(out: &mut [u8])
 }
 
 // A transaction and its outcome, 0 aborted or 1 committed.
-pub fn put_place(out: &mut [u8], at: usize, transaction: u16, outcome: u16)
+fn put_place(out: &mut [u8], at: usize, transaction: u16, outcome: u16)
     requires { ⌜ at + 8 ≤ length (now out) ⌝ }
     ensures { λ _. ⌜
         now (out .exit)
@@ -35,7 +37,7 @@ pub fn put_place(out: &mut [u8], at: usize, transaction: u16, outcome: u16)
 }
 
 // A read point: the event of a store read, and its gap.
-pub fn put_point(out: &mut [u8], at: usize, event: u32, gap: u16)
+fn put_point(out: &mut [u8], at: usize, event: u32, gap: u16)
     requires { ⌜ at + 10 ≤ length (now out) ⌝ }
     ensures { λ _. ⌜ now (out .exit) ≡ placed (now (out .entry)) at (u16Bytes 8 ++ u16Bytes 33 ++ u32Bytes event ++ u16Bytes gap) ⌝ }
 {
@@ -45,17 +47,17 @@ pub fn put_point(out: &mut [u8], at: usize, event: u32, gap: u16)
     fields::put_u16(out, at + 8, gap);
 }
 
-// The point of an event, if it is a store read; and where the next one goes.
-pub fn put_read(out: &mut [u8], at: usize, store: bool, event: u32, gap: u16) -> usize
-    requires { ⌜ at + length (readBytes store event gap) ≤ length (now out) ⌝ }
-    ensures { λ _. ⌜ now (out .exit) ≡ placed (now (out .entry)) at (readBytes store event gap) ⌝ }
-    ensures { λ r. ⌜ r ≡ at + length (readBytes store event gap) ⌝ }
+// The point of an event, if it has one; and where the next one goes.
+fn put_read(out: &mut [u8], at: usize, event: u32, gap: u16) -> usize
+    requires { ⌜ at + length (readBytes (isGap gap) event gap) ≤ length (now out) ⌝ }
+    ensures { λ _. ⌜ now (out .exit) ≡ placed (now (out .entry)) at (readBytes (isGap gap) event gap) ⌝ }
+    ensures { λ r. ⌜ r ≡ at + length (readBytes (isGap gap) event gap) ⌝ }
 {
-    if store {
-        put_point(out, at, event, gap);
-        return at + Record::WHOLE_POINT;
+    if gap == NO_POINT {
+        return at;
     }
-    at
+    put_point(out, at, event, gap);
+    at + Record::WHOLE_POINT
 }
 
 // 0 aborted, 1 committed.
@@ -89,56 +91,39 @@ fn put_places(order: &[u16; 64], outcomes: &[u8; 64], begun: usize, out: &mut [u
     }
 }
 
-// The points of the store reads among so many events, from byte `from` on; and where they end.
-fn put_points(
-    reads: &[bool; 2048],
-    gaps: &[u16; 2048],
-    count: usize,
-    from: usize,
-    out: &mut [u8],
-) -> usize
-    requires { ⌜ count ≤ 2048 ⌝ }
-    requires { ⌜ from + length (pointsIn (now reads) (now gaps) count) ≤ length (now out) ⌝ }
-    ensures { λ _. ⌜
-        now (out .exit) ≡ placed (now (out .entry)) from (pointsIn (now (reads .entry)) (now (gaps .entry)) count) ⌝ }
-    ensures { λ r. ⌜ r ≡ from + length (pointsIn (now (reads .entry)) (now (gaps .entry)) count) ⌝ }
+// The points of a table of gaps by event, from byte `from` on; and where they end.
+fn put_points(gaps: &[u16], from: usize, out: &mut [u8]) -> usize
+    requires { ⌜ length (now gaps) ≤ 2048 ⌝ }
+    requires { ⌜ from + length (pointsIn (now gaps) (length (now gaps))) ≤ length (now out) ⌝ }
+    ensures { λ _. ⌜ now (out .exit) ≡ placed (now (out .entry)) from (pointsIn (now (gaps .entry)) (length (now (gaps .entry)))) ⌝ }
+    ensures { λ r. ⌜ r ≡ from + length (pointsIn (now (gaps .entry)) (length (now (gaps .entry)))) ⌝ }
 {
     let mut at = from;
     let mut i: usize = 0;
-    while i < count {
-        at = put_read(out, at, reads[i], i as u32, gaps[i]);
+    while i < gaps.len() {
+        at = put_read(out, at, i as u32, gaps[i]);
         i += 1;
     }
     at
 }
 
-// A marking, from the output's first byte; its length. By place, order and outcomes of the transactions begun; by event, the store
-// reads among so many, and the gaps of their points.
+// A marking, from the output's first byte; its length. By place, order and outcomes of the transactions begun; by event, the gaps
+// of the points.
 pub fn write_marking(
     order: &[u16; 64],
     outcomes: &[u8; 64],
     begun: usize,
-    reads: &[bool; 2048],
-    gaps: &[u16; 2048],
-    count: usize,
+    gaps: &[u16],
     out: &mut [u8],
 ) -> usize
-    requires { ⌜ (begun ≤ 64) × (count ≤ 2048) ⌝ }
-    requires { ⌜ length (bytesIn (now order) (now outcomes) begun (now reads) (now gaps) count) ≤ length (now out) ⌝ }
+    requires { ⌜ (begun ≤ 64) × (length (now gaps) ≤ 2048) ⌝ }
+    requires { ⌜ length (bytesIn (now order) (now outcomes) begun (now gaps)) ≤ length (now out) ⌝ }
     ensures { λ _. ⌜
         now (out .exit)
-        ≡ over (bytesIn (now (order .entry)) (now (outcomes .entry)) begun (now (reads .entry)) (now (gaps .entry)) count)
-        (now (out .entry)) ⌝ }
-    ensures { λ r. ⌜
-        r ≡ length (bytesIn (now (order .entry)) (now (outcomes .entry)) begun (now (reads .entry)) (now (gaps .entry)) count) ⌝ }
+        ≡ over (bytesIn (now (order .entry)) (now (outcomes .entry)) begun (now (gaps .entry))) (now (out .entry)) ⌝ }
+    ensures { λ r. ⌜ r ≡ length (bytesIn (now (order .entry)) (now (outcomes .entry)) begun (now (gaps .entry))) ⌝ }
 {
     put_head(out);
     put_places(order, outcomes, begun, out);
-    put_points(
-        reads,
-        gaps,
-        count,
-        Record::WHOLE_HEAD + Record::WHOLE_PLACE * begun,
-        out,
-    )
+    put_points(gaps, Record::WHOLE_HEAD + Record::WHOLE_PLACE * begun, out)
 }

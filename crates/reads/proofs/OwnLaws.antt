@@ -16,16 +16,31 @@ use borrow.Author.Tests.{eqb-true, eqb-false, ne-eqb}
 use Rattle.lists.specs.Lists.{_and_, _implies_, isNone, orElse, keep, latest, range}
 use Rattle.lists.proofs.ListLaws.{and-false-l, and-false-r, eqb-self, latest-snoc, below-cases}
 use Rattle.events.specs.declared.event.Event.{Event}
-use Rattle.events.specs.Events.{noEvent, eventAt, isRead, isWrite, by}
+use Rattle.events.specs.Events.{noEvent, eventAt, isRead, isWrite, by, begins}
 use Rattle.events.specs.Questions.{readable}
 use Rattle.opacity.specs.Transactions.{lastWrite, ownWrite, isOwnRead, isStoreRead, storeReads, isValue, ownRight}
 use Rattle.opacity.specs.Counts.{one}
-use Rattle.opacity.proofs.Bounds.{transaction-low, register-low}
+use Rattle.opacity.proofs.Bounds.{transaction-known, transaction-low, register-low}
 use Rattle.opacity.proofs.HowMany.{how-many-more, how-many-low}
-use Rattle.reads.specs.Own.{Low, slotOf, notedAt, readsStore, valueBefore, OwnWrites}
+use Rattle.reads.specs.Own.{Low, Blank, slotOf, notedAt, readsStore, valueBefore, OwnWrites}
 
-pub low : (h : List Event) → readable h ≡ true → (i : ℕ) → i < length h → Low (eventAt h i)
-low h r i l = record { transaction = transaction-low h r i l; register = register-low h r i l }
+blank : (n k : ℕ) → _≡_ {A = ℕ} (getD (replicate n 0) k 0) 0
+blank zero k = refl
+blank (suc n) zero = refl
+blank (suc n) (suc k) = blank n k
+
+-- every event has a slot among those of the transactions begun, of which there are at most 64
+pub low : (h : List Event) → readable h ≡ true → (i : ℕ) → i < length h → Low (begins h) (eventAt h i)
+low h r i l = record { transaction = transaction-known h r i l; register = register-low h r i l }
+
+pub low-64 : (h : List Event) → readable h ≡ true → (i : ℕ) → i < length h → Low 64 (eventAt h i)
+low-64 h r i l = record { transaction = transaction-low h r i l; register = register-low h r i l }
+
+pub slot-room : {b : ℕ} {e : Event} (n : ℕ) → Low b e → b * 32 ≤ n → slotOf e < n
+slot-room n l r = omega (arith, l .transaction, l .register)
+
+pub replicate-blank : (n b : ℕ) → b * 32 ≤ n → Blank b (replicate n 0)
+replicate-blank n b r = record { room = omega (arith, length-replicate {A = ℕ} n 0); blank = blank n }
 
 -- the last write with one event more
 write-more : (h : List Event) (i : ℕ) → i < length h → (t r : ℕ)
@@ -49,35 +64,24 @@ noted-low e i x l = go (isWrite e)
     go true = omega arith
     go false = omega arith
 
--- how far the pass has come, by the events before i
-pub record Noting (h : List Event) (last own : List ℕ) (i : ℕ) : Type 0 where
+-- the table of last writes as the events before i leave it
+pub record Lasts (h : List Event) (b : ℕ) (last : List ℕ) (i : ℕ) : Type 0 where
   pub inside : i ≤ length h
-  pub size : length last ≡ 2048
-  pub long : length own ≡ 2048
+  pub room : b * 32 ≤ length last
   pub early : (k : ℕ) → getD last k 0 ≤ i
-  pub slots : (t r : ℕ) → t < 64 → r < 32 → valueBefore h (getD last (t * 32 + r) 0) ≡ lastWrite (take i h) t r
-  pub earlier : (j : ℕ) → j < i → getD own j 0 ≤ j
-  pub holds : (j : ℕ) → j < i → valueBefore h (getD own j 0) ≡ ownWrite h j
+  pub slots : (t r : ℕ) → t < b → r < 32 → valueBefore h (getD last (t * 32 + r) 0) ≡ lastWrite (take i h) t r
 
-blank : (n k : ℕ) → _≡_ {A = ℕ} (getD (replicate n 0) k 0) 0
-blank zero k = refl
-blank (suc n) zero = refl
-blank (suc n) (suc k) = blank n k
-
-pub noting-first : (h : List Event) (own : List ℕ) → length own ≡ 2048 → Noting h (replicate 2048 0) own 0
+pub lasts-first : (h : List Event) (b : ℕ) (last : List ℕ) → Blank b last → Lasts h b last 0
 unfolding lastWrite latest
-noting-first h own l =
+lasts-first h b last z =
     record {
       inside = omega arith;
-      size = length-replicate {A = ℕ} 2048 0;
-      long = l;
-      early = λ k. omega (arith, blank 2048 k);
-      slots = λ t r lt lr. rw (blank 2048 (t * 32 + r));
-      earlier = λ j l. absurd (not-suc-le-zero l);
-      holds = λ j l. absurd (not-suc-le-zero l);
+      room = z .room;
+      early = λ k. omega (arith, z .blank k);
+      slots = λ t r lt lr. rw (z .blank (t * 32 + r));
     }
 
-module _ (h : List Event) (last own : List ℕ) (i : ℕ) (w : Noting h last own i) (l : i < length h) (few : i < 2048) (low : Low (eventAt h i)) where
+module _ (h : List Event) (b : ℕ) (last : List ℕ) (i : ℕ) (w : Lasts h b last i) (l : i < length h) (low : Low b (eventAt h i)) where
   abbrev T : ℕ
   T = eventAt h i .transaction
 
@@ -87,8 +91,8 @@ module _ (h : List Event) (last own : List ℕ) (i : ℕ) (w : Noting h last own
   abbrev after : List ℕ
   after = set last (T * 32 + R) (notedAt (eventAt h i) i (getD last (T * 32 + R) 0))
 
-  abbrev seen : List ℕ
-  seen = set own i (getD last (T * 32 + R) 0)
+  inside-table : T * 32 + R < length last
+  inside-table = slot-room (length last) low (w .room)
 
   early-more : (k : ℕ) → getD after k 0 ≤ i + 1
   early-more k = go (eqb k (T * 32 + R)) refl
@@ -96,13 +100,13 @@ module _ (h : List Event) (last own : List ℕ) (i : ℕ) (w : Noting h last own
       go : (b : Bool) → eqb k (T * 32 + R) ≡ b → getD after k 0 ≤ i + 1
       go true e =
           let q : k ≡ T * 32 + R = eqb-true k (T * 32 + R) e in
-          rw (q, getD-set-same last (T * 32 + R) (notedAt (eventAt h i) i (getD last (T * 32 + R) 0)) 0 (omega (arith, w .size, low .transaction, low .register)))
+          rw (q, getD-set-same last (T * 32 + R) (notedAt (eventAt h i) i (getD last (T * 32 + R) 0)) 0 inside-table)
           (noted-low (eventAt h i) i (getD last (T * 32 + R) 0) (w .early (T * 32 + R)))
       go false e =
           rw (getD-set-other last (T * 32 + R) k (notedAt (eventAt h i) i (getD last (T * 32 + R) 0)) 0 (eqb-false k (T * 32 + R) e))
           (omega (arith, w .early k))
 
-  slots-more : (t r : ℕ) → t < 64 → r < 32 → valueBefore h (getD after (t * 32 + r) 0) ≡ lastWrite (take (i + 1) h) t r
+  slots-more : (t r : ℕ) → t < b → r < 32 → valueBefore h (getD after (t * 32 + r) 0) ≡ lastWrite (take (i + 1) h) t r
   unfolding by _and_
   slots-more t r lt lr = go (eqb T t) refl (eqb R r) refl
     where
@@ -115,7 +119,7 @@ module _ (h : List Event) (last own : List ℕ) (i : ℕ) (w : Noting h last own
 
       here : valueBefore h (getD after (T * 32 + R) 0) ≡ lastWrite (take (i + 1) h) T R
       here =
-          ap (valueBefore h) (getD-set-same last (T * 32 + R) _ 0 (omega (arith, w .size, low .transaction, low .register)))
+          ap (valueBefore h) (getD-set-same last (T * 32 + R) _ 0 inside-table)
           ∙ (value-noted h i (getD last (T * 32 + R) 0)
           ∙ (ap (cond (isWrite (eventAt h i)) (some (eventAt h i .value))) (w .slots T R (low .transaction) (low .register))
           ∙ (plain (isWrite (eventAt h i)) ∙ sym (write-more h i l T R))))
@@ -137,49 +141,69 @@ module _ (h : List Event) (last own : List ℕ) (i : ℕ) (w : Noting h last own
           subst (λ (y : ℕ). valueBefore h (getD after (t * 32 + y) 0) ≡ lastWrite (take (i + 1) h) t y) (eqb-true R r q)
           (subst (λ (v : ℕ). valueBefore h (getD after (v * 32 + R) 0) ≡ lastWrite (take (i + 1) h) v R) (eqb-true T t p) here)
 
-  -- of each event that is passed, and of this one
-  seen-old : (j : ℕ) → j < i → getD seen j 0 ≡ getD own j 0
-  seen-old j m = getD-set-other own i j (getD last (T * 32 + R) 0) 0 (λ z. omega arith)
-
-  seen-new : getD seen i 0 ≡ getD last (T * 32 + R) 0
-  seen-new = getD-set-same own i (getD last (T * 32 + R) 0) 0 (omega (arith, w .long))
-
-  earlier-more : (j : ℕ) → j < i + 1 → getD seen j 0 ≤ j
-  earlier-more j m =
-      ⊎-elim
-      (λ e. subst (λ (m : ℕ). getD seen m 0 ≤ m) (sym e) (subst (λ (x : ℕ). x ≤ i) (sym seen-new) (w .early (T * 32 + R))))
-      (λ n. rw (seen-old j n) (w .earlier j n))
-      (below-cases (rw add-one at m))
-
-  holds-more : (j : ℕ) → j < i + 1 → valueBefore h (getD seen j 0) ≡ ownWrite h j
-  unfolding ownWrite
-  holds-more j m =
-      ⊎-elim
-      (λ e.
-      subst (λ (m : ℕ). valueBefore h (getD seen m 0) ≡ ownWrite h m) (sym e)
-      (ap (valueBefore h) seen-new ∙ w .slots T R (low .transaction) (low .register)))
-      (λ n. rw (seen-old j n) (w .holds j n))
-      (below-cases (rw add-one at m))
-
-  pub noting-more : (e : Event) (k x : ℕ) → e ≡ eventAt h i → k ≡ slotOf e → x ≡ notedAt e i (getD last k 0)
-      → Noting h (set last k x) (set own i (getD last k 0)) (i + 1)
-  noting-more e k x same at noted =
-      let a : k ≡ T * 32 + R = at ∙ ap slotOf same in
-      let n : x ≡ notedAt (eventAt h i) i (getD last (T * 32 + R) 0) = noted ∙ (λ j. notedAt (same j) i (getD last (a j) 0)) in
-      rw (n, a)
+  pub lasts-more : (e : Event) → e ≡ eventAt h i → Lasts h b (set last (slotOf e) (notedAt e i (getD last (slotOf e) 0))) (i + 1)
+  lasts-more e same =
+      rw same
       (record {
         inside = omega arith;
-        size = length-set last _ _ ∙ w .size;
-        long = length-set own _ _ ∙ w .long;
+        room = omega (arith, length-set last (T * 32 + R) (notedAt (eventAt h i) i (getD last (T * 32 + R) 0)), w .room);
         early = early-more;
         slots = slots-more;
-        earlier = earlier-more;
-        holds = holds-more;
       })
 
-pub noting-done : (h : List Event) (last own : List ℕ) (i : ℕ) → length h ≤ i → Noting h last own i → OwnWrites h own
-noting-done h last own i l w =
-    record { earlier = λ j m. w .earlier j (omega arith); holds = λ j m. w .holds j (omega arith) }
+-- own writes of the events before i
+pub record Owned (h : List Event) (own : List ℕ) (i : ℕ) : Type 0 where
+  pub earlier : (j : ℕ) → j < i → getD own j 0 ≤ j
+  pub holds : (j : ℕ) → j < i → valueBefore h (getD own j 0) ≡ ownWrite h j
+
+pub owned-none : (h : List Event) (own : List ℕ) → Owned h own 0
+owned-none h own = record { earlier = λ j l. absurd (not-suc-le-zero l); holds = λ j l. absurd (not-suc-le-zero l) }
+
+-- what stands in the table at the event's register is its own write
+module _ (h : List Event) (b : ℕ) (last : List ℕ) (i : ℕ) (w : Lasts h b last i) (low : Low b (eventAt h i)) (x : ℕ)
+    (found : x ≡ getD last (slotOf (eventAt h i)) 0) where
+  found-early : x ≤ i
+  found-early = omega (arith, w .early (slotOf (eventAt h i)))
+
+  found-own : valueBefore h x ≡ ownWrite h i
+  unfolding ownWrite
+  found-own = ap (valueBefore h) found ∙ w .slots _ _ (low .transaction) (low .register)
+
+  pub owned-more : (own : List ℕ) → i < length own → Owned h own i → Owned h (set own i x) (i + 1)
+  owned-more own room o =
+      record {
+        earlier = λ j m.
+            ⊎-elim
+            (λ e. subst (λ (m : ℕ). getD (set own i x) m 0 ≤ m) (sym e) (rw (getD-set-same own i x 0 room) found-early))
+            (λ n. rw (old j n) (o .earlier j n))
+            (below-cases (rw add-one at m));
+        holds = λ j m.
+            ⊎-elim
+            (λ e.
+            subst (λ (m : ℕ). valueBefore h (getD (set own i x) m 0) ≡ ownWrite h m) (sym e)
+            (ap (valueBefore h) (getD-set-same own i x 0 room) ∙ found-own))
+            (λ n. rw (old j n) (o .holds j n))
+            (below-cases (rw add-one at m));
+      }
+    where
+      old : (j : ℕ) → j < i → getD (set own i x) j 0 ≡ getD own j 0
+      old j n = getD-set-other own i j x 0 (λ z. omega arith)
+
+  -- and so it says whether the event reads the store
+  pub its-read : isStoreRead h i ≡ readsStore (eventAt h i) x
+  unfolding isStoreRead ownWrite _and_
+  its-read = go x found-own
+    where
+      plain : (q : Bool) → (q and true) ≡ q
+      plain true = refl
+      plain false = refl
+
+      go : (y : ℕ) → valueBefore h y ≡ ownWrite h i → (isRead (eventAt h i) and isNone (ownWrite h i)) ≡ readsStore (eventAt h i) y
+      go zero v = rw (← v) (plain (isRead (eventAt h i)))
+      go (suc j) v = rw (← v, ne-eqb (suc j) 0 (λ z. omega arith)) (and-false-r (isRead (eventAt h i)) false refl)
+
+pub owned-done : (h : List Event) (own : List ℕ) (i : ℕ) → length h ≤ i → Owned h own i → OwnWrites h own
+owned-done h own i l w = record { earlier = λ j m. w .earlier j (omega arith); holds = λ j m. w .holds j (omega arith) }
 
 -- ---- what it says of a read
 
@@ -235,31 +259,6 @@ pub one-low : (b : Bool) → one b ≤ 1
 one-low true = omega arith
 one-low false = omega arith
 
--- how far the count has come: the last writes are those of the events before i, as own writes of event i would be
-pub record Numbering (h : List Event) (last : List ℕ) (reads i : ℕ) : Type 0 where
-  pub own : List ℕ
-  pub noting : Noting h last own i
-  pub total : reads ≡ length (keep (isStoreRead h) (range i))
-
-pub numbering-first : (h : List Event) → Numbering h (replicate 2048 0) 0 0
-unfolding keep range
-numbering-first h = record { own = replicate 2048 0; noting = noting-first h (replicate 2048 0) (length-replicate {A = ℕ} 2048 0); total = refl }
-
--- event i is a store read by what the table has at its slot
-pub its-read : (h : List Event) (last own : List ℕ) (i : ℕ) → Noting h last own i → i < length h → Low (eventAt h i)
-    → isStoreRead h i ≡ readsStore (eventAt h i) (getD last (slotOf (eventAt h i)) 0)
-unfolding isStoreRead ownWrite _and_
-its-read h last own i w l low =
-    go (getD last (slotOf (eventAt h i)) 0) (w .slots _ _ (low .transaction) (low .register))
-  where
-    plain : (b : Bool) → (b and true) ≡ b
-    plain true = refl
-    plain false = refl
-
-    go : (x : ℕ) → valueBefore h x ≡ ownWrite h i → (isRead (eventAt h i) and isNone (ownWrite h i)) ≡ readsStore (eventAt h i) x
-    go zero v = rw (← v) (plain (isRead (eventAt h i)))
-    go (suc j) v = rw (← v, ne-eqb (suc j) 0 (λ z. omega arith)) (and-false-r (isRead (eventAt h i)) false refl)
-
 pub reads-more : (h : List Event) (i : ℕ)
     → length (keep (isStoreRead h) (range (i + 1))) ≡ length (keep (isStoreRead h) (range i)) + one (isStoreRead h i)
 reads-more h i = how-many-more (isStoreRead h) i
@@ -267,22 +266,10 @@ reads-more h i = how-many-more (isStoreRead h) i
 pub reads-few : (h : List Event) (i : ℕ) → length (keep (isStoreRead h) (range i)) ≤ i
 reads-few h i = how-many-low (isStoreRead h) i
 
-pub numbering-more : (h : List Event) (last : List ℕ) (reads i : ℕ) → Numbering h last reads i → i < length h → i < 2048 → Low (eventAt h i)
-    → (e : Event) (k x n : ℕ) → e ≡ eventAt h i → k ≡ slotOf e → x ≡ notedAt e i (getD last k 0) → n ≡ one (readsStore e (getD last k 0))
-    → Numbering h (set last k x) (reads + n) (i + 1)
-numbering-more h last reads i w l few low e k x n same at noted adds =
-    record {
-      own = set (w .own) i (getD last k 0);
-      noting = noting-more h last (w .own) i (w .noting) l few low e k x same at noted;
-      total =
-          let q : readsStore e (getD last k 0) ≡ isStoreRead h i =
-          (λ j. readsStore (same j) (getD last ((at ∙ ap slotOf same) j) 0)) ∙ sym (its-read h last (w .own) i (w .noting) l low) in
-          omega (arith, w .total, adds, ap one q, reads-more h i);
-    }
-
-pub numbering-few : (h : List Event) (last : List ℕ) (reads i : ℕ) → Numbering h last reads i → reads ≤ i
-numbering-few h last reads i w = omega (arith, w .total, reads-few h i)
-
-pub numbering-done : (h : List Event) (last : List ℕ) (reads i : ℕ) → Numbering h last reads i → length h ≤ i → reads ≡ length (storeReads h)
+pub reads-all : (h : List Event) (i : ℕ) → i ≡ length h → length (keep (isStoreRead h) (range i)) ≡ length (storeReads h)
 unfolding storeReads
-numbering-done h last reads i w l = let e : i ≡ length h = omega (arith, w .noting .inside) in rw e at (w .total)
+reads-all h i e = rw e
+
+-- where the table has room for the transactions begun, it has for these many
+pub blank-few : (h : List Event) (n : ℕ) → begins h * 32 ≤ n → Blank (begins h) (replicate n 0)
+blank-few h n r = replicate-blank n (begins h) r

@@ -10,11 +10,11 @@ use lib.Dec.{eqb}
 use lib.ListN.{length, getD}
 use Rattle.events.specs.declared.event.Event.{Event}
 use Rattle.events.specs.Events.{isRead, isWrite, eventAt}
-use Rattle.opacity.specs.Transactions.{ownWrite}
+use Rattle.opacity.specs.Transactions.{ownWrite, isStoreRead}
 
--- an event of a transaction and a register for which there is a slot
-pub record Low (e : Event) : Type 0 where
-  pub transaction : e .transaction < 64
+-- an event of one of the first b transactions and of a register
+pub record Low (b : ℕ) (e : Event) : Type 0 where
+  pub transaction : e .transaction < b
   pub register : e .register < 32
 
 abbrev pub slotOf : Event → ℕ
@@ -27,6 +27,19 @@ notedAt e i before = cond (isWrite e) (i + 1) before
 -- a read, where nothing stands for an own write
 abbrev pub readsStore : Event → ℕ → Bool
 readsStore e own = cond (eqb own 0) (isRead e) false
+
+-- a table of last writes before any event, with slots for b transactions
+pub record Blank (b : ℕ) (last : List ℕ) : Type 0 where
+  pub room : b * 32 ≤ length last
+  pub blank : (k : ℕ) → getD last k 0 ≡ 0
+
+-- the gap of an event: its transaction's place, if it reads the store, and else what stands for none
+abbrev pub gapOf : Bool → Event → List ℕ → ℕ
+gapOf store e place = cond store (getD place (e .transaction) 0) 65535
+
+-- the same of event i
+abbrev pub placedAt : List Event → List ℕ → ℕ → ℕ
+placedAt h place i = gapOf (isStoreRead h i) (eventAt h i) place
 
 -- the value that is written by the event before a number, none before 0
 abbrev pub valueBefore : List Event → ℕ → Option ℕ

@@ -14,6 +14,9 @@ returns c = rw (c .before .checked .given .1)
 slice-aggregate-transactions-begun : tie.Need-slice-aggregate-transactions-begun
 slice-aggregate-transactions-begun c = sym (length-take-le _ _ (c .before .before .before .pre .room (c .before .enum-told .given .1)))
 
+transactions-begun-requires : tie.Need-transactions-begun-requires
+transactions-begun-requires c κs = c .before .before .before .pre .readable (c .before .enum-told .given .1)
+
 returns-2 : tie.Need-returns-2
 unfolding counts
 returns-2 c = rw (c .before .before .enum-told .given .1, c .transactions-begun .ensures)
@@ -22,4 +25,4 @@ pub count-begun-spec : {M : Type 1} → statement M
 count-begun-spec =
     tie.close
     (tie.spec (λ c. search needs) returns (λ c. search needs) slice-aggregate-transactions-begun
-    (λ c κs. search needs) returns-2)
+    transactions-begun-requires returns-2)

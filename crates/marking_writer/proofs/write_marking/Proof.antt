@@ -16,15 +16,15 @@ abbrev headed : tie.After-put-places-arg → tie.After-put-head
 headed a = a .before .before .before
 
 abbrev entered : tie.After-put-head → tie.Start
-entered a = a .before .before .before
+entered a = a .before .before .before .before
 
 abbrev placed : tie.After-put-points-arg → tie.After-put-places
 placed a = a .before .before .before
 
 -- the length of the marking
-size : (s : tie.Start) → length (bytesIn (s .args .order .now) (s .args .outcomes .now) (s .args .begun) (s .args .reads .now) (s .args .gaps .now) (s .args .count))
-    ≡ 6 + 8 * s .args .begun + length (pointsIn (s .args .reads .now) (s .args .gaps .now) (s .args .count))
-size s = bytes-length (s .args .order .now) (s .args .outcomes .now) (s .args .begun) (s .args .reads .now) (s .args .gaps .now) (s .args .count)
+size : (s : tie.Start) → length (bytesIn (s .args .order .now) (s .args .outcomes .now) (s .args .begun) (s .args .gaps .now))
+    ≡ 6 + 8 * s .args .begun + length (pointsIn (s .args .gaps .now) (length (s .args .gaps .now)))
+size s = bytes-length (s .args .order .now) (s .args .outcomes .now) (s .args .begun) (s .args .gaps .now)
 
 put-places-requires : tie.Need-put-places-requires
 put-places-requires c κs =
@@ -44,7 +44,7 @@ returns c =
     let s = entered (headed (p .before)) in
     let order = s .args .order .now in
     let outcomes = s .args .outcomes .now in (
-      marking-put (placesTo order outcomes (s .args .begun)) (pointsIn (s .args .reads .now) (s .args .gaps .now) (s .args .count)) (s .args .out .now) _ _ _ (6 + 8 * s .args .begun)
+      marking-put (placesTo order outcomes (s .args .begun)) (pointsIn (s .args .gaps .now) (length (s .args .gaps .now))) (s .args .out .now) _ _ _ (6 + 8 * s .args .begun)
           (omega (arith, places-bytes order outcomes (s .args .begun))) (s .pre .1) (headed (p .before) .put-head .ensures) (p .put-places .ensures) (put .put-points .ensures .0),
       put .put-points .ensures .1 ∙ sym (size s),
     )
