@@ -16,9 +16,9 @@ use log::rows::Row;
 use log::rows::transactions_begun;
 use marking_reader::read::read_marking;
 use opacity::verdict::Verdict;
+use reads::NO_POINT;
 use reads::own_writes;
 use rules::judge::judge;
-use rules::points::NO_POINT;
 
 // The checker's answer: the verdict of the rules; the question that refuses the history, with its
 // event; or the question that refuses the marking, with its byte.

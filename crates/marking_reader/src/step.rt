@@ -13,13 +13,13 @@ ghost use Rattle.reads.specs.Own.{OwnWrites};
 ghost use Rattle.marking_reader.specs.File.{bodyStep, endStep, stepAt};
 ghost use Rattle.marking_reader.specs.State.{Asking, pointBy, askedBy, placeQuestions, pointQuestions, placeStep, pointStep};
 use log::rows::Row;
+use reads::NO_POINT;
 use reads::is_store_read;
 use records::fields::u16_at;
 use records::fields::u32_at;
 use records::record::Found;
 use records::record::Record;
 use records::record::record_at;
-use rules::points::NO_POINT;
 
 // A place or a point with the byte where its record ends; the question that says no, at a record or
 // at the end of the file; or the end, where none says no.
