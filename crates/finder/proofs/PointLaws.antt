@@ -24,15 +24,16 @@ use Rattle.opacity.specs.Marking.{placeOf, marked, markingHead, placeBytes, fla
 use Rattle.places.specs.Places.{decode}
 use Rattle.places.proofs.LookupLaws.{decode-snoc}
 use Rattle.marking_writer.specs.Points.{isGap, pointsTo}
-use Rattle.marking_writer.specs.Whole.{placesIn, pointsIn, bytesIn}
+use Rattle.opacity.specs.Arrays.{placesOf}
+use Rattle.marking_writer.specs.Whole.{pointsIn, bytesIn}
 use Rattle.marking_writer.proofs.PointLaws.{points-are, points-same}
 use Rattle.finder.specs.Arrays.{Arrayed, gapAt, foundBytes}
 use Rattle.finder.proofs.MarkLaws.{place-low, decode-length}
 
 -- the places in the arrays are those of the codes
 pub places-are : (codes order outcomes : List ℕ) (count : ℕ) → count ≤ length codes → Arrayed codes count order outcomes
-    → (k : ℕ) → k ≤ count → placesIn order outcomes k ≡ decode (take k codes)
-unfolding placesIn decode
+    → (k : ℕ) → k ≤ count → placesOf order outcomes k ≡ decode (take k codes)
+unfolding placesOf decode
 places-are codes order outcomes count room a zero l = refl
 places-are codes order outcomes count room a (suc k) l =
     ap₂ (λ (P : List Place) (p : Place). P ++ (p ∷ []))

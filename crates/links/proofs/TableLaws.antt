@@ -4,7 +4,7 @@ use Prim.Native.Nat.{ℕ, zero, suc, _+_, _-_, _≤_, _<_, max}
 use native.Mathlib.Nat.{le-refl, le-step}
 use native.Mathlib.Numerals.{add-one}
 use native.Mathlib.Omega.{arith}
-use mathlib.Core.Path.{_≡_, refl, sym, ap, _∙_}
+use mathlib.Core.Path.{_≡_, refl, sym, ap, _∙_, subst}
 use mathlib.Core.Bool.{Bool, true, false, not, cond}
 use mathlib.Core.List.{List}
 use mathlib.Core.Option.{Option, none, some, Option·getD}
@@ -22,7 +22,7 @@ use Rattle.opacity.specs.Marking.{lastEvent, beginOf}
 use Rattle.opacity.proofs.Snoc.{precedes-more}
 use Rattle.links.specs.declared.tables.Fact.{Fact}
 use Rattle.links.specs.declared.tables.Fact.the-variants.{LastEvent, LastBegin, FirstBegin, FirstEnd, Standing}
-use Rattle.links.specs.Tables.{lastOne, firstOne, rank, standing, slotAt, slot, Slots, earlier}
+use Rattle.links.specs.Tables.{lastOne, firstOne, rank, standing, slotAt, noted, slot, Slots, earlier}
 
 -- ---- filling
 
@@ -41,20 +41,26 @@ module _ (f : Fact) (h : List Event) where
   slot-other t i e = rw e
 
   -- the event is handed over as the code read it
-  pub slots-more : (i t v : ℕ) (table : List ℕ) {e : Event} → e ≡ eventAt h i → t ≡ e .transaction → t < 64 → v ≡ slotAt f e i (getD table t 0)
-      → Slots f h i table → Slots f h (i + 1) (set table t v)
-  slots-more i t v table {e} same p b q w =
-      record { size = length-set table t v ∙ w .size; holds = λ u l. rw (add-one i) (go u l (eqb (eventAt h i .transaction) u) refl) }
+  pub slots-more : (i : ℕ) {table after : List ℕ} {e : Event} → e ≡ eventAt h i → e .transaction < 64 → after ≡ noted f e i table
+      → Slots f h i table → Slots f h (i + 1) after
+  slots-more i {table} {after} {e} same b q w = subst (Slots f h (i + 1)) (sym q)
+      (record { size = length-set table t v ∙ w .size; holds = λ u l. rw (add-one i) (go u l (eqb (eventAt h i .transaction) u) refl) })
     where
+      t : ℕ
+      t = e .transaction
+
+      v : ℕ
+      v = slotAt f e i (getD table t 0)
+
       at : t ≡ eventAt h i .transaction
-      at = p ∙ ap (λ (x : Event). x .transaction) same
+      at = ap (λ (x : Event). x .transaction) same
 
       go : (u : ℕ) → u < 64 → (c : Bool) → eqb (eventAt h i .transaction) u ≡ c → getD (set table t v) u 0 ≡ slot f h u (suc i)
       go u l true d =
           let k : u ≡ t = sym (at ∙ eqb-true _ _ d) in
-          let s : slotAt f e i (getD table t 0) ≡ slotAt f (eventAt h i) i (slot f h u i) =
+          let s : v ≡ slotAt f (eventAt h i) i (slot f h u i) =
           ap (λ (x : Event). slotAt f x i (getD table t 0)) same ∙ ap (slotAt f (eventAt h i) i) (ap (λ (x : ℕ). getD table x 0) (sym k) ∙ w .holds u l) in
-          (ap (λ (x : ℕ). getD (set table t v) x 0) k ∙ getD-set-same table t v 0 (rw (w .size) b)) ∙ (q ∙ (s ∙ sym (slot-here u i d)))
+          (ap (λ (x : ℕ). getD (set table t v) x 0) k ∙ getD-set-same table t v 0 (rw (w .size) b)) ∙ (s ∙ sym (slot-here u i d))
       go u l false d = getD-set-other table t u v 0 (λ k. eqb-false _ _ d (sym at ∙ sym k)) ∙ (w .holds u l ∙ sym (slot-other u i d))
 
 -- ---- what they say

@@ -20,7 +20,6 @@ use Rattle.opacity.specs.Transactions.{lastWrite}
 use Rattle.links.specs.declared.tables.Fact.the-variants.{LastWrite}
 use Rattle.links.specs.Tables.{lastOne, slot}
 use Rattle.links.specs.Writes.{Linked, following, writeFrom, plusOne}
-use Rattle.lists.proofs.FilledLaws.{filled-at}
 use Rattle.links.proofs.TableLaws.{last-le}
 
 -- ---- answers as numbers
@@ -55,7 +54,7 @@ head-le h t (suc m) = last-le (slot LastWrite h t m) m (eqb (eventAt h m .transa
 
 -- the links lead backwards
 pub links-back : (h : List Event) {link : List ℕ} → Linked h link → (i : ℕ) → i < length h → getD link i 0 ≤ i
-links-back h y i l = rw (filled-at y i l) (head-le h (eventAt h i .transaction) i)
+links-back h y i l = rw (y .holds i l) (head-le h (eventAt h i .transaction) i)
 
 -- what is left to follow has the answer, o
 pub record Followed (h : List Event) (link : List ℕ) (r : ℕ) (o : Option ℕ) (j : ℕ) : Type 0 where
@@ -108,12 +107,12 @@ module _ (h : List Event) (t r : ℕ) where
   unfolding lastWrite
   last-more m l = rw (take-suc h m noEvent l) (latest-snoc _ (take m h) (eventAt h m))
 
-  last-same : (m : ℕ) → m < length h → (a b : Bool) → eqb (eventAt h m .transaction) t ≡ a → isWrite (eventAt h m) ≡ b → (a and b) ≡ false
+  pub last-same : (m : ℕ) → m < length h → (a b : Bool) → eqb (eventAt h m .transaction) t ≡ a → isWrite (eventAt h m) ≡ b → (a and b) ≡ false
       → lastWrite (take (suc m) h) t r ≡ lastWrite (take m h) t r
   unfolding by _and_
   last-same m l a b p q f = last-more m l ∙ rw (p, q, f)
 
-  last-write : (m : ℕ) → m < length h → eqb (eventAt h m .transaction) t ≡ true → isWrite (eventAt h m) ≡ true
+  pub last-write : (m : ℕ) → m < length h → eqb (eventAt h m .transaction) t ≡ true → isWrite (eventAt h m) ≡ true
       → lastWrite (take (suc m) h) t r ≡ orElse (cond (eqb (eventAt h m .register) r) (some (eventAt h m .value)) none) (lastWrite (take m h) t r)
   unfolding by _and_
   last-write m l p q = last-more m l ∙ rw (p, q)
@@ -137,7 +136,7 @@ module _ (h : List Event) (r : ℕ) (link : List ℕ) (y : Linked h link) where
       here (suc x) d p ih = found (eqb (eventAt h m .register) r)
         where
           linked : getD link m 0 ≡ slot LastWrite h t m
-          linked = filled-at y m l ∙ ap (λ (u : ℕ). slot LastWrite h u m) (eqb-true _ _ p)
+          linked = y .holds m l ∙ ap (λ (u : ℕ). slot LastWrite h u m) (eqb-true _ _ p)
 
           found : (b : Bool) → cond b (some (eventAt h m .value)) (following h link r x (getD link m 0))
               ≡ orElse (cond b (some (eventAt h m .value)) none) (lastWrite (take m h) t r)

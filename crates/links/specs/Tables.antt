@@ -6,7 +6,7 @@ use mathlib.Core.Path.{_≡_}
 use mathlib.Core.Bool.{Bool, false, cond}
 use mathlib.Core.List.{List}
 use lib.Dec.{eqb, ltb}
-use lib.ListN.{length, getD}
+use lib.ListN.{length, getD, set}
 use Rattle.events.specs.declared.event.Event.{Event}
 use Rattle.events.specs.Events.{eventAt, isBegin, isWrite, isEnd, isCommit, isAbort, asksCommit}
 use Rattle.links.specs.declared.tables.Fact.{Fact}
@@ -34,6 +34,10 @@ slotAt LastBegin e i x = lastOne (isBegin e) i x
 slotAt FirstBegin e i x = firstOne (isBegin e) i x
 slotAt FirstEnd e i x = firstOne (isEnd e) i x
 slotAt Standing e i x = max x (standing e)
+
+-- and of the table of all transactions
+abbrev pub noted : Fact → Event → ℕ → List ℕ → List ℕ
+noted f e i table = set table (e .transaction) (slotAt f e i (getD table (e .transaction) 0))
 
 -- what stands at t after n events
 unfoldable pub slot : Fact → List Event → ℕ → ℕ → ℕ

@@ -11,11 +11,11 @@ use Rattle.events.specs.declared.event.Event.{Event}
 use Rattle.events.specs.Events.{eventAt}
 use Rattle.links.specs.declared.tables.Fact.the-variants.{LastWrite}
 use Rattle.links.specs.Tables.{slot}
-use Rattle.lists.specs.Filled.{Filled}
+use Rattle.lists.specs.Filled.{Front}
 
 -- each entry holds one past the last write of its event's transaction before that event, 0 for none
 abbrev pub Links : List Event → ℕ → List ℕ → Type 0
-Links h n link = Filled 2048 0 (λ i. slot LastWrite h (eventAt h i .transaction) i) n link
+Links h n link = Front 0 (λ i. slot LastWrite h (eventAt h i .transaction) i) n link
 
 -- the links of a whole history
 abbrev pub Linked : List Event → List ℕ → Type 0

@@ -1,10 +1,11 @@
-// Tables of one number for each transaction. Each is filled by going once through the events.
+// Tables of one number for each transaction, filled by going once through the events.
 ghost use mathlib.Core.Path.{_≡_};
 ghost use mathlib.Core.Bool.{true};
 ghost use Prim.Native.Nat.{_<_, max};
 ghost use Rattle.events.specs.Questions.{readable};
 ghost use Rattle.log.specs.Rows.{logged};
-ghost use Rattle.links.specs.Tables.{lastOne, firstOne, standing, slotAt, Tabled};
+ghost use Rattle.links.specs.Tables.{lastOne, firstOne, standing, slotAt, noted, Tabled};
+ghost use Rattle.links.specs.Registers.{withWritten, registered, AllTabled};
 use events::event::Event;
 use events::event::asks_commit;
 use events::event::is_abort;
@@ -12,6 +13,7 @@ use events::event::is_begin;
 use events::event::is_commit;
 use events::event::is_end;
 use events::event::is_write;
+use lists::sets::with_register;
 use log::rows::Row;
 use log::rows::event_at;
 
@@ -91,6 +93,16 @@ pub fn slot_at(fact: Fact, e: Event, i: usize, x: u16) -> u16
     }
 }
 
+// What event e, of number i, makes of the table of a fact.
+pub fn note(slots: &mut [u16; 64], fact: Fact, e: Event, i: usize)
+    requires { ⌜ e .transaction < 64 ⌝ }
+    requires { ⌜ i < 2048 ⌝ }
+    ensures { λ r. ⌜ now (slots .exit) ≡ noted fact e i (now (slots .entry)) ⌝ }
+{
+    let t = wide(e.transaction);
+    slots[t] = slot_at(fact, e, i, slots[t]);
+}
+
 // The table of a fact, for the transactions of a log.
 pub fn table(log: &[Row], fact: Fact) -> [u16; 64]
     requires { ⌜ readable (logged (now log)) ≡ true ⌝ }
@@ -100,9 +112,67 @@ pub fn table(log: &[Row], fact: Fact) -> [u16; 64]
     let mut i: usize = 0;
     while i < log.len() {
         let e = event_at(log, i);
-        let t = wide(e.transaction);
-        slots[t] = slot_at(fact, e, i, slots[t]);
+        note(&mut slots, fact, e, i);
         i += 1;
     }
     slots
+}
+
+// The set of the registers that a transaction has written, after its event e.
+fn written_with(set: u32, e: Event) -> u32
+    requires { ⌜ e .register < 32 ⌝ }
+    ensures { λ s. ⌜ s ≡ withWritten e set ⌝ }
+{
+    if is_write(e) {
+        return with_register(set, wide(e.register));
+    }
+    set
+}
+
+// What event e makes of the table of those sets.
+fn note_register(registers: &mut [u32; 64], e: Event)
+    requires { ⌜ e .transaction < 64 ⌝ }
+    requires { ⌜ e .register < 32 ⌝ }
+    ensures { λ r. ⌜ now (registers .exit) ≡ registered e (now (registers .entry)) ⌝ }
+{
+    let t = wide(e.transaction);
+    registers[t] = written_with(registers[t], e);
+}
+
+// The tables of several facts, and for each transaction the set of the registers that it writes.
+pub struct Tables {
+    pub standing: [u16; 64],
+    pub ended: [u16; 64],
+    pub began: [u16; 64],
+    pub written: [u16; 64],
+    pub registers: [u32; 64],
+}
+
+// All of them, for the transactions of a log.
+pub fn tables_of(log: &[Row]) -> Tables
+    requires { ⌜ readable (logged (now log)) ≡ true ⌝ }
+    ensures { λ r. ⌜ AllTabled (logged (now (log .entry))) r ⌝ }
+{
+    let mut standing = [0u16; 64];
+    let mut ended = [0u16; 64];
+    let mut began = [0u16; 64];
+    let mut written = [0u16; 64];
+    let mut registers = [0u32; 64];
+    let mut i: usize = 0;
+    while i < log.len() {
+        let e = event_at(log, i);
+        note(&mut standing, Fact::Standing, e, i);
+        note(&mut ended, Fact::FirstEnd, e, i);
+        note(&mut began, Fact::LastBegin, e, i);
+        note(&mut written, Fact::LastWrite, e, i);
+        note_register(&mut registers, e);
+        i += 1;
+    }
+    Tables {
+        standing,
+        ended,
+        began,
+        written,
+        registers,
+    }
 }

@@ -3,31 +3,32 @@
 ghost use mathlib.Core.Path.{_≡_};
 ghost use mathlib.Core.Bool.{true};
 ghost use Prim.Native.Nat.{_+_};
+ghost use lib.ListN.{length};
 ghost use Rattle.events.specs.Questions.{readable};
 ghost use Rattle.log.specs.Rows.{logged};
 ghost use Rattle.links.specs.Writes.{Linked};
 use crate::tables::Fact;
-use crate::tables::slot_at;
+use crate::tables::note;
 use crate::tables::wide;
 use log::rows::Row;
 use log::rows::event_at;
 
-// For each event, one past the last write of its transaction before it, with 0 for none.
-pub fn links(log: &[Row]) -> [u16; 2048]
+// For each event, one past the last write of its transaction before it, with 0 for none; the entries
+// past the last event are left as they were.
+pub fn links(log: &[Row], link: &mut [u16; 2048])
     requires { ⌜ readable (logged (now log)) ≡ true ⌝ }
-    ensures { λ r. ⌜ Linked (logged (now (log .entry))) r ⌝ }
+    requires { ⌜ length (now link) ≡ 2048 ⌝ }
+    ensures { λ r. ⌜ Linked (logged (now (log .entry))) (now (link .exit)) ⌝ }
 {
     let mut last = [0u16; 64];
-    let mut link = [0u16; 2048];
     let mut i: usize = 0;
     while i < log.len() {
         let e = event_at(log, i);
         let t = wide(e.transaction);
         link[i] = last[t];
-        last[t] = slot_at(Fact::LastWrite, e, i, last[t]);
+        note(&mut last, Fact::LastWrite, e, i);
         i += 1;
     }
-    link
 }
 
 // A value as an answer that may be none.

@@ -1,2 +1,3 @@
 // Tests and searches over lists, the words of all definitions, and their laws: nothing here is about
-// histories, and there is no code.
+// histories. The only code is that of sets in one number.
+pub mod sets;

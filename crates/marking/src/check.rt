@@ -51,7 +51,8 @@ pub fn check_log(starts: &[u32; 32], log: &[Row], file: &[u8]) -> Ruling
     if let Checked::Refused(refusal) = read {
         return Ruling::Refused(refusal);
     }
-    let link = links(log);
+    let mut link = [0u16; 2048];
+    links(log, &mut link);
     let verdict = judge(starts, log, &own, &link, &order, &outcomes, &gaps);
     Ruling::Ruled(verdict)
 }

@@ -25,9 +25,9 @@ use Rattle.opacity.specs.Transactions.{isStoreRead}
 use Rattle.opacity.specs.Justification.{Place, isOf, placed, distinct, isOrder}
 use Rattle.opacity.specs.Marking.{Marking, Point}
 use Rattle.opacity.proofs.Orders.{distinct-snoc, fills, filled as full}
-use Rattle.rules.specs.Orders.{placesOf, placeAt}
+use Rattle.opacity.specs.Arrays.{placesOf, placeAt}
 use Rattle.rules.proofs.Numbers.{every-ext}
-use Rattle.rules.proofs.OrderLaws.{places-length}
+use Rattle.opacity.proofs.Arrays.{places-length}
 use Rattle.marking_reader.specs.File.{known, asked, nextEvent, everyPlaced, hasPoint, everyPointed, stepAt}
 use Rattle.marking_reader.specs.File.{withPlace, withPoint, nothingRead}
 use Rattle.marking_reader.specs.State.{Fresh, pointBy, askedBy, placeQuestions, pointQuestions, pointIn, pointsOf, soFar, Sound, Kept}

@@ -18,7 +18,7 @@ use Rattle.opacity.specs.Transactions.{isStoreRead}
 use Rattle.opacity.specs.Justification.{placed, distinct, isOrder}
 use Rattle.opacity.specs.Marking.{Marking, Point}
 use Rattle.reads.specs.Own.{OwnWrites}
-use Rattle.rules.specs.Orders.{placesOf}
+use Rattle.opacity.specs.Arrays.{placesOf}
 use Rattle.rules.specs.Judge.{content as inArrays}
 use Rattle.marking_reader.specs.declared.step.Step.{Step}
 use Rattle.marking_reader.specs.declared.step.Step.the-variants.{Placed, Pointed}

@@ -6,9 +6,10 @@ ghost use Prim.Native.Nat.{_+_, _*_, _≤_};
 ghost use lib.Dec.{eqb};
 ghost use lib.ListN.{length};
 ghost use Rattle.records.specs.Bytes.{u16Bytes, u32Bytes, placed, over};
+ghost use Rattle.opacity.specs.Arrays.{placesOf};
 ghost use Rattle.opacity.specs.Marking.{markingHead, outcomeNumber, placeBytes, flat};
 ghost use Rattle.marking_writer.specs.Points.{isGap, readBytes};
-ghost use Rattle.marking_writer.specs.Whole.{placesIn, pointsIn, bytesIn};
+ghost use Rattle.marking_writer.specs.Whole.{pointsIn, bytesIn};
 use reads::NO_POINT;
 use records::fields;
 use records::record::Record;
@@ -76,7 +77,7 @@ fn put_places(order: &[u16; 64], outcomes: &[u8; 64], begun: usize, out: &mut [u
     requires { ⌜ 6 + 8 * begun ≤ length (now out) ⌝ }
     ensures { λ _. ⌜
         now (out .exit)
-        ≡ placed (now (out .entry)) 6 (flat placeBytes (placesIn (now (order .entry)) (now (outcomes .entry)) begun)) ⌝ }
+        ≡ placed (now (out .entry)) 6 (flat placeBytes (placesOf (now (order .entry)) (now (outcomes .entry)) begun)) ⌝ }
 {
     let mut k: usize = 0;
     while k < begun {

@@ -11,6 +11,7 @@ pub mod Rules
 pub mod Between
 pub mod Opacity
 pub mod Finder
+pub mod Arrays
 pub mod MarkingBytes
 pub mod Serial
 pub mod Contents

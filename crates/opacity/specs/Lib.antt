@@ -9,3 +9,4 @@ pub mod Serial
 pub mod Counts
 pub mod Explains
 pub mod Verdicts
+pub mod Arrays

@@ -9,9 +9,9 @@ use lib.Dec.{eqb}
 use lib.ListN.{length, getD, set, length-set}
 use lib.Seq.{getD-set-same, getD-set-other}
 use borrow.Author.Tests.{eqb-true, eqb-false}
-use Rattle.places.specs.Bits.{bitAt}
+use Rattle.lists.specs.Bits.{bitAt}
 use Rattle.places.specs.Facts.{allRegisters, fact, put, readsOf, readsAsked, Shaped}
-use Rattle.places.proofs.BitLaws.{and-member, member-and, bit-all}
+use Rattle.lists.proofs.BitLaws.{and-member, member-and, bit-all}
 
 module _ (f : List (List ℕ)) (h : Shaped f) (t k v : ℕ) (l : t < 11) where
   pub put-shaped : Shaped (put f t k v)

@@ -1,5 +1,5 @@
 -- What the proofs of several functions use.
-pub mod BitLaws
+pub mod MemberLaws
 pub mod SetLaws
 pub mod StateLaws
 pub mod FactLaws

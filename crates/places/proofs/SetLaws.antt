@@ -11,11 +11,12 @@ use lib.Bits.{bitAnd, and-le-l, and-le-r}
 use lib.Count.{trailingZeros}
 use borrow.Author.Tests.{eqb-true, eqb-false}
 use Rattle.lists.specs.Lists.{_and_, all}
-use Rattle.places.specs.Bits.{bitAt, consIf, membersIn, members}
+use Rattle.lists.specs.Bits.{bitAt, consIf, membersIn, members}
 use Rattle.places.specs.State.{Within, Keeps}
 use Rattle.places.specs.Tree.{remove}
 use Rattle.lists.proofs.ListLaws.{and-l, and-r, and-i, clash}
-use Rattle.places.proofs.BitLaws.{member-lt, member-off, member-kept, member-gone, and-member, lowest-in, members-lowest, members-off}
+use Rattle.lists.proofs.BitLaws.{member-lt, member-off, member-kept, member-gone, and-member, lowest-in, members-lowest}
+use Rattle.places.proofs.MemberLaws.{members-off}
 
 pub members-first : (t c : ℕ) → c < 2 ^ 64 → (c ≡ 0 → ⊥) → t ≡ trailingZeros 64 c → members c ≡ t ∷ members (c - 2 ^ t)
 unfolding members

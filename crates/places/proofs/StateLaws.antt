@@ -14,7 +14,7 @@ use Rattle.lists.proofs.ListLaws.{below-cases}
 use Rattle.places.specs.declared.state.Search.{Search}
 use Rattle.places.specs.Places.{codesOf}
 use Rattle.places.specs.State.{Coded, Sound, Placeable, Extends}
-use Rattle.places.proofs.BitLaws.{member-lt, ones-off}
+use Rattle.lists.proofs.BitLaws.{member-lt, ones-off}
 
 -- ---- the places as a list
 

@@ -5,7 +5,7 @@ use Prim.Native.Nat.{ℕ, _-_, _^_}
 use lib.Count.{ones}
 use Rattle.lists.specs.Lists.{orElse}
 use Rattle.places.specs.declared.state.Search.{Search}
-use Rattle.places.specs.Bits.{members}
+use Rattle.lists.specs.Bits.{members}
 use Rattle.places.specs.State.{placedOf}
 use Rattle.places.specs.Tree.{Constraints, Completion, fromCandidates, atTransaction}
 

@@ -1,4 +1,3 @@
-pub mod Bits
 pub mod Facts
 pub mod Places
 pub mod State

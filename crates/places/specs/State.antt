@@ -10,7 +10,7 @@ use lib.Count.{ones}
 use Rattle.opacity.specs.Justification.{before, outcome, isOrder}
 use Rattle.places.specs.declared.state.Search.{Search}
 use Rattle.places.specs.declared.state.Spot.{Spot}
-use Rattle.places.specs.Bits.{bitAt}
+use Rattle.lists.specs.Bits.{bitAt}
 use Rattle.places.specs.Places.{codesOf, decode}
 
 -- the places filled, and how many there will be

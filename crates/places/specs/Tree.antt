@@ -8,7 +8,7 @@ use mathlib.Core.Bool.{Bool, true, false, cond}
 use mathlib.Core.Option.{Option, none, some}
 use lib.Dec.{eqb}
 use Rattle.lists.specs.Lists.{orElse, all}
-use Rattle.places.specs.Bits.{bitAt, members}
+use Rattle.lists.specs.Bits.{bitAt, members}
 use Rattle.places.specs.Facts.{endRow, allRegisters, afterOf, allowedOf, readsAsked, requiredOf}
 use Rattle.places.specs.Places.{codesOf, contentAt}
 

@@ -1,5 +1,5 @@
 // The places that the search fills: `facts` has what it is told of the transactions, `state` the places, `sets` the sets of transactions
-// and registers beside them, `lookup` what they leave in a register.
+// beside them, `lookup` what they leave in a register.
 pub mod facts;
 pub mod lookup;
 pub mod sets;

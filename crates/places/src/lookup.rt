@@ -3,7 +3,7 @@ ghost use mathlib.Core.Path.{_≡_};
 ghost use Prim.Native.Nat.{_<_};
 ghost use lib.ListN.{getD};
 ghost use Rattle.lists.specs.Lists.{all};
-ghost use Rattle.places.specs.Bits.{members};
+ghost use Rattle.lists.specs.Bits.{members};
 ghost use Rattle.places.specs.Places.{codesOf, contentAt, writeOf};
 ghost use Rattle.places.specs.State.{placedOf, Coded};
 ghost use Rattle.places.specs.Tree.{asking, legalAt, legalReads};

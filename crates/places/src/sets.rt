@@ -1,10 +1,10 @@
-// Sets of transactions, one bit each in a u64, and of registers, one bit each in a u32.
+// Sets of transactions, one bit each in a u64.
 ghost use mathlib.Core.Path.{_≡_};
 ghost use Prim.Native.Nat.{_-_, _^_, _<_};
 ghost use lib.Dec.{eqb};
 ghost use lib.Bits.{bitOr};
 ghost use lib.Count.{ones, trailingZeros};
-ghost use Rattle.places.specs.Bits.{bitAt};
+ghost use Rattle.lists.specs.Bits.{bitAt};
 
 // The set that holds t alone.
 pub fn bit(t: usize) -> u64
@@ -42,14 +42,6 @@ pub fn without(set: u64, t: usize) -> u64
     ensures { λ r. ⌜ r ≡ set - 2 ^ t ⌝ }
 {
     set - bit(t)
-}
-
-// The set of registers with r in it.
-pub fn with_register(set: u32, r: usize) -> u32
-    requires { ⌜ r < 32 ⌝ }
-    ensures { λ s. ⌜ s ≡ bitOr set (2 ^ r) ⌝ }
-{
-    set | 1u32 << r
 }
 
 // The set with t in it.

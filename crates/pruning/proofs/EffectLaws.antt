@@ -15,12 +15,12 @@ use Rattle.lists.specs.Lists.{all}
 use Rattle.log.specs.Starts.{startOf}
 use Rattle.opacity.specs.Justification.{written, contents}
 use Rattle.opacity.proofs.Contents.{contents-more}
-use Rattle.places.specs.Bits.{bitAt, members}
+use Rattle.lists.specs.Bits.{bitAt, members}
 use Rattle.places.specs.Facts.{requiredOf, writtenOf}
 use Rattle.places.specs.Places.{coded, decode, plus, writesIn, writeOf}
 use Rattle.places.specs.Tree.{asking, legalAt, legalReads}
 use Rattle.pruning.specs.Runs.{Effect, Effects, Writes, Written, Renewed, Stays}
-use Rattle.places.proofs.BitLaws.{member-lt, member-and, bit-with}
+use Rattle.lists.proofs.BitLaws.{member-lt, member-and, bit-with}
 use Rattle.places.proofs.SetLaws.{member-passes, members-pass, fewer-pass}
 use Rattle.places.proofs.LookupLaws.{committed-wrote, decode-snoc}
 

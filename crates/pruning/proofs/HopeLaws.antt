@@ -16,13 +16,13 @@ use Rattle.lists.proofs.ListLaws.{clash, all-weaken}
 use Rattle.opacity.specs.Justification.{written}
 use Rattle.opacity.proofs.Contents.{contents-more}
 use Rattle.places.specs.declared.state.Search.{Search}
-use Rattle.places.specs.Bits.{bitAt, members}
+use Rattle.lists.specs.Bits.{bitAt, members}
 use Rattle.places.specs.Facts.{endRow, afterOf, allowedOf, readsAsked}
 use Rattle.places.specs.Places.{coded, decode, writesIn}
 use Rattle.places.specs.State.{placedOf, Sound, Placeable, Keeps, Extends}
 use Rattle.places.specs.Tree.{Constraints, legalAt, legalReads, noneIn, ruleNext, allowsOutcome, fitsAt, fromCandidates}
 use Rattle.pruning.specs.Runs.{holds, Awaited, Hope, Ready, Renewed, otherThan}
-use Rattle.places.proofs.BitLaws.{member-lt, member-off, member-kept, and-member, lowest-in}
+use Rattle.lists.proofs.BitLaws.{member-lt, member-off, member-kept, and-member, lowest-in}
 use Rattle.places.proofs.SetLaws.{not-gone, member-passes, members-pass}
 use Rattle.places.proofs.LookupLaws.{decode-snoc}
 use Rattle.pruning.proofs.RunLaws.{Step, step-of, run-ends, none-runs}

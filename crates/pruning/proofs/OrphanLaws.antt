@@ -10,13 +10,13 @@ use lib.Dec.{eqb}
 use borrow.Author.Tests.{eqb-true, eqb-false, eq-eqb}
 use Rattle.lists.proofs.ListLaws.{not-true, clash}
 use Rattle.places.specs.declared.state.Search.{Search}
-use Rattle.places.specs.Bits.{bitAt}
+use Rattle.lists.specs.Bits.{bitAt}
 use Rattle.places.specs.Facts.{endRow, afterOf, allowedOf, readsAsked, requiredOf, writtenOf}
 use Rattle.places.specs.State.{Sound}
 use Rattle.places.specs.Choice.{among}
 use Rattle.places.specs.Tree.{Constraints, legalAt, legalReads}
 use Rattle.pruning.specs.Runs.{runs, holds, Awaited, NoSource, Orphaned}
-use Rattle.places.proofs.BitLaws.{member-off, member-kept}
+use Rattle.lists.proofs.BitLaws.{member-off, member-kept}
 use Rattle.places.proofs.SetLaws.{member-passes}
 use Rattle.pruning.proofs.EffectLaws.{writes-nothing, reads-nothing, spoils}
 use Rattle.pruning.proofs.RunLaws.{Step, step-of, run-ends}

@@ -11,11 +11,12 @@ use lib.Count.{ones}
 use borrow.Author.Tests.{eqb-true, eq-eqb}
 use Rattle.lists.specs.Lists.{orElse, isNone, all}
 use Rattle.lists.proofs.ListLaws.{and-l, and-r, and-i, isNone-none, none-isNone}
-use Rattle.places.specs.Bits.{bitAt, members}
+use Rattle.lists.specs.Bits.{bitAt, members}
 use Rattle.places.specs.Facts.{endRow, afterOf}
 use Rattle.places.specs.Tree.{Constraints, Completion, noneIn, legalReads, fitsAt, endsAt, firstOf, tryOne, tryBoth, fromCandidates}
 use Rattle.pruning.specs.Runs.{runs}
-use Rattle.places.proofs.BitLaws.{no-member, member-and, ones-off, none-in-members}
+use Rattle.lists.proofs.BitLaws.{no-member, member-and, ones-off}
+use Rattle.places.proofs.MemberLaws.{none-in-members}
 use Rattle.places.proofs.SetLaws.{members-remove, members-pass}
 
 -- ---- one place of a run

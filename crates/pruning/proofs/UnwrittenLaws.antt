@@ -15,12 +15,12 @@ use Rattle.lists.specs.Lists.{_and_, all}
 use Rattle.log.specs.Starts.{startOf}
 use Rattle.lists.proofs.ListLaws.{and-l, and-r, and-i, both-ways}
 use Rattle.opacity.specs.Justification.{contents}
-use Rattle.places.specs.Bits.{bitAt, members}
+use Rattle.lists.specs.Bits.{bitAt, members}
 use Rattle.places.specs.Facts.{endRow, allRegisters, readsOf, readsAsked, writtenOf}
 use Rattle.places.specs.Places.{decode, writesIn, writeOf}
 use Rattle.places.specs.Tree.{Constraints, Completion, asking, constraints, remove, upFrom, legalAt, legalReads, ruleNext, fitsAt, endsAt, firstOf, tryOne, tryBoth, fromCandidates, firstCompletion}
 use Rattle.pruning.specs.Runs.{Written, WrittenByAny, NoOther, Codes, Asked}
-use Rattle.places.proofs.BitLaws.{member-lt, and-member, member-and, member-xor, bit-all}
+use Rattle.lists.proofs.BitLaws.{member-lt, and-member, member-and, member-xor, bit-all}
 use Rattle.places.proofs.SetLaws.{member-passes, members-pass}
 use Rattle.places.proofs.LookupLaws.{aborted-wrote, committed-wrote, all-after, before-any, passed-over}
 

@@ -10,7 +10,7 @@ use lib.ListN.{length, getD}
 use lib.Dec.{eqb}
 use Rattle.lists.specs.Lists.{_and_}
 use Rattle.places.specs.declared.state.Search.{Search}
-use Rattle.places.specs.Bits.{bitAt, members}
+use Rattle.lists.specs.Bits.{bitAt, members}
 use Rattle.places.specs.Facts.{endRow, afterOf, allowedOf, readsAsked, requiredOf, writtenOf}
 use Rattle.places.specs.Places.{contentAt}
 use Rattle.places.specs.State.{placedOf, Within, Keeps}

@@ -6,10 +6,11 @@ ghost use Prim.Native.Nat.{ℕ, _*_, _+_, _%_, _^_, _<_};
 ghost use lib.Bits.{bitOr};
 ghost use lib.Dec.{eqb};
 ghost use Rattle.lists.specs.Lists.{all};
-ghost use Rattle.places.specs.Bits.{bitAt, members};
+ghost use Rattle.lists.specs.Bits.{bitAt, members};
 ghost use Rattle.places.specs.State.{Sound};
 ghost use Rattle.places.specs.Tree.{asking, legalAt};
 ghost use Rattle.pruning.specs.Runs.{Effect, Effects, Writes, Written, NoSource, Lost, Orphan, Orphaned};
+use lists::sets::with_register;
 use places::facts::ABORTED;
 use places::facts::ALLOWED;
 use places::facts::Facts;
@@ -35,7 +36,7 @@ fn noted(set: u32, r: usize, entry: u64) -> u32
     if entry == 0 {
         return set;
     }
-    sets::with_register(set, r)
+    with_register(set, r)
 }
 
 // The registers that t writes.

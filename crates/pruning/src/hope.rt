@@ -6,7 +6,7 @@ ghost use mathlib.Core.Bool.{true, false, cond};
 ghost use mathlib.Core.Option.{none};
 ghost use Prim.Native.Nat.{_-_, _^_, _<_};
 ghost use lib.Bits.{bitAnd};
-ghost use Rattle.places.specs.Bits.{bitAt};
+ghost use Rattle.lists.specs.Bits.{bitAt};
 ghost use Rattle.places.specs.Facts.{endRow, afterOf};
 ghost use Rattle.places.specs.State.{placedOf, Sound, Placeable, Keeps};
 ghost use Rattle.places.specs.Tree.{asking, legalReads};

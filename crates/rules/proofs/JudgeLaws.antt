@@ -23,14 +23,17 @@ use Rattle.opacity.proofs.Bounds.{at-most-64, transaction-known}
 use Rattle.opacity.proofs.Finder.{gap-marked, before-le}
 use Rattle.links.specs.declared.tables.Fact.the-variants.{LastEvent, LastWrite, LastBegin, FirstBegin, FirstEnd, Standing}
 use Rattle.links.specs.Tables.{Tabled, slot, earlier}
+use Rattle.links.specs.Registers.{Sets}
 use Rattle.links.proofs.TableLaws.{precedes-table, status-table, last-event, first-begin}
 use Rattle.links.proofs.WriteLaws.{head-le}
-use Rattle.rules.specs.Orders.{placesOf, Inverse, Apart, writerAt, Writers, broken, allowsBy, outcomeBy, pairBy, realTimeBy}
+use Rattle.opacity.specs.Arrays.{placesOf}
+use Rattle.opacity.proofs.Arrays.{places-length}
+use Rattle.rules.specs.Orders.{Inverse, Apart, writer, lastOf, writerAt, Writers, broken, allowsBy, outcomeBy, pairBy, realTimeBy}
 use Rattle.rules.specs.Walks.{Pointable, noWriter, rightValue, pointRule}
 use Rattle.rules.specs.Judge.{content, Given, tried, readsVerdict}
 use Rattle.rules.proofs.Numbers.{none-of, some-of, every-ext, first-ext}
-use Rattle.rules.proofs.OrderLaws.{places-length, before-lower, outcome-of, inverse-place, order-low, order-apart}
-use Rattle.rules.proofs.WalkLaws.{found-between, found-before}
+use Rattle.rules.proofs.OrderLaws.{before-lower, outcome-of, inverse-place, order-low, order-apart}
+use Rattle.rules.proofs.WalkLaws.{row-last, found-between, found-before}
 
 -- the order in the arrays
 abbrev pub orderIn : List Event → List ℕ → List ℕ → List Place
@@ -112,23 +115,25 @@ module _ {h : List Event} {link order outcomes gaps : List ℕ} (y : Given h lin
       reader-same i l = inverse-place order outcomes (begins h) (y .ordered) place v (eventAt h i .transaction) (transaction-known h (y .readable) i l)
 
       -- rules D and E
-      module _ {last writers : List ℕ} (lasts : Tabled LastWrite h last) (table : Writers order outcomes last k writers) where
-        writing : Writers order outcomes last (begins h) writers
-        writing = subst (λ (x : ℕ). Writers order outcomes last x writers) ek table
+      module _ {last registers : List ℕ} {writers : List (List ℕ)} (lasts : Tabled LastWrite h last) (sets : Sets h (length h) registers)
+          (table : Writers order outcomes last registers k writers) where
+        writing : Writers order outcomes last registers (begins h) writers
+        writing = subst (λ (x : ℕ). Writers order outcomes last registers x writers) ek table
 
         pub all-pointable : Pointable h link writers place gaps
         all-pointable =
             record {
-              walk = record { readable = y .readable; linked = y .linked; low = λ k. rw (writing .holds k) (low k (ltb k (begins h)) refl) };
+              walk = record { readable = y .readable; linked = y .linked; low = λ k. rw (row-last writers k, writing .holds k) (low k (ltb k (begins h)) refl) };
               places-low = v .low;
               gaps-low = λ i l r. (let a = y .gaps-fit i l (sym (y .pointed i l) ∙ r) in let b = few-begun in omega arith);
             }
           where
-            one : (k : ℕ) (b : Bool) → getD order k 0 < 64 → cond b (getD last (getD order k 0) 0) 0 ≤ length h
+            one : (k : ℕ) (b : Bool) → getD order k 0 < 64
+                → lastOf (cond b (writer (getD last (getD order k 0) 0) (getD registers (getD order k 0) 0)) (writer 0 0)) ≤ length h
             one k true l = rw (lasts .holds (getD order k 0) l) (head-le h (getD order k 0) (length h))
             one k false l = omega arith
 
-            low : (k : ℕ) (b : Bool) → ltb k (begins h) ≡ b → cond b (writerAt order outcomes last k) 0 ≤ length h
+            low : (k : ℕ) (b : Bool) → ltb k (begins h) ≡ b → lastOf (cond b (writerAt order outcomes last registers k) (writer 0 0)) ≤ length h
             low k true e = one k (eqb (getD outcomes k 0) 1) (apart .low k (ltb-true k (begins h) e))
             low k false e = omega arith
 
@@ -147,7 +152,7 @@ module _ {h : List Event} {link order outcomes gaps : List ℕ} (y : Given h lin
               go false e = refl
               go true e =
                   rw (reader-same i l, gap-same i l e)
-                  (ap isNone (found-between h link last order outcomes writers (begins h) (y .linked) lasts (apart .low) writing (y .ordered)
+                  (ap isNone (found-between h link last registers order outcomes writers (begins h) (y .linked) lasts sets (apart .low) writing (y .ordered)
                   (eventAt h i .transaction) (eventAt h i .register) known
                   (getD gaps i 0) (placeOf (eventAt h i .transaction) (orderIn h order outcomes)) (y .gaps-fit i l e) (place-le (eventAt h i .transaction) order outcomes (begins h))))
 
@@ -163,7 +168,7 @@ module _ {h : List Event} {link order outcomes gaps : List ℕ} (y : Given h lin
               go true e =
                   rw (reader-same i l, gap-same i l e)
                   (ap (λ (o : Option ℕ). eqb (eventAt h i .value) (Option·getD o (start (eventAt h i .register))))
-                  (found-before h link last order outcomes writers (begins h) (y .linked) lasts (apart .low) writing (y .ordered)
+                  (found-before h link last registers order outcomes writers (begins h) (y .linked) lasts sets (apart .low) writing (y .ordered)
                   (eventAt h i .transaction) (eventAt h i .register) known (getD gaps i 0) (y .gaps-fit i l e)))
 
         -- rules C to E are those of the definition
@@ -207,11 +212,11 @@ module _ {h : List Event} {link order outcomes gaps : List ℕ} (y : Given h lin
           verdict-b l =
               rw (none-a, sym agrees-b ∙ some-of (realTimeBy ended began place (begins h)) (begins h) u etb (omega arith)) (ap (λ (x : ℕ). Broken B x u) (first-begin h u))
 
-          pub verdict-reads : k ≤ u → {last writers : List ℕ} → Tabled LastWrite h last → Writers order outcomes last k writers
-              → readsVerdict start h link writers place gaps ≡ judged
+          pub verdict-reads : k ≤ u → {last registers : List ℕ} {writers : List (List ℕ)} → Tabled LastWrite h last → Sets h (length h) registers
+              → Writers order outcomes last registers k writers → readsVerdict start h link writers place gaps ≡ judged
           unfolding verdict tries ruleHolds content broke
-          verdict-reads l {last} {writers} lasts table =
-              reads-same lasts table start
+          verdict-reads l lasts sets table =
+              reads-same lasts sets table start
               ∙ rw (none-a, sym agrees-b ∙ none-of (realTimeBy ended began place (begins h)) (begins h) u etb (omega arith))
 
 -- a rule of events with what the search for its first breach said

@@ -10,7 +10,7 @@ use mathlib.Core.Logic.{⊎-elim}
 use mathlib.Core.Bool.{Bool, true, false, cond}
 use mathlib.Core.List.{List, [], _∷_, _++_}
 use lib.Dec.{eqb, ltb}
-use lib.ListN.{length, getD, take, drop, set, replicate, length-set, length-replicate, length-append}
+use lib.ListN.{length, getD, take, drop, set, replicate, length-set, length-replicate}
 use lib.Seq.{getD-set-same, getD-set-other, split-at, getD-take, getD-at, take-append-le, take-all}
 use borrow.Author.Tests.{eqb-true, eq-eqb, ne-eqb, eqb-false, lt-ltb, ltb-true, ltb-false, le-ltb}
 use Rattle.lists.specs.Lists.{_or_, any, all}
@@ -19,12 +19,9 @@ use Rattle.lists.proofs.ListLaws.{any-index}
 use Rattle.opacity.specs.Justification.{Place, isOf, placed, before, outcome, distinct, isOrder}
 use Rattle.opacity.specs.Marking.{placeOf}
 use Rattle.opacity.proofs.Orders.{Fresh, before-here, distinct-at, outcome-here}
-use Rattle.rules.specs.Orders.{placesOf, placeAt, Inverse, Apart}
-
-pub places-length : (order outcomes : List ℕ) (k : ℕ) → length (placesOf order outcomes k) ≡ k
-unfolding placesOf
-places-length order outcomes zero = refl
-places-length order outcomes (suc k) = omega (arith, length-append (placesOf order outcomes k) (placeAt order outcomes k ∷ []), places-length order outcomes k)
+use Rattle.opacity.specs.Arrays.{placesOf, placeAt}
+use Rattle.opacity.proofs.Arrays.{places-length}
+use Rattle.rules.specs.Orders.{Inverse, Apart}
 
 pub places-take : (order outcomes : List ℕ) (n k : ℕ) → k ≤ n → take k (placesOf order outcomes n) ≡ placesOf order outcomes k
 unfolding placesOf

@@ -10,9 +10,11 @@ use mathlib.Core.List.{List, [], _∷_}
 use mathlib.Core.Option.{Option, none}
 use lib.Dec.{eqb}
 use lib.ListN.{length, take, drop, getD}
-use lib.Seq.{drop-append-le, drop-length}
-use borrow.Author.Tests.{eq-eqb, ne-eqb, le-leb, lt-leb}
+use lib.Seq.{drop-append-le, drop-length, take-length}
+use borrow.Author.Tests.{eqb-false, eq-eqb, ne-eqb, le-leb, lt-leb}
 use Rattle.events.specs.declared.event.Event.{Event}
+use Rattle.lists.specs.Bits.{bitAt}
+use Rattle.lists.proofs.BitLaws.{bit-none}
 use Rattle.lists.specs.Lists.{_implies_, orElse, latest, keep, push}
 use Rattle.events.specs.Events.{eventAt}
 use Rattle.lists.proofs.ListLaws.{latest-snoc, orElse-none}
@@ -22,14 +24,17 @@ use Rattle.opacity.specs.Justification.{Place, isOf, written, isOrder}
 use Rattle.opacity.specs.Marking.{others, between, placeOf}
 use Rattle.links.specs.declared.tables.Fact.the-variants.{LastWrite}
 use Rattle.links.specs.Tables.{Tabled}
+use Rattle.links.specs.Registers.{Sets}
 use Rattle.lists.proofs.FilledLaws.{filled-at}
 use Rattle.links.specs.Writes.{writeFrom, plusOne, Linked}
 use Rattle.links.proofs.WriteLaws.{Followed, follow-start, follow-none, follow-found, follow-next, write-from, following-none}
-use Rattle.rules.specs.Orders.{placesOf, placeAt, Writers}
-use Rattle.rules.specs.Walks.{startAt, lastIn, Walkable, pointHolds, pointRule}
-use Rattle.rules.proofs.OrderLaws.{places-length, places-take, own-place}
+use Rattle.opacity.specs.Arrays.{placesOf, placeAt}
+use Rattle.opacity.proofs.Arrays.{places-length}
+use Rattle.rules.specs.Orders.{writer, lastOf, registersOf, writerAt, Writers}
+use Rattle.rules.specs.Walks.{startIn, startAt, lastIn, Walkable, pointHolds, pointRule}
+use Rattle.rules.proofs.OrderLaws.{places-take, own-place}
 
-module _ (h : List Event) (link writers : List ℕ) (own r lo : ℕ) where
+module _ (h : List Event) (link : List ℕ) (writers : List (List ℕ)) (own r lo : ℕ) where
   -- nothing below the lowest place
   pub last-in-start : lastIn h link writers own r lo lo ≡ none
   unfolding lastIn
@@ -40,35 +45,36 @@ module _ (h : List Event) (link writers : List ℕ) (own r lo : ℕ) where
       go (suc k) e = rw (lt-leb lo k (omega arith))
 
   last-in-more : (k : ℕ) → lo ≤ k
-      → lastIn h link writers own r lo (suc k) ≡ orElse (writeFrom h link r (startAt writers own k)) (lastIn h link writers own r lo k)
+      → lastIn h link writers own r lo (suc k) ≡ orElse (writeFrom h link r (startAt writers own r k)) (lastIn h link writers own r lo k)
   unfolding lastIn
   last-in-more k l = rw (le-leb lo k l)
 
-start-low : (writers : List ℕ) (own k n : ℕ) → ((j : ℕ) → getD writers j 0 ≤ n) → startAt writers own k ≤ n
-start-low writers own k n l = go (eqb k own)
+start-low : (writers : List (List ℕ)) (own r k n : ℕ) → ((j : ℕ) → lastOf (getD writers j []) ≤ n) → startAt writers own r k ≤ n
+start-low writers own r k n l = go (eqb k own) (eqb (bitAt r (registersOf (getD writers k []))) 1)
   where
-    go : (b : Bool) → cond b 0 (getD writers k 0) ≤ n
-    go true = omega arith
-    go false = l k
+    go : (b m : Bool) → cond b 0 (cond m (lastOf (getD writers k [])) 0) ≤ n
+    go true m = omega arith
+    go false true = l k
+    go false false = omega arith
 
 -- The nested walk, as its two loops leave it: back to place k, with nothing found from there on,
-pub record Walking (h : List Event) (link writers : List ℕ) (own r lo hi k : ℕ) : Type 0 where
+pub record Walking (h : List Event) (link : List ℕ) (writers : List (List ℕ)) (own r lo hi k : ℕ) : Type 0 where
   pub least : lo ≤ k
   pub most : k ≤ hi
   pub same : lastIn h link writers own r lo k ≡ lastIn h link writers own r lo hi
 
 -- and inside place k, back to the write before j.
-pub record Inside (h : List Event) (link writers : List ℕ) (own r lo hi k j : ℕ) : Type 0 where
+pub record Inside (h : List Event) (link : List ℕ) (writers : List (List ℕ)) (own r lo hi k j : ℕ) : Type 0 where
   pub least : lo ≤ k
   pub most : k < hi
-  pub writes : Followed h link r (writeFrom h link r (startAt writers own k)) j
+  pub writes : Followed h link r (writeFrom h link r (startAt writers own r k)) j
   pub same : lastIn h link writers own r lo (suc k) ≡ lastIn h link writers own r lo hi
 
-module _ {h : List Event} {link writers : List ℕ} {own r lo hi k : ℕ} where
+module _ {h : List Event} {link : List ℕ} {writers : List (List ℕ)} {own r lo hi k : ℕ} where
   pub walk-ends : Walking h link writers own r lo hi k → k ≡ lo → 0 ≡ plusOne (lastIn h link writers own r lo hi)
   walk-ends w e = ap plusOne (sym (last-in-start h link writers own r lo) ∙ (ap (lastIn h link writers own r lo) (sym e) ∙ w .same))
 
-  pub walk-enters : {j : ℕ} → Walkable h link writers → Walking h link writers own r lo hi k → (k ≡ lo → ⊥) → j ≡ startAt writers own (k - 1)
+  pub walk-enters : {j : ℕ} → Walkable h link writers → Walking h link writers own r lo hi k → (k ≡ lo → ⊥) → j ≡ startAt writers own r (k - 1)
       → Inside h link writers own r lo hi (k - 1) j
   walk-enters y w n e =
       let l = w .least in
@@ -78,14 +84,14 @@ module _ {h : List Event} {link writers : List ℕ} {own r lo hi k : ℕ} where
         least = omega arith;
         most = omega arith;
         writes =
-            subst (Followed h link r (writeFrom h link r (startAt writers own (k - 1)))) (sym e)
-            (follow-start (startAt writers own (k - 1)) (start-low writers own (k - 1) (length h) (y .low)) refl);
+            subst (Followed h link r (writeFrom h link r (startAt writers own r (k - 1)))) (sym e)
+            (follow-start (startAt writers own r (k - 1)) (start-low writers own r (k - 1) (length h) (y .low)) refl);
         same = ap (lastIn h link writers own r lo) s ∙ w .same;
       }
 
   module _ {j : ℕ} (w : Inside h link writers own r lo hi k j) where
     -- what the place holds, if it has a write to r; else what stands before it
-    found-here : {o : Option ℕ} → writeFrom h link r (startAt writers own k) ≡ o
+    found-here : {o : Option ℕ} → writeFrom h link r (startAt writers own r k) ≡ o
         → orElse o (lastIn h link writers own r lo k) ≡ lastIn h link writers own r lo hi
     found-here e =
         ap (λ (x : Option ℕ). orElse x (lastIn h link writers own r lo k)) (sym e)
@@ -111,6 +117,17 @@ module _ {h : List Event} {link writers : List ℕ} {own r lo hi k : ℕ} where
             same = w .same;
           }
 
+-- a row past the last, which is of nothing, is as good as one of zeros
+row-start : (rows : List (List ℕ)) (k r : ℕ) → startIn (getD rows k []) r ≡ startIn (getD rows k (writer 0 0)) r
+row-start [] k r = refl
+row-start (row ∷ rows) zero r = refl
+row-start (row ∷ rows) (suc k) r = row-start rows k r
+
+pub row-last : (rows : List (List ℕ)) (k : ℕ) → lastOf (getD rows k []) ≡ lastOf (getD rows k (writer 0 0))
+row-last [] k = refl
+row-last (row ∷ rows) zero = refl
+row-last (row ∷ rows) (suc k) = row-last rows k
+
 -- what a place wrote to r, where it is not that of t
 unfoldable writtenBut : List Event → ℕ → ℕ → Place → Option ℕ
 writtenBut h r t p = cond (isOf t p) none (written h r p)
@@ -127,21 +144,34 @@ but-latest h r t (p ∷ P) = go (isOf t p) (but-latest h r t P)
     go false ih = ap (λ (o : Option ℕ). orElse o (written h r p)) ih
 
 -- what the walk finds, for a history whose writes are linked and an order whose last writes are tabled
-module _ (h : List Event) (link last order outcomes writers : List ℕ) (b : ℕ)
-    (links : Linked h link) (lasts : Tabled LastWrite h last) (low : (k : ℕ) → k < b → getD order k 0 < 64)
-    (table : Writers order outcomes last b writers) (ordered : isOrder b (placesOf order outcomes b) ≡ true) (t r : ℕ) (known : t < b) where
+module _ (h : List Event) (link last registers order outcomes : List ℕ) (writers : List (List ℕ)) (b : ℕ)
+    (links : Linked h link) (lasts : Tabled LastWrite h last) (sets : Sets h (length h) registers) (low : (k : ℕ) → k < b → getD order k 0 < 64)
+    (table : Writers order outcomes last registers b writers) (ordered : isOrder b (placesOf order outcomes b) ≡ true) (t r : ℕ) (known : t < b) where
+  -- where the walk starts at place k, and the writes of its transaction u
+  starts : (k : ℕ) → k < b → startIn (getD writers k []) r ≡ startIn (writerAt order outcomes last registers k) r
+  starts k l = row-start writers k r ∙ ap (λ (w : List ℕ). startIn w r) (filled-at table k l)
+
+  by-writer : (u : ℕ) → u < 64 → writeFrom h link r (startIn (writer (getD last u 0) (getD registers u 0)) r) ≡ lastWrite h u r
+  by-writer u l = go (eqb (bitAt r (getD registers u 0)) 1) refl
+    where
+      go : (m : Bool) → eqb (bitAt r (getD registers u 0)) 1 ≡ m → writeFrom h link r (cond m (getD last u 0) 0) ≡ lastWrite h u r
+      go true e = rw (lasts .holds u l) (write-from h r link links u)
+      go false e =
+          following-none h link r 0
+          ∙ sym (ap (λ (g : List Event). lastWrite g u r) (sym (take-length h)) ∙ sets .unwritten u r l (eqb-false _ _ e))
+
   at-place : (k : ℕ) → k < b
-      → writeFrom h link r (startAt writers (placeOf t (placesOf order outcomes b)) k) ≡ writtenBut h r t (placeAt order outcomes k)
+      → writeFrom h link r (startAt writers (placeOf t (placesOf order outcomes b)) r k) ≡ writtenBut h r t (placeAt order outcomes k)
   unfolding writtenBut written
   at-place k l =
-      ap (λ (x : Bool). writeFrom h link r (cond x 0 (getD writers k 0))) (sym (own-place order outcomes b ordered t k known l))
-      ∙ go (isOf t (placeAt order outcomes k)) (eqb (getD outcomes k 0) 1) (filled-at table k l)
+      ap (λ (x : Bool). writeFrom h link r (cond x 0 (startIn (getD writers k []) r))) (sym (own-place order outcomes b ordered t k known l))
+      ∙ go (isOf t (placeAt order outcomes k)) (eqb (getD outcomes k 0) 1) (starts k l)
     where
-      go : (x y : Bool) → getD writers k 0 ≡ cond y (getD last (getD order k 0) 0) 0
-          → writeFrom h link r (cond x 0 (getD writers k 0)) ≡ cond x none (cond y (lastWrite h (getD order k 0) r) none)
+      go : (x y : Bool) → startIn (getD writers k []) r ≡ startIn (cond y (writer (getD last (getD order k 0) 0) (getD registers (getD order k 0) 0)) (writer 0 0)) r
+          → writeFrom h link r (cond x 0 (startIn (getD writers k []) r)) ≡ cond x none (cond y (lastWrite h (getD order k 0) r) none)
       go true y e = following-none h link r 0
-      go false false e = rw e (following-none h link r 0)
-      go false true e = rw (e, lasts .holds (getD order k 0) (low k l)) (write-from h r link links (getD order k 0))
+      go false false e = rw (e, bit-none r) (following-none h link r 0)
+      go false true e = rw e (by-writer (getD order k 0) (low k l))
 
   found-in : (lo hi : ℕ) → lo ≤ hi → hi ≤ b
       → lastIn h link writers (placeOf t (placesOf order outcomes b)) r lo hi ≡ latest (writtenBut h r t) (drop lo (placesOf order outcomes hi))
@@ -180,7 +210,7 @@ module _ (h : List Event) (link last order outcomes writers : List ℕ) (b : ℕ
       ∙ sym (but-latest h r t _ ∙ ap (latest (writtenBut h r t)) (places-take order outcomes b g l))
 
 -- a rule of points at event i, as the code reads the event, its reader's place and its gap
-module _ (start : ℕ → ℕ) (h : List Event) (link writers place gaps : List ℕ) (i : ℕ) (rule : Rule) where
+module _ (start : ℕ → ℕ) (h : List Event) (link : List ℕ) (writers : List (List ℕ)) (place gaps : List ℕ) (i : ℕ) (rule : Rule) where
   pub no-point : getD gaps i 0 ≡ 65535 → true ≡ pointRule start h link writers place gaps rule i
   unfolding pointRule _implies_
   no-point z = rw (eq-eqb _ _ z)

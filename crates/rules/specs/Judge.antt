@@ -18,7 +18,7 @@ use Rattle.opacity.specs.Transactions.{isStoreRead, storeReads, ownRight}
 use Rattle.opacity.specs.Justification.{isOrder}
 use Rattle.opacity.specs.Marking.{Marking, broke}
 use Rattle.links.specs.Writes.{Linked}
-use Rattle.rules.specs.Orders.{placesOf}
+use Rattle.opacity.specs.Arrays.{placesOf}
 use Rattle.rules.specs.Walks.{hasPoint, pointRule}
 
 -- the marking that stands in the arrays
@@ -42,7 +42,7 @@ unfoldable pub tried : List Event → Rule → (ℕ → Bool) → Verdict → Ve
 tried h r holds rest = broke (first (λ i. not (holds i)) (length h)) (λ i. Broken r i (eventAt h i .transaction)) rest
 
 -- rules C to E
-unfoldable pub readsVerdict : (ℕ → ℕ) → List Event → List ℕ → List ℕ → List ℕ → List ℕ → Verdict
+unfoldable pub readsVerdict : (ℕ → ℕ) → List Event → List ℕ → List (List ℕ) → List ℕ → List ℕ → Verdict
 readsVerdict start h link writers place gaps = tried h C (ownRight h) (tried h D (points D) (tried h E (points E) Accepted))
   where
     points : Rule → ℕ → Bool

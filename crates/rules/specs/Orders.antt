@@ -1,25 +1,16 @@
 -- Vocabulary between crates: it need not be believed, the public contracts end in the paper's definitions.
 -- Orders of places in arrays, and the rules A and B by tables.
 -- Assumes nothing.
-use Prim.Native.Nat.{ℕ, zero, suc, _≤_, _<_}
+use Prim.Native.Nat.{ℕ, _≤_, _<_}
 use mathlib.Core.Path.{_≡_}
 use mathlib.Core.Bool.{Bool, true, not, cond}
-use mathlib.Core.List.{List, [], _∷_, _++_}
+use mathlib.Core.List.{List, [], _∷_}
 use mathlib.Core.Option.{Option·getD}
 use lib.Dec.{eqb, ltb}
 use lib.ListN.{length, getD}
 use Rattle.lists.specs.Lists.{_implies_, first, every}
-use Rattle.opacity.specs.Justification.{Place}
 use Rattle.lists.specs.Filled.{Filled}
 use Rattle.links.specs.Tables.{earlier}
-
-abbrev pub placeAt : List ℕ → List ℕ → ℕ → Place
-placeAt order outcomes k = record { transaction = getD order k 0; committed = eqb (getD outcomes k 0) 1 }
-
--- the first k places
-unfoldable pub placesOf : List ℕ → List ℕ → ℕ → List Place
-placesOf order outcomes zero = []
-placesOf order outcomes (suc k) = placesOf order outcomes k ++ (placeAt order outcomes k ∷ [])
 
 -- the first b places hold transactions that have a slot, each once
 pub record Apart (order : List ℕ) (b : ℕ) : Type 0 where
@@ -33,13 +24,25 @@ pub record Inverse (order : List ℕ) (k : ℕ) (place : List ℕ) : Type 0 wher
   pub low : (t : ℕ) → getD place t 0 < 64
   pub holds : (j : ℕ) → j < k → getD place (getD order j 0) 0 ≡ j
 
--- one past the last write of the transaction at place k, or 0 where that is not committed
-abbrev pub writerAt : List ℕ → List ℕ → List ℕ → ℕ → ℕ
-writerAt order outcomes last k = cond (eqb (getD outcomes k 0) 1) (getD last (getD order k 0) 0) 0
+-- what a transaction writes, as a row: one past its last write, and the set of its registers
+abbrev pub writer : ℕ → ℕ → List ℕ
+writer last set = last ∷ set ∷ []
 
--- the same as a table of the first b places, 0 past them
-abbrev pub Writers : List ℕ → List ℕ → List ℕ → ℕ → List ℕ → Type 0
-Writers order outcomes last b table = Filled 64 0 (writerAt order outcomes last) b table
+-- and what is read off a row
+abbrev pub lastOf : List ℕ → ℕ
+lastOf row = getD row 0 0
+
+abbrev pub registersOf : List ℕ → ℕ
+registersOf row = getD row 1 0
+
+-- what the transaction at place k writes, nothing where that is not committed
+abbrev pub writerAt : List ℕ → List ℕ → List ℕ → List ℕ → ℕ → List ℕ
+writerAt order outcomes written registers k =
+    cond (eqb (getD outcomes k 0) 1) (writer (getD written (getD order k 0) 0) (getD registers (getD order k 0) 0)) (writer 0 0)
+
+-- the same as a table of the first b places, nothing past them
+abbrev pub Writers : List ℕ → List ℕ → List ℕ → List ℕ → ℕ → List (List ℕ) → Type 0
+Writers order outcomes written registers b table = Filled 64 (writer 0 0) (writerAt order outcomes written registers) b table
 
 -- the first number below n that fails, or n
 unfoldable pub broken : (ℕ → Bool) → ℕ → ℕ

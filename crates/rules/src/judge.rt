@@ -17,11 +17,13 @@ ghost use Rattle.rules.specs.Walks.{Pointable};
 ghost use Rattle.rules.specs.Judge.{content, Given, readsVerdict};
 use crate::order::rule_a;
 use crate::order::rule_b;
+use crate::places::Writer;
 use crate::places::places_of;
 use crate::places::writers_of;
 use crate::points::first_broken;
 use links::tables::Fact;
 use links::tables::table;
+use links::tables::tables_of;
 use links::tables::wide;
 use log::rows::Row;
 use log::rows::event_at;
@@ -89,7 +91,7 @@ fn judge_reads(
     log: &[Row],
     own: &[u16; 2048],
     link: &[u16; 2048],
-    writers: &[u16; 64],
+    writers: &[Writer; 64],
     place: &[u16; 64],
     gaps: &[u16; 2048],
 ) -> Verdict
@@ -131,18 +133,20 @@ pub fn judge(
 {
     let begun = transactions_begun(log);
     let place = places_of(order, begun);
-    let standing = table(log, Fact::Standing);
+    let tables = tables_of(log);
+    let standing = tables.standing;
     let t = rule_a(&standing, &place, outcomes, begun);
     if t < begun {
         return broken_by(Rule::A, log, Fact::LastEvent, t);
     }
-    let ended = table(log, Fact::FirstEnd);
-    let began = table(log, Fact::LastBegin);
+    let ended = tables.ended;
+    let began = tables.began;
     let u = rule_b(&ended, &began, &place, begun);
     if u < begun {
         return broken_by(Rule::B, log, Fact::FirstBegin, u);
     }
-    let written = table(log, Fact::LastWrite);
-    let writers = writers_of(order, outcomes, &written, begun);
+    let written = tables.written;
+    let registers = tables.registers;
+    let writers = writers_of(order, outcomes, &written, &registers, begun);
     judge_reads(starts, log, own, link, &writers, &place, gaps)
 }

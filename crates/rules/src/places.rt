@@ -20,34 +20,62 @@ pub fn places_of(order: &[u16; 64], begun: usize) -> [u16; 64]
     place
 }
 
-// One past the last write of the transaction at place k, or 0 where that is not committed: an
-// aborted transaction is no writer.
-fn writer_at(order: &[u16; 64], outcomes: &[u8; 64], last: &[u16; 64], k: usize) -> u16
+// What a committed transaction writes: one past its last write, with 0 for none, and the set of its
+// registers.
+pub type Writer = [u32; 2];
+
+pub const LAST: usize = 0;
+
+pub const REGISTERS: usize = 1;
+
+// A number as a field of a row, and back.
+fn as_field(x: u16) -> u32
+    ensures { λ r. ⌜ r ≡ x ⌝ }
+{
+    x as u32
+}
+
+pub fn from_field(x: u32) -> usize
+    ensures { λ r. ⌜ r ≡ x ⌝ }
+{
+    x as usize
+}
+
+// What the transaction at place k writes; nothing where that is not committed: an aborted transaction
+// is no writer.
+fn writer_at(
+    order: &[u16; 64],
+    outcomes: &[u8; 64],
+    written: &[u16; 64],
+    registers: &[u32; 64],
+    k: usize,
+) -> Writer
     requires { ⌜ k < 64 ⌝ }
     requires { ⌜ getD (now order) k 0 < 64 ⌝ }
-    ensures { λ r. ⌜ r ≡ writerAt (now (order .entry)) (now (outcomes .entry)) (now (last .entry)) k ⌝ }
+    ensures { λ r. ⌜ r ≡ writerAt (now (order .entry)) (now (outcomes .entry)) (now (written .entry)) (now (registers .entry)) k ⌝ }
 {
     if outcomes[k] != 1 {
-        return 0;
+        return [0, 0];
     }
     let t = wide(order[k]);
-    last[t]
+    [as_field(written[t]), registers[t]]
 }
 
 // The same of each place.
 pub fn writers_of(
     order: &[u16; 64],
     outcomes: &[u8; 64],
-    last: &[u16; 64],
+    written: &[u16; 64],
+    registers: &[u32; 64],
     begun: usize,
-) -> [u16; 64]
+) -> [Writer; 64]
     requires { ⌜ Apart (now order) begun ⌝ }
-    ensures { λ r. ⌜ Writers (now (order .entry)) (now (outcomes .entry)) (now (last .entry)) begun r ⌝ }
+    ensures { λ r. ⌜ Writers (now (order .entry)) (now (outcomes .entry)) (now (written .entry)) (now (registers .entry)) begun r ⌝ }
 {
-    let mut writers = [0u16; 64];
+    let mut writers = [[0u32; 2]; 64];
     let mut k: usize = 0;
     while k < begun {
-        writers[k] = writer_at(order, outcomes, last, k);
+        writers[k] = writer_at(order, outcomes, written, registers, k);
         k += 1;
     }
     writers

@@ -7,6 +7,7 @@ ghost use Rattle.log.specs.Rows.{logged};
 ghost use Rattle.log.specs.Starts.{startOf};
 ghost use Rattle.rules.specs.Orders.{broken};
 ghost use Rattle.rules.specs.Walks.{Walkable, Pointable, noWriter, rightValue, pointRule};
+use crate::places::Writer;
 use crate::walk::last_writer;
 use events::event::Event;
 use links::tables::wide;
@@ -44,13 +45,13 @@ pub fn place_at(place: &[u16; 64], e: Event) -> u16
 fn no_writer_between(
     log: &[Row],
     link: &[u16; 2048],
-    writers: &[u16; 64],
+    writers: &[Writer; 64],
     own: usize,
     g: usize,
     e: Event,
 ) -> bool
     requires { ⌜ Walkable (logged (now log)) (now link) (now writers) ⌝ }
-    requires { ⌜ (own < 64) × (g ≤ 64) ⌝ }
+    requires { ⌜ (own < 64) × (g ≤ 64) × (e .register < 32) ⌝ }
     ensures { λ b. ⌜ b ≡ noWriter (logged (now (log .entry))) (now (link .entry)) (now (writers .entry)) own g e ⌝ }
 {
     let lo = least(g, own);
@@ -64,7 +65,7 @@ fn value_at_gap(
     starts: &[u32; 32],
     log: &[Row],
     link: &[u16; 2048],
-    writers: &[u16; 64],
+    writers: &[Writer; 64],
     own: usize,
     g: usize,
     e: Event,
@@ -89,7 +90,7 @@ pub fn holds_at(
     starts: &[u32; 32],
     log: &[Row],
     link: &[u16; 2048],
-    writers: &[u16; 64],
+    writers: &[Writer; 64],
     place: &[u16; 64],
     gaps: &[u16; 2048],
     i: usize,
@@ -121,7 +122,7 @@ pub fn first_broken(
     starts: &[u32; 32],
     log: &[Row],
     link: &[u16; 2048],
-    writers: &[u16; 64],
+    writers: &[Writer; 64],
     place: &[u16; 64],
     gaps: &[u16; 2048],
 ) -> usize

@@ -4,20 +4,31 @@ ghost use Prim.Native.Nat.{_≤_, _<_};
 ghost use Rattle.log.specs.Rows.{logged};
 ghost use Rattle.links.specs.Writes.{plusOne};
 ghost use Rattle.rules.specs.Walks.{startAt, lastIn, Walkable};
+use crate::places::LAST;
+use crate::places::REGISTERS;
+use crate::places::Writer;
+use crate::places::from_field;
 use links::tables::wide;
 use links::writes::stored;
+use lists::sets::has_register;
 use log::rows::Row;
 use log::rows::event_at;
 
-// Where the walk over the writes at place k starts: nowhere, where that is the reader's own place.
-fn start_at(writers: &[u16; 64], own: usize, k: usize) -> usize
+// Where the walk over the writes at place k starts: nowhere, where that is the reader's own place or
+// its transaction does not write r.
+fn start_at(writers: &[Writer; 64], own: usize, r: u16, k: usize) -> usize
     requires { ⌜ k < 64 ⌝ }
-    ensures { λ r. ⌜ r ≡ startAt (now (writers .entry)) own k ⌝ }
+    requires { ⌜ r < 32 ⌝ }
+    ensures { λ j. ⌜ j ≡ startAt (now (writers .entry)) own r k ⌝ }
 {
     if k == own {
         return 0;
     }
-    wide(writers[k])
+    let writer = writers[k];
+    if !has_register(writer[REGISTERS], wide(r)) {
+        return 0;
+    }
+    from_field(writer[LAST])
 }
 
 // The value of the last writer of r but the one at place own, among the places from lo up to hi,
@@ -26,14 +37,14 @@ fn start_at(writers: &[u16; 64], own: usize, k: usize) -> usize
 pub fn last_writer(
     log: &[Row],
     link: &[u16; 2048],
-    writers: &[u16; 64],
+    writers: &[Writer; 64],
     own: usize,
     r: u16,
     lo: usize,
     hi: usize,
 ) -> u64
     requires { ⌜ Walkable (logged (now log)) (now link) (now writers) ⌝ }
-    requires { ⌜ (lo ≤ hi) × (hi ≤ 64) ⌝ }
+    requires { ⌜ (lo ≤ hi) × (hi ≤ 64) × (r < 32) ⌝ }
     ensures { λ w. ⌜ w ≡ plusOne (lastIn (logged (now (log .entry))) (now (link .entry)) (now (writers .entry)) own r lo hi) ⌝ }
 {
     let mut k = hi;
@@ -42,7 +53,7 @@ pub fn last_writer(
             break 'walk 0u64;
         }
         k -= 1;
-        let mut j = start_at(writers, own, k);
+        let mut j = start_at(writers, own, r, k);
         while j != 0 {
             let i = j - 1;
             let e = event_at(log, i);

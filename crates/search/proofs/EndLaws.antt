@@ -13,7 +13,7 @@ use lib.ListN.{length, length-append}
 use lib.Pow.{pow-pos}
 use borrow.Author.Tests.{eqb-true, eqb-false, ne-eqb}
 use Rattle.lists.specs.Lists.{orElse}
-use Rattle.places.specs.Bits.{bitAt}
+use Rattle.lists.specs.Bits.{bitAt}
 use Rattle.places.specs.Facts.{endRow, afterOf, readsOf, readsAsked}
 use Rattle.places.specs.Places.{codesOf}
 use Rattle.places.specs.Tree.{Constraints, Completion, remove, upFrom, noneIn, legalReads, fitsAt, endsAt, firstOf, tryOne, tryBoth, fromCandidates, firstCompletion}

@@ -13,11 +13,12 @@ use Rattle.lists.specs.Lists.{orElse}
 use lib.Pow.{pow-mono, pow-pos}
 use lib.Count.{ones, ones-ones, trailingZeros}
 use Rattle.places.specs.declared.state.Search.{Search}
-use Rattle.places.specs.Bits.{bitAt, membersIn, members}
+use Rattle.lists.specs.Bits.{bitAt, membersIn, members}
 use Rattle.places.specs.State.{placedOf, whole, Sound, Placeable, Within, Extends}
 use Rattle.places.specs.Tree.{Constraints, Completion, ruleNext, allowsOutcome, fitsAt, endsAt, firstOf, tryOne, tryBoth, fromCandidates, atTransaction, firstCompletion, readAnswer, Answered}
 use Rattle.places.specs.Choice.{among, withNext, from}
-use Rattle.places.proofs.BitLaws.{ones-off, members-all}
+use Rattle.lists.proofs.BitLaws.{ones-off}
+use Rattle.places.proofs.MemberLaws.{members-all}
 use Rattle.places.proofs.StateLaws.{fewer}
 use Rattle.places.proofs.SetLaws.{members-first, members-remove, lowest-member}
 

@@ -9,7 +9,7 @@ use Rattle.log.specs.Starts.{startOf}
 use Rattle.events.specs.Events.{isWrite, by}
 use Rattle.opacity.specs.Transactions.{lastWrite}
 use Rattle.opacity.specs.Justification.{written, contents}
-use Rattle.places.specs.Bits.{bitAt, membersIn, members}
+use Rattle.lists.specs.Bits.{bitAt, membersIn, members}
 use Rattle.places.specs.Facts.{put}
 use Rattle.places.specs.Places.{decode, rowFrom, writesFrom, writesIn}
 use Rattle.places.specs.Tree.{Constraints, constraints, firstCompletion, fromCandidates, firstOf, tryBoth, tryOne, fitsAt, endsAt, ruleNext}

@@ -3,7 +3,7 @@
 ghost use mathlib.Core.Path.{_≡_};
 ghost use mathlib.Core.Bool.{false};
 ghost use Prim.Native.Nat.{_≤_, _<_};
-ghost use Rattle.places.specs.Bits.{bitAt, members};
+ghost use Rattle.lists.specs.Bits.{bitAt, members};
 ghost use Rattle.places.specs.State.{placedOf, whole, Sound, Placeable, Within};
 ghost use Rattle.places.specs.Tree.{asking, constraints, allowsOutcome, ruleNext, endsAt, firstCompletion, Answered};
 ghost use Rattle.places.specs.Choice.{among, from};

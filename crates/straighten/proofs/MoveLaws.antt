@@ -20,6 +20,7 @@ use Rattle.opacity.specs.Marking.{Marking, ReadableFor, gapOf, placeOf}
 use Rattle.opacity.proofs.Finder.{events-of}
 use Rattle.lists.specs.Filled.{Filled}
 use Rattle.links.specs.Tables.{Tabled}
+use Rattle.links.specs.Registers.{Sets}
 use Rattle.lists.proofs.FilledLaws.{filled-at}
 use Rattle.links.specs.declared.tables.Fact.the-variants.{LastWrite}
 use Rattle.rules.specs.Orders.{Inverse, Writers}
@@ -58,12 +59,12 @@ module _ {h : List Event} {link order outcomes gaps : List ℕ} (y : Given h lin
       low [] a = refl
       low (x ∷ xs) a = and-i _ _ (le-leb _ _ (y .gaps-fit x (read-inside x (and-l _ _ a)) (and-l _ _ a))) (low xs (and-r _ _ a))
 
-  module _ {k : ℕ} (ek : k ≡ begins h) {place : List ℕ} (inverse : Inverse order k place) {last writers : List ℕ}
-      (lasts : Tabled LastWrite h last) (table : Writers order outcomes last k writers) (start : ℕ → ℕ)
+  module _ {k : ℕ} (ek : k ≡ begins h) {place : List ℕ} (inverse : Inverse order k place) {last registers : List ℕ} {writers : List (List ℕ)}
+      (lasts : Tabled LastWrite h last) (sets : Sets h (length h) registers) (table : Writers order outcomes last registers k writers) (start : ℕ → ℕ)
       {moves : List Bool} (moving : Filled 2048 false (breaksBy (pointRule start h link writers place gaps)) (length h) moves)
       {straight : List ℕ} (straightening : Filled 2048 0 (gapBy h place moves gaps) (length h) straight) where
     moved-same : (i : ℕ) → i < length h → getD moves i false ≡ not (keptAt start h m i)
-    moved-same i l = filled-at moving i l ∙ ap₂ (λ (a b : Bool). not (a and b)) (d-same y ek inverse lasts table start i l) (e-same y ek inverse lasts table start i l)
+    moved-same i l = filled-at moving i l ∙ ap₂ (λ (a b : Bool). not (a and b)) (d-same y ek inverse lasts sets table start i l) (e-same y ek inverse lasts sets table start i l)
 
     -- the events that the table lists are those that the definition moves
     pub listed-same : listed moves (length h) ≡ movedEvents start h m

@@ -5,7 +5,7 @@ use Prim.Native.Nat.{ℕ, zero, suc, _≤_}
 use native.Mathlib.Omega.{arith}
 use mathlib.Core.Path.{_≡_, refl, sym, ap, _∙_, fun-ext}
 use mathlib.Core.Bool.{Bool, true, false}
-use mathlib.Core.List.{List, [], _∷_, _++_}
+use mathlib.Core.List.{List}
 use lib.Dec.{leb}
 use lib.ListN.{length, getD}
 use borrow.Author.Tests.{leb-true}
@@ -21,14 +21,12 @@ use Rattle.opacity.specs.declared.verdict.Verdict.{Verdict}
 use Rattle.opacity.specs.Transactions.{isStoreRead, storeReads}
 use Rattle.opacity.specs.Marking.{Marking, ReadableFor, markingBytes, verdict}
 use Rattle.opacity.proofs.MarkingBytes.{readable-length}
-use Rattle.opacity.specs.Justification.{Place}
-use Rattle.rules.specs.Orders.{placeAt, placesOf}
 use Rattle.rules.specs.Judge.{content as inArrays, Given}
 use Rattle.marking_reader.specs.File.{known, content, fileRead}
 use Rattle.marking.proofs.CheckLaws.{reads-same}
 use Rattle.marking_reader.proofs.WriteBack.{content-bytes}
 use Rattle.marking_writer.specs.Points.{pointsTo}
-use Rattle.marking_writer.specs.Whole.{placesIn, pointsIn, bytesIn}
+use Rattle.marking_writer.specs.Whole.{pointsIn, bytesIn}
 use Rattle.marking_writer.proofs.PointLaws.{points-are}
 use Rattle.events.specs.Said.{refuse}
 use Rattle.straighten.specs.declared.Straightening.the-variants.{Refused}
@@ -38,12 +36,6 @@ use Rattle.straighten.specs.Tables.{Room, listed, bytesOf}
 use Rattle.straighten.proofs.MoveLaws.{arrays-readable}
 
 -- ---- bytes and room
-
--- the places that are written are those that are judged
-places-same : (order outcomes : List ℕ) (k : ℕ) → placesIn order outcomes k ≡ placesOf order outcomes k
-unfolding placesIn placesOf
-places-same order outcomes zero = refl
-places-same order outcomes (suc k) = ap (λ (P : List Place). P ++ (placeAt order outcomes k ∷ [])) (places-same order outcomes k)
 
 -- what is written, as the code counts events and transactions
 pub bytes-counted : (log : List (List ℕ)) (order outcomes : List ℕ) (reads : List Bool) (gaps : List ℕ) {b : ℕ} → b ≡ begins (logged log)
@@ -62,7 +54,7 @@ module _ (log : List (List ℕ)) {reads : List Bool} (tabled : Filled 2048 false
       let store : (λ (i : ℕ). getD reads i false) ≡ isStoreRead (logged log) = fun-ext (reads-same log (begins (logged log)) reads refl tabled) in
       let e : pointsIn reads gaps (length (logged log)) ≡ pointsTo (isStoreRead (logged log)) (λ i. getD gaps i 0) (length (logged log)) =
       (λ j. pointsTo (store j) (λ i. getD gaps i 0) (length (logged log))) in
-      rw (e, places-same order outcomes (begins (logged log)), points-are (isStoreRead (logged log)) (λ i. getD gaps i 0) (length (logged log)))
+      rw (e, points-are (isStoreRead (logged log)) (λ i. getD gaps i 0) (length (logged log)))
 
   -- for which there is room
   pub bytes-fit : {output list : ℕ} → Room (logged log) output list → length (bytesOf (logged log) order outcomes reads gaps) ≤ output

@@ -117,7 +117,8 @@ fn straighten_points(
         (now (output .entry)) (now (moved .entry)) ⌝ }
 {
     let begun = transactions_begun(log);
-    let link = links(log);
+    let mut link = [0u16; 2048];
+    links(log, &mut link);
     let order = reading.order;
     let outcomes = reading.outcomes;
     let gaps = reading.gaps;

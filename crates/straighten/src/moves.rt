@@ -12,11 +12,11 @@ ghost use Rattle.rules.specs.Walks.{Pointable, pointRule};
 ghost use Rattle.rules.specs.Judge.{Given, content};
 ghost use Rattle.straighten.specs.Straight.{straightened, movedEvents};
 ghost use Rattle.straighten.specs.Tables.{breaksBy, gapBy, listed};
-use links::tables::Fact;
-use links::tables::table;
+use links::tables::tables_of;
 use log::rows::Row;
 use log::rows::event_at;
 use opacity::verdict::Rule;
+use rules::places::Writer;
 use rules::places::places_of;
 use rules::places::writers_of;
 use rules::points::holds_at;
@@ -33,7 +33,7 @@ fn breaks(
     starts: &[u32; 32],
     log: &[Row],
     link: &[u16; 2048],
-    writers: &[u16; 64],
+    writers: &[Writer; 64],
     place: &[u16; 64],
     gaps: &[u16; 2048],
     i: usize,
@@ -55,7 +55,7 @@ fn moves_of(
     starts: &[u32; 32],
     log: &[Row],
     link: &[u16; 2048],
-    writers: &[u16; 64],
+    writers: &[Writer; 64],
     place: &[u16; 64],
     gaps: &[u16; 2048],
 ) -> [bool; 2048]
@@ -122,8 +122,10 @@ pub fn straight_of(
     ensures { λ r. ⌜ Given (logged (now (log .entry))) (now (link .entry)) (now (order .entry)) (now (outcomes .entry)) (r .gaps) ⌝ }
 {
     let place = places_of(order, begun);
-    let written = table(log, Fact::LastWrite);
-    let writers = writers_of(order, outcomes, &written, begun);
+    let tables = tables_of(log);
+    let written = tables.written;
+    let registers = tables.registers;
+    let writers = writers_of(order, outcomes, &written, &registers, begun);
     let moves = moves_of(starts, log, link, &writers, &place, gaps);
     let straight = gaps_of(log, &place, &moves, gaps);
     Straight {

@@ -17,7 +17,7 @@ use Rattle.events.specs.Events.{noEvent, eventAt, isBegin, begins}
 use Rattle.events.specs.Questions.{readable}
 use Rattle.events.proofs.EventLaws.{begins-snoc, begins-same}
 use Rattle.events.proofs.QuestionLaws.{asked-at}
-use Rattle.places.specs.Bits.{bitAt}
+use Rattle.lists.specs.Bits.{bitAt}
 use Rattle.places.specs.Facts.{endRow, afterOf, readsOf}
 use Rattle.places.specs.Tree.{EndAsks}
 use Rattle.tables.specs.Tables.{Tables, next, tablesOf}

@@ -19,11 +19,11 @@ use Rattle.opacity.specs.Transactions.{precedes, Status, status, allows, isStor
 use Rattle.opacity.specs.Justification.{Place, placed, contents, preceded, legalOver}
 use Rattle.opacity.specs.Lowest.{place, fits}
 use Rattle.lists.proofs.ListLaws.{and-false-r, imp-e, imp-i, not-true, clash, every-e, every-i, both-ways}
-use Rattle.places.specs.Bits.{bitAt, members}
+use Rattle.lists.specs.Bits.{bitAt, members}
 use Rattle.places.specs.Facts.{allRegisters, afterOf, allowedOf, readsOf, readsAsked, requiredOf}
 use Rattle.places.specs.Places.{decode, writesIn}
 use Rattle.places.specs.Tree.{upFrom, legalAt, legalReads, noneIn, ruleNext, allowsOutcome, fitsAt}
-use Rattle.places.proofs.BitLaws.{bit-none}
+use Rattle.lists.proofs.BitLaws.{bit-none}
 use Rattle.places.proofs.SetLaws.{member-passes, members-pass}
 use Rattle.places.proofs.FactLaws.{asked-reads, reads-asked-all}
 use Rattle.tables.specs.Tables.{tablesOf}

@@ -20,11 +20,11 @@ use Rattle.opacity.specs.Justification.{Place, placed, before, contents, legalO
 use Rattle.opacity.specs.Lowest.{fits, lowestOf}
 use Rattle.lists.proofs.ListLaws.{and-false-l, and-false-r, imp-e, clash, every-i}
 use Rattle.opacity.proofs.Least.{none-iff}
-use Rattle.places.specs.Bits.{bitAt}
+use Rattle.lists.specs.Bits.{bitAt}
 use Rattle.places.specs.Facts.{endRow, readsOf}
 use Rattle.places.specs.Places.{decode}
 use Rattle.places.specs.Tree.{Completion, upFrom, firstWhole}
-use Rattle.places.proofs.BitLaws.{bit-none, lowest-in}
+use Rattle.lists.proofs.BitLaws.{bit-none, lowest-in}
 use Rattle.search.proofs.EndLaws.{reads-none}
 use Rattle.log.specs.Starts.{startOf}
 use Rattle.tables.specs.Tables.{Tables, tablesOf}

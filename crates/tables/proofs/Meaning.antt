@@ -19,10 +19,10 @@ use Rattle.lists.proofs.ListLaws.{and-false-r, or-false, latest-snoc}
 use Rattle.events.proofs.StateLaws.{has-snoc}
 use Rattle.opacity.proofs.Snoc.{precedes-more}
 use Rattle.opacity.proofs.Statuses.{not-committed, not-aborted}
-use Rattle.places.specs.Bits.{bitAt}
+use Rattle.lists.specs.Bits.{bitAt}
 use Rattle.places.specs.Facts.{fact, Shaped}
 use Rattle.places.specs.Places.{plus}
-use Rattle.places.proofs.BitLaws.{bit-none, bit-with}
+use Rattle.lists.proofs.BitLaws.{bit-none, bit-with}
 use Rattle.tables.specs.Tables.{Tables, Tabled, joined, ruleWith, next, empty, goThrough, tablesOf}
 use Rattle.tables.proofs.TableLaws.{tables-snoc}
 use Rattle.tables.proofs.PutLaws.{and-true, shaped-next, after-next, allowed-next, written-next}

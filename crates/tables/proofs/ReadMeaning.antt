@@ -17,10 +17,10 @@ use Rattle.events.specs.declared.event.Event.{Event}
 use Rattle.events.specs.Events.{eventAt, isRead}
 use Rattle.opacity.specs.Transactions.{ownWrite, isOwnRead, isStoreRead, ownRight, isValue}
 use Rattle.lists.proofs.ListLaws.{and-l, and-r, below-cases}
-use Rattle.places.specs.Bits.{bitAt}
+use Rattle.lists.specs.Bits.{bitAt}
 use Rattle.places.specs.Facts.{fact, requiredOf, writtenOf}
 use Rattle.places.specs.Places.{plus}
-use Rattle.places.proofs.BitLaws.{bit-none}
+use Rattle.lists.proofs.BitLaws.{bit-none}
 use Rattle.tables.specs.Tables.{Tables, Tabled, clashes, expected, contradicts, readsStore, next, empty, goThrough, tablesOf}
 use Rattle.tables.proofs.PutLaws.{required-next}
 use Rattle.tables.proofs.Meaning.{Good, tab, tab-suc, has-room, shaped, bit-joined, written-holds, fact-zero}

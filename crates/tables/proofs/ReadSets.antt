@@ -16,9 +16,9 @@ use Rattle.events.specs.declared.event.Event.{Event}
 use Rattle.events.specs.Events.{eventAt}
 use Rattle.opacity.specs.Transactions.{isStoreRead}
 use Rattle.lists.proofs.ListLaws.{below-cases}
-use Rattle.places.specs.Bits.{bitAt}
+use Rattle.lists.specs.Bits.{bitAt}
 use Rattle.places.specs.Facts.{fact}
-use Rattle.places.proofs.BitLaws.{bit-none, bit-with}
+use Rattle.lists.proofs.BitLaws.{bit-none, bit-with}
 use Rattle.tables.specs.Tables.{Tables, next, tablesOf}
 use Rattle.tables.proofs.PutLaws.{reads-next}
 use Rattle.tables.proofs.Meaning.{Good, tab, tab-suc, has-room, shaped, fact-zero}

@@ -7,7 +7,7 @@ use mathlib.Core.Path.{_≡_, sym, _∙_, subst}
 use mathlib.Core.Logic.{⊎-elim}
 use mathlib.Core.Bool.{false}
 use mathlib.Core.Option.{none}
-use Rattle.places.specs.Bits.{members}
+use Rattle.lists.specs.Bits.{members}
 use Rattle.places.specs.State.{placedOf, whole}
 use Rattle.places.specs.Tree.{Constraints, asking, endsAt}
 use Rattle.places.proofs.StateLaws.{room-lt}

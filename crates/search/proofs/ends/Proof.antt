@@ -7,10 +7,11 @@ use native.Mathlib.Omega.{arith}
 use lib.Bits.{bitAnd, and-le-r}
 use lib.Count.{ones}
 use lib.Dec.{eqb}
-use Rattle.places.specs.Bits.{members}
+use Rattle.lists.specs.Bits.{members}
 use Rattle.places.specs.Facts.{endRow, afterOf}
 use Rattle.places.specs.Tree.{endsAt, noneIn}
-use Rattle.places.proofs.BitLaws.{none-in-members, none-counted}
+use Rattle.lists.proofs.BitLaws.{none-counted}
+use Rattle.places.proofs.MemberLaws.{none-in-members}
 use borrow.Author.Needs.{needs}
 use Rattle.search.proofs.ends.Statement.{statement}
 use Rattle.search.proofs.ends.Tie as tie

@@ -6,10 +6,10 @@ use mathlib.Core.Bool.{true, false}
 use native.Mathlib.Omega.{arith}
 use lib.Bits.{bitAnd}
 use lib.Dec.{eqb}
-use Rattle.places.specs.Bits.{members}
+use Rattle.lists.specs.Bits.{members}
 use Rattle.places.specs.Facts.{afterOf}
 use Rattle.places.specs.Tree.{ruleNext, noneIn}
-use Rattle.places.proofs.BitLaws.{none-in-members}
+use Rattle.places.proofs.MemberLaws.{none-in-members}
 use borrow.Author.Needs.{needs}
 use Rattle.search.proofs.rule_next.Statement.{statement}
 use Rattle.search.proofs.rule_next.Tie as tie

@@ -1,6 +1,8 @@
 -- `straighten_points` meets its contract: what is settled is what is judged.
 -- Assumes nothing.
+use Prim.Native.Nat.{ℕ}
 use mathlib.Core.Path.{refl, ap, _∙_}
+use mathlib.Core.List.{List}
 use native.Mathlib.Omega.{arith}
 use borrow.Author.Needs.{needs}
 use denote.Ref.{now}
@@ -9,6 +11,7 @@ use Rattle.events.specs.Events.{begins}
 use Rattle.log.specs.Rows.{logged}
 use Rattle.log.specs.Starts.{startOf}
 use Rattle.opacity.specs.Marking.{Marking}
+use Rattle.links.specs.Writes.{Linked}
 use Rattle.rules.specs.Judge.{content, Given}
 use Rattle.marking.proofs.CheckLaws.{given}
 use Rattle.straighten.proofs.MoveLaws.{arrays-readable}
@@ -23,7 +26,7 @@ abbrev linked : tie.After-gaps2 → tie.After-links
 linked c = c .before .before .before .before .before .before .before
 
 abbrev entered : tie.After-links → tie.Start
-entered l = l .before .before .before .before
+entered l = l .before .before .before .before .before
 
 -- when the moved points are judged: where they were moved
 abbrev moved-at : tie.After-judge → tie.After-straight-of
@@ -33,15 +36,14 @@ moved-at j = j .before .before .before .before .before .before
 abbrev read : tie.Start → Marking
 read s = content (logged (s .args .log .now)) (s .args .reading .order) (s .args .reading .outcomes) (s .args .reading .gaps)
 
-readable : (l : tie.After-links)
-    → Given (logged (entered l .args .log .now)) (l .links .result) (entered l .args .reading .order) (entered l .args .reading .outcomes) (entered l .args .reading .gaps)
-readable l =
-    let s = entered l in
+readable : (s : tie.Start) {link : List ℕ} → Linked (logged (s .args .log .now)) link
+    → Given (logged (s .args .log .now)) link (s .args .reading .order) (s .args .reading .outcomes) (s .args .reading .gaps)
+readable s links =
     let y = s .pre .0 in
-    given (s .args .log .now) (begins (logged (s .args .log .now))) (s .args .reads .now) refl (y .tabled) (s .args .reading) (y .kept) (y .readable) (l .links .ensures)
+    given (s .args .log .now) (begins (logged (s .args .log .now))) (s .args .reads .now) refl (y .tabled) (s .args .reading) (y .kept) (y .readable) links
 
 straight-of-requires : tie.Need-straight-of-requires
-straight-of-requires c κs = let l = linked c in (readable l, l .before .transactions-begun .ensures)
+straight-of-requires c κs = let l = linked c in (readable (entered l) (l .links .ensures), l .before .before .transactions-begun .ensures)
 
 settle-requires : tie.Need-settle-requires
 settle-requires c κs =
@@ -49,7 +51,7 @@ settle-requires c κs =
     let l = linked (m .before) in
     let s = entered l in
     let straight = m .straight-of .ensures in
-    let few = moved-few (startOf (s .args .starts .now)) (logged (s .args .log .now)) (read s) (arrays-readable (readable l)) in (
+    let few = moved-few (startOf (s .args .starts .now)) (logged (s .args .log .now)) (read s) (arrays-readable (readable s (l .links .ensures))) in (
       s .pre .0 .readable,
       (bytes-fit (s .args .log .now) (s .pre .0 .tabled) (straight .1 .1) (s .pre .1), omega (arith, ap length (straight .1 .0), few, s .pre .1 .entries)),
     )

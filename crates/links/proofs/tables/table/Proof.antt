@@ -10,7 +10,6 @@ use Rattle.log.proofs.RowLaws.{logged-length}
 use Rattle.links.proofs.LogLaws.{log-most, transaction-below}
 use Rattle.links.specs.Tables.{Slots}
 use Rattle.links.proofs.TableLaws.{slots-start, slots-more}
-use borrow.Author.Needs.{needs}
 use Rattle.links.proofs.tables.table.Statement.{statement}
 use Rattle.links.proofs.tables.table.Tie as tie
 
@@ -20,41 +19,25 @@ Inv-loop log fact slots₀ i₀ slots i = (i ≤ length log) × Slots fact (logg
 abbrev μ-loop : tie.MeasureT-loop
 μ-loop log fact slots₀ i₀ slots i = length log - i
 
--- the transaction that was read has a slot
-low : (c : tie.After-wide Inv-loop μ-loop) → c .wide .result < 64
+-- the transaction of the event that was read has a slot
+low : (c : tie.After-event-at Inv-loop μ-loop) → c .event-at .result .transaction < 64
 low c =
-    let t = c .before .before .before in
-    rw (c .wide .ensures) (transaction-below (t .before .args .log .now) (t .before .pre) (c .before .before .loop-test .taken) (c .before .event-at .ensures))
-
--- and its event an entry
-few : (c : tie.In-loop Inv-loop μ-loop) → c .before .loop .i < 2048
-few c = omega (arith, log-most (c .before .before .args .log .now) (c .before .before .pre))
+    let s = c .before .before .before in
+    transaction-below (s .args .log .now) (s .pre) (c .before .loop-test .taken) (c .event-at .ensures)
 
 loop-holds : tie.Need-loop-holds Inv-loop μ-loop
 loop-holds c = (omega arith, slots-start _ _)
 
-mul-slot-at : tie.Need-mul-slot-at Inv-loop μ-loop
-mul-slot-at c = let l = low c in search needs
-
-array-read-slot-at : tie.Need-array-read-slot-at Inv-loop μ-loop
-array-read-slot-at c = let l = low c in search needs
-
-slot-at-requires : tie.Need-slot-at-requires Inv-loop μ-loop
-slot-at-requires c κs = few (c .before .before)
-
-mul-slots : tie.Need-mul-slots Inv-loop μ-loop
-mul-slots c = let l = low (c .before) in search needs
-
-array-write-slots : tie.Need-array-write-slots Inv-loop μ-loop
-array-write-slots c = let l = low (c .before) in search needs
+note-requires : tie.Need-note-requires Inv-loop μ-loop
+note-requires c κs =
+    let s = c .before .before .before .before in
+    (low (c .before), omega (arith, log-most (s .args .log .now) (s .pre)))
 
 loop-again : tie.Need-loop-again Inv-loop μ-loop
 loop-again c =
-    let t = c .before .before .before .before in (
-      search needs,
-      slots-more (t .before .args .fact) (logged (t .before .args .log .now)) (t .loop .i) _ _ (t .loop .slots)
-          (c .before .before .event-at .ensures) (c .before .wide .ensures) (low (c .before)) (c .slot-at .ensures) (t .loop .inv .1),
-    )
+    let e = c .before .before in
+    let t = e .before .before in
+    (search needs, slots-more (t .before .args .fact) (logged (t .before .args .log .now)) (t .loop .i) (e .event-at .ensures) (low e) (c .note .ensures) (t .loop .inv .1))
 
 returns : tie.Need-returns Inv-loop μ-loop
 returns c =
@@ -65,6 +48,5 @@ returns c =
 pub table-spec : {M : Type 1} → statement M
 table-spec =
     tie.close
-    (tie.spec Inv-loop μ-loop loop-holds (λ c κs. search needs) (λ c κs. search needs) mul-slot-at
-    array-read-slot-at slot-at-requires mul-slots array-write-slots (λ c. search needs)
+    (tie.spec Inv-loop μ-loop loop-holds (λ c κs. search needs) note-requires (λ c. search needs)
     (λ c. search needs) loop-again returns)

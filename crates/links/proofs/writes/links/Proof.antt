@@ -4,7 +4,7 @@ use Prim.Native.Nat.{ℕ, _-_, _≤_, _<_}
 use mathlib.Core.Path.{_≡_, ap, _∙_, subst}
 use native.Mathlib.Omega.{arith}
 use borrow.Author.Needs.{needs}
-use lib.ListN.{length}
+use lib.ListN.{length, length-set}
 use Rattle.events.specs.declared.event.Event.{Event}
 use Rattle.events.specs.Events.{eventAt}
 use Rattle.log.specs.Rows.{logged}
@@ -13,67 +13,60 @@ use Rattle.links.proofs.LogLaws.{log-most, transaction-below}
 use Rattle.links.specs.declared.tables.Fact.the-variants.{LastWrite}
 use Rattle.links.specs.Tables.{slot, Slots}
 use Rattle.links.specs.Writes.{Links}
-use Rattle.lists.proofs.FilledLaws.{filled-none, filled-more}
+use Rattle.lists.proofs.FilledLaws.{front-none, front-more}
 use Rattle.links.proofs.TableLaws.{slots-start, slots-more}
-use borrow.Author.Needs.{needs}
 use Rattle.links.proofs.writes.links.Statement.{statement}
 use Rattle.links.proofs.writes.links.Tie as tie
 
 abbrev Inv-loop : tie.InvT-loop
-Inv-loop log last₀ link₀ i₀ last link i = (i ≤ length log) × Slots LastWrite (logged log) i last × Links (logged log) i link
+Inv-loop log link₀ last₀ i₀ link last i = (i ≤ length log) × Slots LastWrite (logged log) i last × Links (logged log) i link × (length link ≡ 2048)
 
 abbrev μ-loop : tie.MeasureT-loop
-μ-loop log last₀ link₀ i₀ last link i = length log - i
+μ-loop log link₀ last₀ i₀ link last i = length log - i
 
--- the transaction that was read has a slot
-low : (c : tie.After-wide Inv-loop μ-loop) → c .wide .result < 64
+-- the transaction of the event that was read has a slot
+low : (c : tie.After-event-at Inv-loop μ-loop) → c .event-at .result .transaction < 64
 low c =
-    let t = c .before .before .before in
-    rw (c .wide .ensures) (transaction-below (t .before .args .log .now) (t .before .pre) (c .before .before .loop-test .taken) (c .before .event-at .ensures))
+    let s = c .before .before .before in
+    transaction-below (s .args .log .now) (s .pre .0) (c .before .loop-test .taken) (c .event-at .ensures)
 
--- and its event an entry
+its-slot : (c : tie.After-wide Inv-loop μ-loop) → c .wide .result < 64
+its-slot c = rw (c .wide .ensures) (low (c .before))
+
+-- and the event an entry
 few : (c : tie.In-loop Inv-loop μ-loop) → c .before .loop .i < 2048
-few c = omega (arith, log-most (c .before .before .args .log .now) (c .before .before .pre))
+few c = omega (arith, log-most (c .before .before .args .log .now) (c .before .before .pre .0))
 
 loop-holds : tie.Need-loop-holds Inv-loop μ-loop
-loop-holds c = (omega arith, slots-start _ _, filled-none _ _ _)
+loop-holds c = (omega arith, slots-start _ _, front-none _ _ _, c .pre .1)
 
 mul-link : tie.Need-mul-link Inv-loop μ-loop
-mul-link c = let l = low c in search needs
+mul-link c = let l = its-slot c in search needs
 
 array-read-link : tie.Need-array-read-link Inv-loop μ-loop
-array-read-link c = let l = low c in search needs
+array-read-link c = let l = its-slot c in search needs
 
-array-write-link : tie.Need-array-write-link Inv-loop μ-loop
-array-write-link c = let l = few (c .before .before) in omega (arith, c .before .before .before .loop .inv .2 .size)
+mul-link-2 : tie.Need-mul-link-2 Inv-loop μ-loop
+mul-link-2 c = let l = few (c .before .before) in search needs
 
-mul-slot-at : tie.Need-mul-slot-at Inv-loop μ-loop
-mul-slot-at c = let l = low c in search needs
-
-array-read-slot-at : tie.Need-array-read-slot-at Inv-loop μ-loop
-array-read-slot-at c = let l = low c in search needs
-
-slot-at-requires : tie.Need-slot-at-requires Inv-loop μ-loop
-slot-at-requires c κs = few (c .before .before)
-
-mul-last : tie.Need-mul-last Inv-loop μ-loop
-mul-last c = let l = low (c .before) in search needs
-
-array-write-last : tie.Need-array-write-last Inv-loop μ-loop
-array-write-last c = let l = low (c .before) in search needs
+element-write-link : tie.Need-element-write-link Inv-loop μ-loop
+element-write-link c = let l = few (c .before .before) in search needs
 
 loop-again : tie.Need-loop-again Inv-loop μ-loop
 loop-again c =
-    let t = c .before .before .before .before in
+    let w = c .before .before in
+    let e = w .before in
+    let t = e .before .before in
     let h = logged (t .before .args .log .now) in
-    let l = low (c .before) in
     let q =
-    t .loop .inv .1 .holds _ l
-    ∙ ap (λ (x : ℕ). slot LastWrite h x (t .loop .i)) (c .before .wide .ensures)
-    ∙ ap (λ (x : Event). slot LastWrite h (x .transaction) (t .loop .i)) (c .before .before .event-at .ensures) in (
+    t .loop .inv .1 .holds _ (its-slot w)
+    ∙ ap (λ (x : ℕ). slot LastWrite h x (t .loop .i)) (w .wide .ensures)
+    ∙ ap (λ (x : Event). slot LastWrite h (x .transaction) (t .loop .i)) (e .event-at .ensures) in (
       search needs,
-      slots-more LastWrite h (t .loop .i) _ _ (t .loop .last) (c .before .before .event-at .ensures) (c .before .wide .ensures) l (c .slot-at .ensures) (t .loop .inv .1),
-      filled-more _ _ (λ i. slot LastWrite h (eventAt h i .transaction) i) (t .loop .i) _ (t .loop .link) (few (c .before .before .before)) q (t .loop .inv .2),
+      slots-more LastWrite h (t .loop .i) (e .event-at .ensures) (low e) (c .note .ensures) (t .loop .inv .1),
+      front-more _ (λ i. slot LastWrite h (eventAt h i .transaction) i) (t .loop .i) _ (t .loop .link)
+          (omega (arith, few (e .before), t .loop .inv .3)) q (t .loop .inv .2),
+      length-set (t .loop .link) _ _ ∙ t .loop .inv .3,
     )
 
 returns : tie.Need-returns Inv-loop μ-loop
@@ -86,6 +79,5 @@ pub links-spec : {M : Type 1} → statement M
 links-spec =
     tie.close
     (tie.spec Inv-loop μ-loop loop-holds (λ c κs. search needs) (λ c κs. search needs) mul-link
-    array-read-link (λ c. search needs) array-write-link mul-slot-at array-read-slot-at
-    slot-at-requires mul-last array-write-last (λ c. search needs) (λ c. search needs) loop-again
-    returns)
+    array-read-link mul-link-2 element-write-link (λ c κs. (low (c .before .before), few (c .before .before .before)))
+    (λ c. search needs) (λ c. search needs) loop-again returns)

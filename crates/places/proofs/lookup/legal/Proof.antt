@@ -8,10 +8,10 @@ use native.Mathlib.Omega.{arith}
 use Prim.Native.Nat.{ℕ, _^_, _<_}
 use lib.Pow.{pow-pos}
 use Rattle.lists.specs.Lists.{all}
-use Rattle.places.specs.Bits.{bitAt, members}
+use Rattle.lists.specs.Bits.{bitAt, members}
 use Rattle.places.specs.Places.{codesOf}
 use Rattle.places.specs.Tree.{legalAt}
-use Rattle.places.proofs.BitLaws.{member-lt}
+use Rattle.lists.proofs.BitLaws.{member-lt}
 use Rattle.places.proofs.SetLaws.{lowest-member, none-left, one-passes, one-fails}
 use Rattle.places.proofs.lookup.legal.Statement.{statement}
 use Rattle.places.proofs.lookup.legal.Tie as tie

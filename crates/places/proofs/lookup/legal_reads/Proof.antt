@@ -3,7 +3,7 @@
 use mathlib.Core.Path.{ap, _∙_}
 use Prim.Native.Nat.{ℕ}
 use Rattle.lists.specs.Lists.{all}
-use Rattle.places.specs.Bits.{members}
+use Rattle.lists.specs.Bits.{members}
 use Rattle.places.specs.State.{placedOf}
 use Rattle.places.specs.Tree.{legalAt, legalReads}
 use borrow.Author.Needs.{needs}

@@ -4,7 +4,7 @@ use borrow.Author.Needs.{needs}
 use mathlib.Core.Path.{sym, ap}
 use Prim.Native.Nat.{ℕ}
 use lib.Dec.{eqb}
-use Rattle.places.proofs.BitLaws.{bit-digit}
+use Rattle.lists.proofs.BitLaws.{bit-digit}
 use Rattle.places.proofs.sets.has.Statement.{statement}
 use Rattle.places.proofs.sets.has.Tie as tie
 

@@ -2,7 +2,7 @@
 -- Assumes nothing.
 use borrow.Author.Needs.{needs}
 use native.Mathlib.Omega.{arith}
-use Rattle.places.proofs.BitLaws.{member-le, member-lt}
+use Rattle.lists.proofs.BitLaws.{member-le, member-lt}
 use Rattle.places.proofs.sets.without.Statement.{statement}
 use Rattle.places.proofs.sets.without.Tie as tie
 

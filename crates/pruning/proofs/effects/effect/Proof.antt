@@ -9,9 +9,9 @@ use lib.Bits.{bitAnd, bitOr, and-le-l}
 use lib.Dec.{eqb}
 use borrow.Author.Tests.{eqb-true, eqb-false}
 use lib.Pow.{pow-pos}
-use Rattle.places.specs.Bits.{bitAt}
+use Rattle.lists.specs.Bits.{bitAt}
 use Rattle.places.specs.Tree.{legalAt}
-use Rattle.places.proofs.BitLaws.{member-le, member-lt, member-off, no-member}
+use Rattle.lists.proofs.BitLaws.{member-le, member-lt, member-off, no-member}
 use Rattle.places.proofs.SetLaws.{lowest-member, passed-one, member-passes}
 use Rattle.pruning.proofs.EffectLaws.{or-none, or-registers, all-members, effect-among}
 use Rattle.pruning.proofs.effects.effect.Statement.{statement}

@@ -5,8 +5,8 @@ use mathlib.Core.Bool.{false≢true}
 use Prim.Native.Nat.{ℕ, _^_, _<_}
 use native.Mathlib.Omega.{arith}
 use lib.Pow.{pow-pos}
-use Rattle.places.specs.Bits.{bitAt}
-use Rattle.places.proofs.BitLaws.{member-le, member-lt, member-off}
+use Rattle.lists.specs.Bits.{bitAt}
+use Rattle.lists.proofs.BitLaws.{member-le, member-lt, member-off}
 use Rattle.places.proofs.SetLaws.{lowest-member}
 use Rattle.pruning.proofs.effects.orphan.Statement.{statement}
 use Rattle.pruning.proofs.effects.orphan.Tie as tie

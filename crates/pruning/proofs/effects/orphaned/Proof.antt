@@ -7,10 +7,10 @@ use Prim.Native.Nat.{_<_}
 use native.Mathlib.Omega.{arith}
 use lib.Bits.{bitAnd}
 use lib.Pow.{pow-pos}
-use Rattle.places.specs.Bits.{bitAt}
+use Rattle.lists.specs.Bits.{bitAt}
 use Rattle.places.specs.Facts.{readsOf}
 use Rattle.places.specs.State.{Within}
-use Rattle.places.proofs.BitLaws.{member-le, member-lt, and-member, member-and}
+use Rattle.lists.proofs.BitLaws.{member-le, member-lt, and-member, member-and}
 use Rattle.places.proofs.SetLaws.{lowest-member, within-self, within-rest}
 use Rattle.pruning.proofs.effects.orphaned.Statement.{statement}
 use Rattle.pruning.proofs.effects.orphaned.Tie as tie

@@ -5,10 +5,10 @@ use mathlib.Core.Bool.{true≢false}
 use Prim.Native.Nat.{ℕ}
 use native.Mathlib.Omega.{arith}
 use lib.Pow.{pow-pos}
-use Rattle.places.specs.Bits.{bitAt}
+use Rattle.lists.specs.Bits.{bitAt}
 use Rattle.places.specs.State.{Within}
 use Rattle.pruning.specs.Runs.{NoSource}
-use Rattle.places.proofs.BitLaws.{member-le, member-lt, no-member}
+use Rattle.lists.proofs.BitLaws.{member-le, member-lt, no-member}
 use Rattle.places.proofs.SetLaws.{lowest-member, within-self, within-rest, passed-one}
 use Rattle.pruning.proofs.effects.sourced.Statement.{statement}
 use Rattle.pruning.proofs.effects.sourced.Tie as tie

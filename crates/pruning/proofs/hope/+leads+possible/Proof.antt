@@ -8,10 +8,10 @@ use lib.Bits.{and-le-r}
 use lib.Count.{ones}
 use lib.Pow.{pow-pos}
 use Rattle.lists.proofs.ListLaws.{clash}
-use Rattle.places.specs.Bits.{bitAt}
+use Rattle.lists.specs.Bits.{bitAt}
 use Rattle.places.specs.State.{Within}
 use Rattle.places.specs.Tree.{asking}
-use Rattle.places.proofs.BitLaws.{member-le, no-member}
+use Rattle.lists.proofs.BitLaws.{member-le, no-member}
 use Rattle.places.proofs.SetLaws.{lowest-member, within-rest, passed-one}
 use Rattle.places.proofs.StateLaws.{room-lt, fewer}
 use Rattle.pruning.proofs.HopeLaws.{Missed, ready-on, next-ready, next-may, committed-next, awaited-less, no-run}

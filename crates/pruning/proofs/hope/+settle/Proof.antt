@@ -6,10 +6,10 @@ use mathlib.Core.List.{List}
 use Prim.Native.Nat.{ℕ, _<_}
 use native.Mathlib.Omega.{arith}
 use lib.Pow.{pow-pos}
-use Rattle.places.specs.Bits.{bitAt}
+use Rattle.lists.specs.Bits.{bitAt}
 use Rattle.places.specs.State.{Within}
 use Rattle.pruning.specs.Runs.{otherThan}
-use Rattle.places.proofs.BitLaws.{member-le, member-lt, no-member, member-and}
+use Rattle.lists.proofs.BitLaws.{member-le, member-lt, no-member, member-and}
 use Rattle.places.proofs.SetLaws.{lowest-member, within-self, within-trans, within-rest, within-and-l, within-and-r, passed-one}
 use borrow.Fn.Kinds.{In}
 use borrow.Fn.PlainCycle.{Measures, is, falls, and}

@@ -6,7 +6,7 @@ use native.Mathlib.Omega.{arith}
 use lib.Bits.{bitXor, and-le-l, xor-lt}
 use Rattle.places.specs.Facts.{endRow, afterOf}
 use Rattle.places.specs.Tree.{Constraints, asking}
-use Rattle.places.proofs.BitLaws.{xor-member}
+use Rattle.lists.proofs.BitLaws.{xor-member}
 use Rattle.pruning.proofs.HopeLaws.{needs-of, hopeless}
 use Rattle.pruning.proofs.OrphanLaws.{orphaned-none}
 use borrow.Author.Needs.{needs}

@@ -3,11 +3,11 @@
 use borrow.Author.Tests.{eq-eqb, ne-eqb}
 use mathlib.Core.Path.{_≡_, _∙_}
 use mathlib.Core.Bool.{true, false}
-use Rattle.places.specs.Bits.{members}
+use Rattle.lists.specs.Bits.{members}
 use Rattle.places.specs.Facts.{afterOf}
 use Rattle.places.specs.Tree.{noneIn}
 use Rattle.pruning.specs.Runs.{otherThan}
-use Rattle.places.proofs.BitLaws.{none-in-members}
+use Rattle.places.proofs.MemberLaws.{none-in-members}
 use borrow.Author.Needs.{needs}
 use Rattle.pruning.proofs.hope.other_than.Statement.{statement}
 use Rattle.pruning.proofs.hope.other_than.Tie as tie

@@ -4,11 +4,11 @@ use mathlib.Core.Path.{_≡_}
 use Prim.Native.Nat.{_<_}
 use native.Mathlib.Omega.{arith}
 use lib.Pow.{pow-pos}
-use Rattle.places.specs.Bits.{bitAt}
+use Rattle.lists.specs.Bits.{bitAt}
 use Rattle.places.specs.State.{placedOf, Within, Keeps}
 use Rattle.pruning.specs.Runs.{Renewed}
 use Rattle.places.specs.Tree.{asking, legalReads}
-use Rattle.places.proofs.BitLaws.{member-le, member-lt}
+use Rattle.lists.proofs.BitLaws.{member-le, member-lt}
 use Rattle.places.proofs.SetLaws.{lowest-member, keeps-all, keeps-on}
 use Rattle.pruning.proofs.EffectLaws.{stays}
 use Rattle.pruning.proofs.hope.ready_after.Statement.{statement}

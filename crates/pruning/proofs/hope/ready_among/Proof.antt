@@ -5,11 +5,11 @@ use mathlib.Core.Bool.{true}
 use Prim.Native.Nat.{ℕ, _<_}
 use native.Mathlib.Omega.{arith}
 use lib.Pow.{pow-pos}
-use Rattle.places.specs.Bits.{bitAt}
+use Rattle.lists.specs.Bits.{bitAt}
 use Rattle.places.specs.State.{placedOf, Within}
 use Rattle.places.specs.Tree.{asking, legalReads}
 use Rattle.pruning.specs.Runs.{Ready}
-use Rattle.places.proofs.BitLaws.{member-le, member-lt}
+use Rattle.lists.proofs.BitLaws.{member-le, member-lt}
 use Rattle.places.proofs.SetLaws.{lowest-member, keeps-all, keeps-on}
 use Rattle.pruning.proofs.hope.ready_among.Statement.{statement}
 use Rattle.pruning.proofs.hope.ready_among.Tie as tie

@@ -10,8 +10,8 @@ use mathlib.Core.List.{List}
 use lib.ListN.{getD}
 use lib.Bits.{bitOr}
 use lib.Dec.{eqb}
-use Rattle.places.specs.Bits.{bitAt}
-use Rattle.places.proofs.BitLaws.{member-or-l, member-or-r}
+use Rattle.lists.specs.Bits.{bitAt}
+use Rattle.lists.proofs.BitLaws.{member-or-l, member-or-r}
 use Rattle.pruning.proofs.unwritten.written_by_any.Statement.{statement}
 use Rattle.pruning.proofs.unwritten.written_by_any.Tie as tie
 

@@ -1,4 +1,4 @@
--- `rules::places::writer_at` meets its contract.
+-- `writer_at` meets its contract: by the outcome.
 -- Assumes nothing.
 use Prim.Native.Nat.{_<_}
 use native.Mathlib.Omega.{arith}
@@ -7,20 +7,28 @@ use borrow.Author.Needs.{needs}
 use Rattle.rules.proofs.places.writer_at.Statement.{statement}
 use Rattle.rules.proofs.places.writer_at.Tie as tie
 
+-- the transaction at the place has a slot
+low : (c : tie.After-wide) → c .wide .result < 64
+low c = omega (arith, c .wide .ensures, c .before .before .before .before .pre .1)
+
 returns : tie.Need-returns
 returns c = rw (ne-eqb _ _ (c .if1 .taken))
 
-mul-result : tie.Need-mul-result
-mul-result c = let l : c .wide .result < 64 = omega (arith, c .wide .ensures, c .before .before .before .before .pre .1) in search needs
+mul-as-field : tie.Need-mul-as-field
+mul-as-field c = let l = low c in search needs
 
-element-copy-out-result : tie.Need-element-copy-out-result
-element-copy-out-result c = omega (arith, c .wide .ensures, c .before .before .before .before .pre .1)
+element-copy-out-as-field : tie.Need-element-copy-out-as-field
+element-copy-out-as-field c = low c
 
 returns-2 : tie.Need-returns-2
-returns-2 c = rw (eq-eqb _ _ (c .before .before .before .if1 .left), ← (c .before .wide .ensures))
+returns-2 c =
+    let f = c .before in
+    let w = f .before .before in
+    rw (eq-eqb _ _ (w .before .before .if1 .left), f .as-field .ensures, ← (w .wide .ensures))
 
 pub writer-at-spec : {M : Type 1} → statement M
 writer-at-spec =
     tie.close
     (tie.spec (λ c. search needs) returns (λ c. search needs) (λ c. search needs)
-    (λ c κs. search needs) mul-result element-copy-out-result returns-2)
+    (λ c κs. search needs) mul-as-field element-copy-out-as-field (λ c κs. search needs)
+    (λ c. let l = low (c .before .before) in search needs) (λ c. low (c .before .before)) returns-2)

@@ -31,6 +31,11 @@ gap-low p =
     let n : hasPoint (s .args .gaps .now) (s .args .i) ≡ true = ap not (ne-eqb _ _ (p .before .before .before .before .if1 .left)) in
     omega (arith, p .wide2 .ensures, s .pre .0 .gaps-low (s .args .i) (in-history (s .args .log .now) (s .pre .1)) n)
 
+register-fits : (p : tie.After-wide2) → p .before .before .before .event-at .result .register < 32
+register-fits p =
+    let s = entered p in
+    register-below (s .args .log .now) (s .pre .0 .walk .readable) (s .pre .1) (p .before .before .before .event-at .ensures)
+
 -- the rule at the event, by what the rule says of the point
 abbrev here : (p : tie.After-wide2) → Rule → Bool
 here p rule =
@@ -63,13 +68,13 @@ place-at-requires c κs =
     transaction-below (s .args .log .now) (s .pre .0 .walk .readable) (s .pre .1) (c .event-at .ensures)
 
 no-writer-between-requires : tie.Need-no-writer-between-requires
-no-writer-between-requires c κs = let p = c .before .before in (entered p .pre .0 .walk, (own-low p, gap-low p))
+no-writer-between-requires c κs = let p = c .before .before in (entered p .pre .0 .walk, (own-low p, gap-low p, register-fits p))
 
 value-at-gap-requires : tie.Need-value-at-gap-requires
 value-at-gap-requires c κs =
     let p = c .before .before in
     let s = entered p in
-    (s .pre .0 .walk, (gap-low p, register-below (s .args .log .now) (s .pre .0 .walk .readable) (s .pre .1) (p .before .before .before .event-at .ensures)))
+    (s .pre .0 .walk, (gap-low p, register-fits p))
 
 returns-2 : tie.Need-returns-2
 returns-2 c = told (c .before .before .before) (c .before .enum-told .given .1) (c .no-writer-between .ensures)

@@ -44,7 +44,9 @@ sub-k : tie.Need-sub-k Inv-loop μ-loop Inv-walk μ-walk
 sub-k c = omega (arith, c .before .walk .inv .least)
 
 start-at-requires : tie.Need-start-at-requires Inv-loop μ-loop Inv-walk μ-walk
-start-at-requires c κs = omega (arith, c .before .walk .inv .least, c .before .walk .inv .most, c .before .before .pre .1 .1)
+start-at-requires c κs =
+    let p = c .before .before .pre .1 in
+    (omega (arith, c .before .walk .inv .least, c .before .walk .inv .most, p .1), p .2)
 
 loop-holds : tie.Need-loop-holds Inv-loop μ-loop Inv-walk μ-walk
 loop-holds c = walk-enters (c .before .before .before .pre .0) (c .before .before .walk .inv) (c .before .if1 .left) (c .start-at .ensures)

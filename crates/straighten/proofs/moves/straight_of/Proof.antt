@@ -11,27 +11,27 @@ places-of-requires : tie.Need-places-of-requires
 places-of-requires c κs = all-apart (c .pre .0) (c .pre .1)
 
 writers-of-requires : tie.Need-writers-of-requires
-writers-of-requires c κs = let s = c .before .before .before in all-apart (s .pre .0) (s .pre .1)
+writers-of-requires c κs = let s = c .before .before .before .before .before .before in all-apart (s .pre .0) (s .pre .1)
 
 moves-of-requires : tie.Need-moves-of-requires
 moves-of-requires c κs =
     let w = c .before .before in
-    let t = w .before .before in
+    let t = w .before .before .before .before .before in
     let s = t .before .before in
-    all-pointable (s .pre .0) (s .pre .1) (t .before .places-of .ensures) (t .table .ensures) (w .writers-of .ensures)
+    all-pointable (s .pre .0) (s .pre .1) (t .before .places-of .ensures) (t .tables-of .ensures .writes) (t .tables-of .ensures .sets) (w .writers-of .ensures)
 
 returns : tie.Need-returns
 returns c =
     let m = c .before .before .before in
     let w = m .before .before .before in
-    let t = w .before .before in
+    let t = w .before .before .before .before .before in
     let p = t .before in
     let s = p .before in
     let start = startOf (s .args .starts .now) in (
-      content-same (s .pre .0) (s .pre .1) (p .places-of .ensures) (t .table .ensures) (w .writers-of .ensures) start (m .moves-of .ensures) (c .gaps-of .ensures),
+      content-same (s .pre .0) (s .pre .1) (p .places-of .ensures) (t .tables-of .ensures .writes) (t .tables-of .ensures .sets) (w .writers-of .ensures) start (m .moves-of .ensures) (c .gaps-of .ensures),
       (
-        listed-same (s .pre .0) (s .pre .1) (p .places-of .ensures) (t .table .ensures) (w .writers-of .ensures) start (m .moves-of .ensures) (c .gaps-of .ensures),
-        given-straight (s .pre .0) (s .pre .1) (p .places-of .ensures) (t .table .ensures) (w .writers-of .ensures) start (m .moves-of .ensures) (c .gaps-of .ensures),
+        listed-same (s .pre .0) (s .pre .1) (p .places-of .ensures) (t .tables-of .ensures .writes) (t .tables-of .ensures .sets) (w .writers-of .ensures) start (m .moves-of .ensures) (c .gaps-of .ensures),
+        given-straight (s .pre .0) (s .pre .1) (p .places-of .ensures) (t .tables-of .ensures .writes) (t .tables-of .ensures .sets) (w .writers-of .ensures) start (m .moves-of .ensures) (c .gaps-of .ensures),
       ),
     )
 

@@ -1,4 +1,4 @@
--- `places::sets::with_register` meets its contract: 1 shifted by r is below 2 ^ 32, so nothing is cut off.
+-- `lists::sets::with_register` meets its contract: 1 shifted by r is below 2 ^ 32, so nothing is cut off.
 -- Assumes nothing.
 use borrow.Author.Needs.{needs}
 use mathlib.Core.Path.{ap, _∙_}
@@ -8,8 +8,8 @@ use native.Mathlib.Omega.{arith}
 use lib.Bits.{bitOr}
 use lib.Dec.{lit<}
 use lib.Pow.{shl-exact}
-use Rattle.places.proofs.sets.with_register.Statement.{statement}
-use Rattle.places.proofs.sets.with_register.Tie as tie
+use Rattle.lists.proofs.sets.with_register.Statement.{statement}
+use Rattle.lists.proofs.sets.with_register.Tie as tie
 
 returns : tie.Need-returns
 returns c =
