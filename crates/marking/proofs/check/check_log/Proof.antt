@@ -32,6 +32,10 @@ before-reading m = owned (m .before)
 abbrev linked : tie.After-gaps2 → tie.After-links
 linked c = c .before .before .before .before .before
 
+-- and where no question refused the file
+abbrev read : tie.After-links → tie.After-enum-told
+read l = l .before .before
+
 own-writes-requires : tie.Need-own-writes-requires
 own-writes-requires c κs = (c .before .before .before .pre, length-replicate {A = ℕ} 2048 0)
 
@@ -48,24 +52,27 @@ returns c =
     sym (ap (ruling (startOf (s .args .starts .now)) (logged (s .args .log .now)))
     (sym (m .read-marking .ensures .0) ∙ ap (readAs (logged (s .args .log .now)) _ _ _) (r .read .given .1)))
 
+links-requires : tie.Need-links-requires
+links-requires c κs = (entered (before-reading (c .before .before .before)) .pre, length-replicate {A = ℕ} 2048 0)
+
 judge-requires : tie.Need-judge-requires
 judge-requires c κs =
     let l = linked c in
-    let m = l .before .before .before in
+    let m = read l .before .before in
     let w = before-reading m in
-    (w .own-writes .ensures, given (entered w .pre) (l .links .ensures) (m .read-marking .ensures .1 (l .before .enum-told .given .1)))
+    (w .own-writes .ensures, given (entered w .pre) (l .links .ensures) (m .read-marking .ensures .1 (read l .enum-told .given .1)))
 
 returns-2 : tie.Need-returns-2
 returns-2 c =
     let l = linked (c .before) in
-    let m = l .before .before .before in
+    let m = read l .before .before in
     let s = entered (before-reading m) in
     ap Ruling.Ruled (c .judge .ensures)
     ∙ sym (ap (ruling (startOf (s .args .starts .now)) (logged (s .args .log .now)))
-    (sym (m .read-marking .ensures .0) ∙ ap (readAs (logged (s .args .log .now)) _ _ _) (l .before .enum-told .given .1)))
+    (sym (m .read-marking .ensures .0) ∙ ap (readAs (logged (s .args .log .now)) _ _ _) (read l .enum-told .given .1)))
 
 pub check-log-spec : {M : Type 1} → statement M
 check-log-spec =
     tie.close
     (tie.spec (λ c κs. search needs) own-writes-requires read-marking-requires (λ c. search needs)
-    returns (λ c. search needs) (λ c κs. search needs) judge-requires returns-2)
+    returns (λ c. search needs) links-requires judge-requires returns-2)
