@@ -349,4 +349,4 @@ module _ {h : List Event} {order outcomes : List ℕ} {used : List Bool} {filled
         y .fits i (below-next i (omega (arith, y .few)) z) z .0
 
     pub end-kept : Kept h order outcomes gaps
-    end-kept = record { ordered = end-ordered; pointed = end-pointed; gaps-fit = end-fits }
+    end-kept = record { gaps-size = y .gaps-size; ordered = end-ordered; pointed = end-pointed; gaps-fit = end-fits }

@@ -104,6 +104,7 @@ pub record Sound (h : List Event) (order outcomes : List ℕ) (used : List Bool)
 
 -- what the arrays hold where no question says no: every transaction is placed, and every store read has a point
 pub record Kept (h : List Event) (order outcomes gaps : List ℕ) : Type 0 where
+  pub gaps-size : length gaps ≡ 2048
   pub ordered : isOrder (begins h) (placesOf order outcomes (begins h)) ≡ true
   pub pointed : (i : ℕ) → i < length h → isStoreRead h i ≡ not (eqb (getD gaps i 0) 65535)
   pub gaps-fit : (i : ℕ) → i < length h → isStoreRead h i ≡ true → getD gaps i 0 ≤ begins h

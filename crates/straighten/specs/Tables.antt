@@ -39,4 +39,3 @@ pub record Moved (start : ℕ → ℕ) (h : List Event) (order outcomes gaps str
   pub points : content h order outcomes straight ≡ straightened start h (content h order outcomes gaps)
   pub moved : listed moves (length h) ≡ movedEvents start h (content h order outcomes gaps)
   pub kept : Kept h order outcomes straight
-  pub size : length straight ≡ length gaps

@@ -5,11 +5,12 @@
 // writes (proofs/Theorems). A point that stays is judged twice, by itself and with all the others.
 ghost use mathlib.Core.Path.{_≡_};
 ghost use mathlib.Core.Bool.{true};
-ghost use Prim.Native.Nat.{_≤_};
+ghost use Prim.Native.Nat.{_+_, _*_, _-_, _/_, _≤_};
 ghost use lib.Dec.{leb};
 ghost use lib.ListN.{length, take};
 ghost use Rattle.lists.specs.Lists.{_and_};
 ghost use Rattle.events.specs.Questions.{readable};
+ghost use Rattle.events.specs.Said.{refuse};
 ghost use Rattle.log.specs.Columns.{columns};
 ghost use Rattle.log.specs.Rows.{logged, Entered};
 ghost use Rattle.log.specs.Starts.{startOf};
@@ -18,6 +19,7 @@ ghost use Rattle.rules.specs.Judge.{content};
 ghost use Rattle.marking_reader.specs.File.{known, fileRead};
 ghost use Rattle.marking_reader.specs.State.{Asking, Kept};
 ghost use Rattle.marking_writer.specs.Whole.{bytesIn};
+ghost use Rattle.straighten.specs.declared.Straightening.the-variants.{Refused};
 ghost use Rattle.straighten.specs.Answer.{gives, settled, afterFile, afterColumns, straightenedAnswer};
 ghost use Rattle.straighten.specs.Tables.{Moved, listed};
 
@@ -121,19 +123,29 @@ fn judge_moved(
     judge(starts, log, own, &link, order, outcomes, gaps)
 }
 
-// Question 15: is the output as long as the marking, and has the list an entry for every store read?
-fn has_room(marking: usize, output: usize, points: usize, entries: usize) -> bool
-    ensures { λ r. ⌜ r ≡ (leb marking output and leb points entries) ⌝ }
+// Question 15, of a readable marking's length: is the output as long, and has the list an entry for every
+// store read? What is left behind head and places are the points, one for each store read.
+fn has_room(marking: usize, begun: usize, output: usize, entries: usize) -> bool
+    requires { ⌜ (begun ≤ 64) × (6 + 8 * begun ≤ marking) ⌝ }
+    ensures { λ r. ⌜ r ≡ (leb marking output and leb ((marking - (6 + 8 * begun)) / 10) entries) ⌝ }
 {
     if output < marking {
         return false;
     }
+    let points = (marking - (Record::WHOLE_HEAD + Record::WHOLE_PLACE * begun))
+        / Record::WHOLE_POINT;
     points <= entries
 }
 
+// The answer that a question says no.
+fn refused(question: u8, at: usize) -> Straightening
+    ensures { λ r. ⌜ r ≡ Refused (refuse question at) ⌝ }
+{
+    Straightening::Refused(Refusal { question, at })
+}
+
 // Straightens the read points of a marking file for the readable history in a log: the marking's
-// questions, 15, and then the rules. What is left of a readable marking behind its head and places are
-// its points, one for each store read.
+// questions, 15, and then the rules.
 pub fn straighten_log(
     starts: &[u32; 32],
     log: &[Row],
@@ -157,13 +169,8 @@ pub fn straighten_log(
     if let Checked::Refused(refusal) = read {
         return Straightening::MarkingRefused(refusal);
     }
-    let points = (file.len() - Record::WHOLE_HEAD - Record::WHOLE_PLACE * begun)
-        / Record::WHOLE_POINT;
-    if !has_room(file.len(), output.len(), points, moved.len()) {
-        return Straightening::Refused(Refusal {
-            question: 15,
-            at: log.len(),
-        });
+    if !has_room(file.len(), begun, output.len(), moved.len()) {
+        return refused(15, log.len());
     }
     let mut moves = [false; 2048];
     let verdict = judge_moved(

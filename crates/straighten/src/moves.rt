@@ -86,6 +86,7 @@ fn move_points(log: &[Row], place: &[u16; 64], moves: &[bool; 2048], gaps: &mut 
     requires { ⌜ length (now gaps) ≡ 2048 ⌝ }
     ensures { λ _. ⌜ Front 0 (gapBy (logged (now (log .entry))) (now (place .entry)) (now (moves .entry)) (now (gaps .entry)))
         (length (logged (now (log .entry)))) (now (gaps .exit)) ⌝ }
+    ensures { λ _. ⌜ length (now (gaps .exit)) ≡ 2048 ⌝ }
 {
     let mut i: usize = 0;
     while i < log.len() {
