@@ -91,8 +91,8 @@ module _ (start : ℕ → ℕ) (h : List Event) (n : ℕ) (file output list : Li
     unfolding roomy
     after-room = let e : roomy h file output list ≡ true = sym asked ∙ z in rw (holds, e)
 
-    pub room-there : Bytes file → ReadableFor h m → Room h (length output) (length list)
-    room-there by f =
+    pub room-there : length file ≡ 6 + 8 * begins h + 10 * length (storeReads h) → Room h (length output) (length list)
+    room-there size =
         let e = sym asked ∙ z in
         let l : length file ≤ length output = leb-true _ _ (and-l _ _ e) in
-        record { bytes = omega (arith, file-size h file m holds by f); entries = leb-true _ _ (and-r _ _ e) }
+        record { bytes = omega arith; entries = leb-true _ _ (and-r _ _ e) }
