@@ -14,8 +14,6 @@ use Rattle.lists.specs.Lists.{_and_}
 use Rattle.lists.proofs.ListLaws.{not-true, not-false}
 use Rattle.events.specs.declared.event.Event.{Event}
 use Rattle.events.specs.Events.{begins}
-use Rattle.log.specs.declared.admit.Checked.{Checked}
-use Rattle.log.specs.declared.admit.Checked.the-variants.{Readable}
 use Rattle.log.specs.Rows.{logged}
 use Rattle.log.specs.Starts.{startOf}
 use Rattle.opacity.specs.Transactions.{storeReads}
@@ -26,11 +24,11 @@ use Rattle.rules.specs.Judge.{content as inArrays}
 use Rattle.marking_reader.specs.File.{known, content, fileRead}
 use Rattle.marking_reader.specs.State.{Asking, Kept, readAs}
 use Rattle.marking_reader.proofs.SoundLaws.{arrays-fresh}
-use Rattle.marking_reader.proofs.ContentLaws.{content-readable}
 use Rattle.straighten.specs.Answer.{gives, afterFile}
 use Rattle.straighten.proofs.MoveLaws.{arrays-readable}
 use Rattle.straighten.proofs.StraightLaws.{moved-few}
-use Rattle.straighten.proofs.SettleLaws.{file-size, after-short, after-room, room-there, bytes-same, bytes-fit, listed-counted, settled-judged}
+use Rattle.straighten.proofs.SettleLaws.{file-size, after-short, after-room, room-there}
+use Rattle.straighten.proofs.SettleLaws.{bytes-same, bytes-fit, listed-counted, settled-judged}
 use Rattle.straighten.proofs.straighten_log.Statement.{statement}
 use Rattle.straighten.proofs.straighten_log.Tie as tie
 
