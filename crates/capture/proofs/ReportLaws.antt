@@ -10,7 +10,7 @@ use Rattle.events.specs.declared.refusal.Refusal.{Refusal}
 use Rattle.events.specs.Said.{refuse}
 use Rattle.log.specs.Starts.{startOf}
 use Rattle.marking.specs.declared.check.Ruling.{Ruling}
-use Rattle.marking.specs.File.{FileRead, content, refused as unread}
+use Rattle.marking_reader.specs.File.{FileRead, content, refused as unread}
 use Rattle.marking.specs.Answer.{ruling}
 use Rattle.reader.specs.declared.HistoryRead.{HistoryRead}
 use Rattle.reader.specs.declared.Reading.{Reading}

@@ -28,8 +28,8 @@ use Rattle.opacity.specs.Counts.{counts}
 use Rattle.opacity.proofs.Theorems.{opaque-iff, faulted-iff, accepted-iff-justified, broken-iff-first}
 use Rattle.counts.specs.Tally.{standing, tally, times}
 use Rattle.counts.proofs.Theorems.{adds-up, counted-once, counted-iff}
-use Rattle.marking.specs.File.{known, FileRead, content, refused as unread, fileRead}
-use Rattle.marking.proofs.ContentLaws.{content-readable}
+use Rattle.marking_reader.specs.File.{known, FileRead, content, refused as unread, fileRead}
+use Rattle.marking_reader.proofs.ContentLaws.{content-readable}
 use Rattle.reader.specs.Reading.{Log, Outcome, readable, refused, historyOf}
 use Rattle.reader.specs.FirstEdition.{FirstOutcome, events, refuses, firstHistory}
 use Rattle.reader.proofs.FirstEdition.{either, same-history}

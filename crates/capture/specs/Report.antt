@@ -16,7 +16,7 @@ use Rattle.reader.specs.Reading.{Outcome, readable, refused, historyOf}
 use Rattle.reader.specs.FirstEdition.{FirstOutcome, events, refuses, firstHistory}
 use Rattle.scan.specs.declared.Scanning.{Scanning}
 use Rattle.scan.specs.Answer.{sizeRefusal, decided}
-use Rattle.marking.specs.File.{known, FileRead, content, refused as unread, fileRead}
+use Rattle.marking_reader.specs.File.{known, FileRead, content, refused as unread, fileRead}
 use Rattle.capture.specs.declared.Counts.{Counts}
 use Rattle.capture.specs.declared.Marking.{Marking}
 use Rattle.capture.specs.declared.Report.{Report}

@@ -8,7 +8,7 @@ use Rattle.opacity.specs.declared.verdict.Rule.{Rule}
 use Rattle.opacity.specs.Justification.{Justified}
 use Rattle.opacity.specs.Marking.{Marking as Content, namedEvent, namedTransaction}
 use Rattle.opacity.specs.Verdicts.{RuleD, FirstBroken}
-use Rattle.marking.specs.File.{known, content, fileRead}
+use Rattle.marking_reader.specs.File.{known, content, fileRead}
 
 -- the marking file holds a marking that justifies the history and keeps rule D
 pub record Justifying (start : ℕ → ℕ) (h : List Event) (marking : List ℕ) : Type 0 where

@@ -50,7 +50,7 @@ marking-is h J = ap (λ (l : List ℕ). markingHead ++ (flat placeBytes J ++ l))
 -- the table of gaps has a gap for each store read and for no other event, and that is its reader's place
 module _ (h : List Event) (r : readable h ≡ true) (codes : List ℕ) (few : length codes ≤ 10) (place : List ℕ)
     (readers : Filled 64 0 (λ t. placeOf t (decode codes)) (begins h) place) (gaps : List ℕ)
-    {many : ℕ} (front : Front many 0 (placedAt h place) (length h) gaps) (i : ℕ) (l : i < length h) where
+    (front : Front 0 (placedAt h place) (length h) gaps) (i : ℕ) (l : i < length h) where
   reader : getD place (eventAt h i .transaction) 0 ≡ gapAt h (decode codes) i
   reader = filled-at readers (eventAt h i .transaction) (transaction-known h r i l)
 
@@ -70,14 +70,14 @@ module _ (h : List Event) (r : readable h ≡ true) (codes : List ℕ) (few : le
 pub arrays-mark : (h : List Event) → readable h ≡ true → (codes order outcomes : List ℕ) (count : ℕ) → count ≡ begins h → count ≤ 10 → count ≤ length codes
     → Arrayed codes count order outcomes
     → (place : List ℕ) → Filled 64 0 (λ t. placeOf t (decode (take count codes))) count place
-    → (gaps : List ℕ) {many : ℕ} → Front many 0 (placedAt h place) (length h) gaps → length h ≤ many
+    → (gaps : List ℕ) → Front 0 (placedAt h place) (length h) gaps
     → bytesIn order outcomes count (take (length h) gaps) ≡ foundBytes h (take count codes)
-arrays-mark h r codes order outcomes count all few room a place p gaps g enough =
+arrays-mark h r codes order outcomes count all few room a place p gaps g =
     let n = length h in
     let c = take count codes in
     let less : length c ≤ 10 = omega (arith, length-take-le count codes room) in
     let q : Filled 64 0 (λ t. placeOf t (decode c)) (begins h) place = subst (λ (k : ℕ). Filled 64 0 (λ t. placeOf t (decode c)) k place) all p in
-    let long : length (take n gaps) ≡ n = length-take-le n gaps (omega (arith, g .size, enough)) in
+    let long : length (take n gaps) ≡ n = length-take-le n gaps (g .room) in
     let front : (i : ℕ) → i < n → getD (take n gaps) i 0 ≡ getD gaps i 0 = λ i l. getD-take n gaps i 0 l in
     let points : pointsIn (take n gaps) (length (take n gaps)) ≡ pointsTo (isStoreRead h) (gapAt h (decode c)) n =
     ap (pointsIn (take n gaps)) long

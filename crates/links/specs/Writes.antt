@@ -15,7 +15,7 @@ use Rattle.lists.specs.Filled.{Front}
 
 -- each entry holds one past the last write of its event's transaction before that event, 0 for none
 abbrev pub Links : List Event → ℕ → List ℕ → Type 0
-Links h n link = Front 2048 0 (λ i. slot LastWrite h (eventAt h i .transaction) i) n link
+Links h n link = Front 0 (λ i. slot LastWrite h (eventAt h i .transaction) i) n link
 
 -- the links of a whole history
 abbrev pub Linked : List Event → List ℕ → Type 0

@@ -42,13 +42,14 @@ module _ {A : Type 0} {many : ℕ} {d : A} {f : ℕ → A} {n : ℕ} {table : Li
   pub filled-beyond : (i : ℕ) → n ≤ i → getD table i d ≡ d
   filled-beyond i l = h .holds i ∙ rw (le-ltb i n l)
 
-module _ {A : Type 0} (many : ℕ) (d : A) (f : ℕ → A) where
-  pub front-none : {table : List A} → length table ≡ many → Front many d f 0 table
-  front-none s = record { size = s; holds = λ i l. absurd (not-suc-le-zero l) }
+-- tables of which only the first entries are known
+module _ {A : Type 0} (d : A) (f : ℕ → A) where
+  pub front-none : (table : List A) → Front d f 0 table
+  front-none table = record { room = omega arith; holds = λ i l. absurd (not-suc-le-zero l) }
 
-  pub front-more : (i : ℕ) (v : A) (table : List A) → i < many → v ≡ f i → Front many d f i table → Front many d f (i + 1) (set table i v)
-  front-more i v table b q h = record { size = length-set table i v ∙ h .size; holds = λ k l. go k l (eqb k i) refl }
+  pub front-more : (i : ℕ) (v : A) (table : List A) → i < length table → v ≡ f i → Front d f i table → Front d f (i + 1) (set table i v)
+  front-more i v table b q h = record { room = omega (arith, length-set table i v); holds = λ k l. go k l (eqb k i) refl }
     where
       go : (k : ℕ) → k < i + 1 → (x : Bool) → eqb k i ≡ x → getD (set table i v) k d ≡ f k
-      go k l true e = let w : k ≡ i = eqb-true k i e in rw (w, getD-set-same table i v d (rw (h .size) b)) q
-      go k l false e = getD-set-other table i k v d (eqb-false k i e) ∙ h .holds k (omega (arith, eqb-false k i e))
+      go k l true e = let w : k ≡ i = eqb-true k i e in rw (w, getD-set-same table i v d b) q
+      go k l false e = rw (getD-set-other table i k v d (eqb-false k i e)) (h .holds k (omega (arith, eqb-false k i e)))

@@ -1,7 +1,7 @@
 -- Vocabulary between crates: it need not be believed, the public contracts end in the paper's definitions.
 -- Tables that are filled from the front.
 -- Assumes nothing.
-use Prim.Native.Nat.{ℕ, _<_}
+use Prim.Native.Nat.{ℕ, _≤_, _<_}
 use mathlib.Core.Path.{_≡_}
 use mathlib.Core.Bool.{cond}
 use mathlib.Core.List.{List}
@@ -13,7 +13,7 @@ pub record Filled {A : Type 0} (many : ℕ) (d : A) (f : ℕ → A) (n : ℕ) (t
   pub size : length table ≡ many
   pub holds : (i : ℕ) → getD table i d ≡ cond (ltb i n) (f i) d
 
--- the same, where the others are left as they were
-pub record Front {A : Type 0} (many : ℕ) (d : A) (f : ℕ → A) (n : ℕ) (table : List A) : Type 0 where
-  pub size : length table ≡ many
+-- a table whose first n entries are given by f
+pub record Front {A : Type 0} (d : A) (f : ℕ → A) (n : ℕ) (table : List A) : Type 0 where
+  pub room : n ≤ length table
   pub holds : (i : ℕ) → i < n → getD table i d ≡ f i

@@ -1,9 +1,2 @@
-pub mod StepLaws
-pub mod SoundLaws
-pub mod WalkLaws
 pub mod CheckLaws
-pub mod ReadLaws
-pub mod ContentLaws
-pub mod WriteBack
-pub mod ReadBack
 pub mod Theorems

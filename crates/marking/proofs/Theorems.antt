@@ -28,11 +28,11 @@ use Rattle.opacity.proofs.VerdictLaws.{same-rule}
 use Rattle.opacity.proofs.Theorems.{accepted-iff-rules, accepted-iff-justified, broken-iff-first}
 use Rattle.marking.specs.declared.check.Checking.{Checking}
 use Rattle.marking.specs.declared.check.Checking.the-variants.{Ruled, HistoryRefused, MarkingRefused}
-use Rattle.marking.specs.File.{known, FileRead, content, refused, fileRead}
+use Rattle.marking_reader.specs.File.{known, FileRead, content, refused, fileRead}
 use Rattle.marking.specs.Answer.{ruled, afterColumns, verdictAnswer, firstEditionAnswer, verdictSaid, said, Justifying, Breaking}
-use Rattle.marking.proofs.ContentLaws.{content-readable}
-use Rattle.marking.proofs.ReadBack.{bytes-content}
-use Rattle.marking.proofs.WriteBack.{content-bytes}
+use Rattle.marking_reader.proofs.ContentLaws.{content-readable}
+use Rattle.marking_reader.proofs.ReadBack.{bytes-content}
+use Rattle.marking_reader.proofs.WriteBack.{content-bytes}
 
 -- ---- the file
 
@@ -49,7 +49,8 @@ readable-iff-bytes h r file by m = (
 
 module _ (edition : ℕ) (starts : List ℕ) (c : Columns) (n : ℕ) (file : List ℕ) where
   -- 17, 3 of the start values or an event's own question comes before all else, with its event; for 17 and 3 that is the count.
-  pub history-refused : (r : Refusal) → (verdictAnswer edition starts c n file ≡ HistoryRefused r) ↔ (historyAnswer edition starts c n ≡ Refused r)
+  pub history-refused : (r : Refusal)
+      → (verdictAnswer edition starts c n file ≡ HistoryRefused r) ↔ (historyAnswer edition starts c n ≡ Refused r)
   unfolding verdictAnswer
   history-refused r = (go (historyAnswer edition starts c n), λ e. rw e)
     where
@@ -67,8 +68,12 @@ module _ (edition : ℕ) (starts : List ℕ) (c : Columns) (n : ℕ) (file : Lis
     after = rw fine
 
     -- Then the marking's questions, with the byte.
-    pub marking-refused : (q byte : ℕ) → (verdictAnswer edition starts c n file ≡ MarkingRefused (refuse q byte)) ↔ (fileRead (known (history c n)) file ≡ refused q byte)
-    marking-refused q byte = (λ e. go (fileRead (known (history c n)) file) (sym after ∙ e), λ e. after ∙ ap (ruled (startOf starts) (history c n)) e)
+    pub marking-refused : (q byte : ℕ) → (verdictAnswer edition starts c n file ≡ MarkingRefused (refuse q byte))
+        ↔ (fileRead (known (history c n)) file ≡ refused q byte)
+    marking-refused q byte = (
+      λ e. go (fileRead (known (history c n)) file) (sym after ∙ e),
+      λ e. after ∙ ap (ruled (startOf starts) (history c n)) e,
+    )
       where
         go : (x : FileRead) → ruled (startOf starts) (history c n) x ≡ MarkingRefused (refuse q byte) → x ≡ refused q byte
         go (content m) d = absurd (let z : _≡_ {A = ℕ} 0 1 = cc in omega arith)
@@ -85,45 +90,60 @@ module _ (edition : ℕ) (starts : List ℕ) (c : Columns) (n : ℕ) (file : Lis
           same : Ruled (verdict (startOf starts) (history c n) m) ≡ Ruled v → verdict (startOf starts) (history c n) m ≡ v
           same d = cc
 
+      history-is-readable : readable (history c n) ≡ true
+      history-is-readable = history-readable edition starts c n fine .1
+
       content-is-readable : ReadableFor (history c n) m
-      content-is-readable = content-readable (history c n) file m (history-readable edition starts c n fine .1) holds
+      content-is-readable = content-readable (history c n) file m history-is-readable holds
 
       -- Accepted exactly if all five rules hold,
       pub accepted-rules : (verdictAnswer edition starts c n file ≡ Ruled Accepted) ↔ AllHold (startOf starts) (history c n) m
       accepted-rules = (
-        λ e. accepted-iff-rules (startOf starts) (history c n) (history-readable edition starts c n fine .1) m .0 (by-verdict Accepted .0 e),
-        λ a. by-verdict Accepted .1 (accepted-iff-rules (startOf starts) (history c n) (history-readable edition starts c n fine .1) m .1 a),
+        λ e. accepted-iff-rules (startOf starts) (history c n) history-is-readable m .0 (by-verdict Accepted .0 e),
+        λ a. by-verdict Accepted .1 (accepted-iff-rules (startOf starts) (history c n) history-is-readable m .1 a),
       )
 
       -- exactly if the outcomes and order are a justification of the history and no committed writer of the register but the reader stands
       -- between a read's point and its reader;
-      pub accepted-justified : (verdictAnswer edition starts c n file ≡ Ruled Accepted) ↔ (Justified (startOf starts) (history c n) (m .places) × RuleD (history c n) m)
+      pub accepted-justified : (verdictAnswer edition starts c n file ≡ Ruled Accepted)
+          ↔ (Justified (startOf starts) (history c n) (m .places) × RuleD (history c n) m)
       accepted-justified = (
-        λ e. accepted-iff-justified (startOf starts) (history c n) (history-readable edition starts c n fine .1) m content-is-readable .0 (by-verdict Accepted .0 e),
-        λ a. by-verdict Accepted .1 (accepted-iff-justified (startOf starts) (history c n) (history-readable edition starts c n fine .1) m content-is-readable .1 a),
+        λ e. justified .0 (by-verdict Accepted .0 e),
+        λ a. by-verdict Accepted .1 (justified .1 a),
       )
+        where
+          justified : (verdict (startOf starts) (history c n) m ≡ Accepted)
+              ↔ (Justified (startOf starts) (history c n) (m .places) × RuleD (history c n) m)
+          justified = accepted-iff-justified (startOf starts) (history c n) history-is-readable m content-is-readable
 
       -- otherwise the first broken rule, where it is broken lowest, with its event and transaction.
       pub broken-first : (q : Rule) (i t : ℕ) → (verdictAnswer edition starts c n file ≡ Ruled (Broken q i t))
-          ↔ ((k : ℕ) × FirstBroken (startOf starts) (history c n) m q k × (i ≡ namedEvent (history c n) q k) × (t ≡ namedTransaction (history c n) q k))
+          ↔ ((k : ℕ) × FirstBroken (startOf starts) (history c n) m q k
+          × (i ≡ namedEvent (history c n) q k) × (t ≡ namedTransaction (history c n) q k))
       broken-first q i t = (
-        λ e. broken-iff-first (startOf starts) (history c n) (history-readable edition starts c n fine .1) m q i t .0 (by-verdict (Broken q i t) .0 e),
-        λ a. by-verdict (Broken q i t) .1 (broken-iff-first (startOf starts) (history c n) (history-readable edition starts c n fine .1) m q i t .1 a),
+        λ e. broken-iff-first (startOf starts) (history c n) history-is-readable m q i t .0 (by-verdict (Broken q i t) .0 e),
+        λ a. by-verdict (Broken q i t) .1 (broken-iff-first (startOf starts) (history c n) history-is-readable m q i t .1 a),
       )
 
 -- ---- the whole
 
-pub accepted-iff : (edition : ℕ) (starts : List ℕ) (c : Columns) (n : ℕ) (file : List ℕ) → (verdictAnswer edition starts c n file ≡ Ruled Accepted) ↔ Justifying edition starts c n file
+pub accepted-iff : (edition : ℕ) (starts : List ℕ) (c : Columns) (n : ℕ) (file : List ℕ)
+    → (verdictAnswer edition starts c n file ≡ Ruled Accepted) ↔ Justifying edition starts c n file
 unfolding verdictAnswer
-accepted-iff edition starts c n file = (λ e. go (historyAnswer edition starts c n) refl e, λ j. accepted-justified edition starts c n file (j .fine) (j .marking) (j .holds) .1 (j .justified, j .ruleD))
+accepted-iff edition starts c n file = (
+  λ e. go (historyAnswer edition starts c n) refl e,
+  λ j. accepted-justified edition starts c n file (j .fine) (j .marking) (j .holds) .1 (j .justified, j .ruleD),
+)
   where
-    found : (fine : historyAnswer edition starts c n ≡ Readable) (x : FileRead) → fileRead (known (history c n)) file ≡ x → ruled (startOf starts) (history c n) x ≡ Ruled Accepted → Justifying edition starts c n file
+    found : (fine : historyAnswer edition starts c n ≡ Readable) (x : FileRead) → fileRead (known (history c n)) file ≡ x
+        → ruled (startOf starts) (history c n) x ≡ Ruled Accepted → Justifying edition starts c n file
     found fine (content m) q d =
         let a = accepted-justified edition starts c n file fine m q .0 (rw fine (ap (ruled (startOf starts) (history c n)) q ∙ d)) in
         record { fine = fine; marking = m; holds = q; justified = a .0; ruleD = a .1 }
     found fine (refused a b) q d = absurd (let z : _≡_ {A = ℕ} 0 1 = cc in omega arith)
 
-    go : (x : Checked) → historyAnswer edition starts c n ≡ x → afterColumns (startOf starts) (history c n) file x ≡ Ruled Accepted → Justifying edition starts c n file
+    go : (x : Checked) → historyAnswer edition starts c n ≡ x → afterColumns (startOf starts) (history c n) file x ≡ Ruled Accepted
+        → Justifying edition starts c n file
     go Readable q d = found q (fileRead (known (history c n)) file) refl d
     go (Refused a) q d = absurd (let z : _≡_ {A = ℕ} 0 1 = cc in omega arith)
 
@@ -187,7 +207,8 @@ module _ (edition : ℕ) (starts : List ℕ) (c : Columns) (n : ℕ) (file : Lis
   )
 
   -- the first broken rule with its event and transaction,
-  pub broken-said : (r : Rule) (e t : ℕ) → (said (verdictAnswer edition starts c n file) ≡ broken (ruleNumber r) e t) ↔ Breaking edition starts c n file r e t
+  pub broken-said : (r : Rule) (e t : ℕ)
+      → (said (verdictAnswer edition starts c n file) ≡ broken (ruleNumber r) e t) ↔ Breaking edition starts c n file r e t
   unfolding said verdictAnswer
   broken-said r e t = (λ x. go (historyAnswer edition starts c n) refl (said-ruled _ (Broken r e t) x), back)
     where
@@ -204,10 +225,13 @@ module _ (edition : ℕ) (starts : List ℕ) (c : Columns) (n : ℕ) (file : Lis
       go (Refused a) q d = absurd (let z : _≡_ {A = ℕ} 0 1 = cc in omega arith)
 
       back : Breaking edition starts c n file r e t → said (verdictAnswer edition starts c n file) ≡ broken (ruleNumber r) e t
-      back b = ap said (broken-first edition starts c n file (b .fine) (b .marking) (b .holds) r e t .1 (b .at, b .first, b .event, b .transaction))
+      back b =
+          ap said
+          (broken-first edition starts c n file (b .fine) (b .marking) (b .holds) r e t .1 (b .at, b .first, b .event, b .transaction))
 
   -- the history's question with its event, and the marking's with its byte.
-  pub history-said : (q e : ℕ) → (said (verdictAnswer edition starts c n file) ≡ atEvent q e) ↔ (historyAnswer edition starts c n ≡ Refused (refuse q e))
+  pub history-said : (q e : ℕ)
+      → (said (verdictAnswer edition starts c n file) ≡ atEvent q e) ↔ (historyAnswer edition starts c n ≡ Refused (refuse q e))
   unfolding said
   history-said q e = (
     λ x. history-refused edition starts c n file (refuse q e) .0 (said-history _ q e x),
@@ -218,22 +242,29 @@ module _ (edition : ℕ) (starts : List ℕ) (c : Columns) (n : ℕ) (file : Lis
       ↔ ((historyAnswer edition starts c n ≡ Readable) × (fileRead (known (history c n)) file ≡ refused q b))
   unfolding said verdictAnswer
   marking-said q b = (
-    λ x. let k = said-marking _ q b x in let f = fine (historyAnswer edition starts c n) refl k in (f, marking-refused edition starts c n file f q b .0 k),
+    λ x.
+        let k = said-marking _ q b x in
+        let f = fine (historyAnswer edition starts c n) refl k in
+        (f, marking-refused edition starts c n file f q b .0 k),
     λ w. ap said (marking-refused edition starts c n file (w .0) q b .1 (w .1)),
   )
     where
-      fine : (x : Checked) → historyAnswer edition starts c n ≡ x → afterColumns (startOf starts) (history c n) file x ≡ MarkingRefused (refuse q b)
+      fine : (x : Checked) → historyAnswer edition starts c n ≡ x
+          → afterColumns (startOf starts) (history c n) file x ≡ MarkingRefused (refuse q b)
           → historyAnswer edition starts c n ≡ Readable
       fine Readable e k = e
       fine (Refused r) e k = absurd (let z : _≡_ {A = ℕ} 0 1 = cc in omega arith)
 
 -- The bytes of a content that is readable for the history are judged as that content is; where its verdict is accepted, the checker
 -- accepts them.
-pub bytes-judged : (edition : ℕ) (starts : List ℕ) (c : Columns) (n : ℕ) (m : Marking) → historyAnswer edition starts c n ≡ Readable → ReadableFor (history c n) m
+pub bytes-judged : (edition : ℕ) (starts : List ℕ) (c : Columns) (n : ℕ) (m : Marking) → historyAnswer edition starts c n ≡ Readable
+    → ReadableFor (history c n) m
     → verdictAnswer edition starts c n (markingBytes m) ≡ Ruled (verdict (startOf starts) (history c n) m)
-bytes-judged edition starts c n m fine f = answered edition starts c n (markingBytes m) fine m (bytes-content (history c n) m (history-readable edition starts c n fine .1) f)
+bytes-judged edition starts c n m fine f =
+    answered edition starts c n (markingBytes m) fine m (bytes-content (history c n) m (history-readable edition starts c n fine .1) f)
 
-pub bytes-accepted : (edition : ℕ) (starts : List ℕ) (c : Columns) (n : ℕ) (m : Marking) → historyAnswer edition starts c n ≡ Readable → ReadableFor (history c n) m
+pub bytes-accepted : (edition : ℕ) (starts : List ℕ) (c : Columns) (n : ℕ) (m : Marking) → historyAnswer edition starts c n ≡ Readable
+    → ReadableFor (history c n) m
     → verdict (startOf starts) (history c n) m ≡ Accepted → verdictAnswer edition starts c n (markingBytes m) ≡ Ruled Accepted
 bytes-accepted edition starts c n m fine f e = bytes-judged edition starts c n m fine f ∙ ap Ruled e
 

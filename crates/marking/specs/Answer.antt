@@ -19,7 +19,7 @@ use Rattle.opacity.specs.Justification.{Justified, zeros}
 use Rattle.marking.specs.declared.check.Checking.{Checking}
 use Rattle.marking.specs.declared.check.Ruling.{Ruling}
 use Rattle.marking.specs.declared.check.Checking.the-variants.{Ruled, HistoryRefused, MarkingRefused}
-use Rattle.marking.specs.File.{known, FileRead, content, refused, fileRead}
+use Rattle.marking_reader.specs.File.{known, FileRead, content, refused, fileRead}
 
 -- the verdict on the content of the file, or the question that refuses the file
 abbrev pub ruling : (ℕ → ℕ) → List Event → FileRead → Ruling

@@ -6,18 +6,18 @@ ghost use Rattle.events.specs.Questions.{readable};
 ghost use Rattle.log.specs.Columns.{columns};
 ghost use Rattle.log.specs.Rows.{logged, Entered};
 ghost use Rattle.log.specs.Starts.{startOf};
-ghost use Rattle.marking.specs.File.{known, fileRead};
+ghost use Rattle.marking_reader.specs.File.{known, fileRead};
 ghost use Rattle.marking.specs.Answer.{ruling, fromFile, afterColumns, verdictAnswer};
-use crate::read::read_marking;
 use events::refusal::Refusal;
 use links::writes::links;
 use log::admit::Checked;
 use log::admit::admit;
 use log::rows::Row;
 use log::rows::transactions_begun;
+use marking_reader::read::read_marking;
 use opacity::verdict::Verdict;
+use reads::NO_POINT;
 use reads::own_writes;
-use reads::store_reads;
 use rules::judge::judge;
 
 // The checker's answer: the verdict of the rules; the question that refuses the history, with its
@@ -42,20 +42,17 @@ pub fn check_log(starts: &[u32; 32], log: &[Row], file: &[u8]) -> Ruling
         (fileRead (known (logged (now (log .entry)))) (now (file .entry))) ⌝ }
 {
     let begun = transactions_begun(log);
-    let own = own_writes(log);
-    let reads = store_reads(log, &own);
-    let reading = read_marking(&reads, log.len(), begun, file);
-    if reading.question != 0 {
-        return Ruling::Refused(Refusal {
-            question: reading.question,
-            at: reading.byte,
-        });
+    let mut own = [0u16; 2048];
+    own_writes(log, &mut own);
+    let mut order = [0u16; 64];
+    let mut outcomes = [0u8; 64];
+    let mut gaps = [NO_POINT; 2048];
+    let read = read_marking(log, &own, begun, file, &mut order, &mut outcomes, &mut gaps);
+    if let Checked::Refused(refusal) = read {
+        return Ruling::Refused(refusal);
     }
     let mut link = [0u16; 2048];
     links(log, &mut link);
-    let order = reading.order;
-    let outcomes = reading.outcomes;
-    let gaps = reading.gaps;
     let verdict = judge(starts, log, &own, &link, &order, &outcomes, &gaps);
     Ruling::Ruled(verdict)
 }

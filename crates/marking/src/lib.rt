@@ -1,4 +1,2 @@
-// The marking reader and the checker.
+// The checker: its door and its answer.
 pub mod check;
-pub mod read;
-pub mod step;

@@ -32,7 +32,7 @@ use Rattle.finder.specs.Answer.{findRefusal, foundAnswer, said as foundSaid}
 use Rattle.finder.proofs.Theorems as finder
 use Rattle.scan.specs.Answer.{Passed, scanRefusal, scanAnswer, said as scanSaid}
 use Rattle.scan.proofs.Theorems as scan
-use Rattle.marking.specs.File.{known, content, refused as unread, fileRead}
+use Rattle.marking_reader.specs.File.{known, content, refused as unread, fileRead}
 use Rattle.marking.specs.Answer.{verdictAnswer, said as checkSaid, Breaking}
 use Rattle.marking.proofs.Theorems as checker
 use Rattle.straighten.specs.Answer.{straightenedAnswer, said as straightSaid, Passes, Short}

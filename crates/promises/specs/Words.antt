@@ -20,7 +20,7 @@ use Rattle.opacity.specs.Verdicts.{WriterBetween}
 use Rattle.reader.specs.declared.Reading.the-variants.{Read}
 use Rattle.reader.specs.Reading.{eventsIn, readAnswer}
 use Rattle.finder.specs.Answer.{markingSize}
-use Rattle.marking.specs.File.{known, content, fileRead}
+use Rattle.marking_reader.specs.File.{known, content, fileRead}
 
 -- no other committed writer of the register stands between a read's point and its reader
 abbrev pub NoneBetween : List Event → Marking → Type 0

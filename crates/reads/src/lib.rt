@@ -163,8 +163,7 @@ fn put_gaps(log: &[Row], place: &[u16; 64], last: &mut [u16], gaps: &mut [u16])
     requires { ⌜ readable (logged (now log)) ≡ true ⌝ }
     requires { ⌜ Blank (begins (logged (now log))) (now last) ⌝ }
     requires { ⌜ length (now log) ≤ length (now gaps) ⌝ }
-    ensures { λ _. ⌜ Front (length (now (gaps .entry))) 0 (placedAt (logged (now (log .entry))) (now (place .entry)))
-        (length (now (log .entry))) (now (gaps .exit)) ⌝ }
+    ensures { λ _. ⌜ Front 0 (placedAt (logged (now (log .entry))) (now (place .entry))) (length (now (log .entry))) (now (gaps .exit)) ⌝ }
 {
     let mut i: usize = 0;
     while i < log.len() {
@@ -179,8 +178,7 @@ fn put_gaps(log: &[Row], place: &[u16; 64], last: &mut [u16], gaps: &mut [u16])
 pub fn gaps_at_readers(log: &[Row], place: &[u16; 64], gaps: &mut [u16])
     requires { ⌜ readable (logged (now log)) ≡ true ⌝ }
     requires { ⌜ length (now log) ≤ length (now gaps) ⌝ }
-    ensures { λ _. ⌜ Front (length (now (gaps .entry))) 0 (placedAt (logged (now (log .entry))) (now (place .entry)))
-        (length (now (log .entry))) (now (gaps .exit)) ⌝ }
+    ensures { λ _. ⌜ Front 0 (placedAt (logged (now (log .entry))) (now (place .entry))) (length (now (log .entry))) (now (gaps .exit)) ⌝ }
 {
     if transactions_begun(log) <= FEW {
         let mut few = [0u16; 320];

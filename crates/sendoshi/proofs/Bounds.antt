@@ -53,9 +53,9 @@ use Rattle.scan.specs.Answer.{scanAnswer, said as scanSaid}
 use Rattle.scan.proofs.AnswerLaws.{scanned-e, passed as scan-passed}
 use Rattle.scan.proofs.Theorems.{faulted-exactly}
 use Rattle.marking.specs.declared.check.Checking.{Checking}
-use Rattle.marking.specs.File.{known, FileRead, content, refused, fileRead}
+use Rattle.marking_reader.specs.File.{known, FileRead, content, refused, fileRead}
 use Rattle.marking.specs.Answer.{ruled, afterColumns, verdictAnswer, verdictSaid, said as checkSaid}
-use Rattle.marking.proofs.ContentLaws.{content-readable}
+use Rattle.marking_reader.proofs.ContentLaws.{content-readable}
 use Rattle.counts.specs.declared.Counting.{Counting}
 use Rattle.counts.specs.declared.Tallying.{Tallying}
 use Rattle.counts.specs.declared.tally.Tally.{Tally}

@@ -27,12 +27,12 @@ use Rattle.reader.specs.Reading.{isEdition, opening, Log, readable, refused, go
 use Rattle.reader.proofs.OpeningLaws.{opens, head-long, head-known}
 use Rattle.reader.proofs.WalkLaws.{event-in, readable≢}
 use Rattle.opacity.specs.Marking.{Marking}
-use Rattle.marking.specs.declared.step.Step.{Step as MarkingStep}
-use Rattle.marking.specs.File.{Known, Asked, asked as askedOf, everyPointed, isPlace, headQuestions, recordQuestions as markingQuestions, endQuestions, taken}
-use Rattle.marking.specs.File.{unless as unlessBy, bodyStep, endStep, stepOn as markingStepOn, stepAt as markingStepAt}
-use Rattle.marking.specs.File.{refused as refusedFile, goOn as goOnMarking, walk as walkMarking, headed, opening as openingMarking, nothingRead, afterOpening, fileRead}
-use Rattle.marking.proofs.StepLaws.{placed-told, pointed-told}
-use Rattle.marking.proofs.WalkLaws.{place-ends, point-ends}
+use Rattle.marking_reader.specs.declared.step.Step.{Step as MarkingStep}
+use Rattle.marking_reader.specs.File.{Known, Asked, asked as askedOf, everyPointed, isPlace, headQuestions, recordQuestions as markingQuestions, endQuestions, taken}
+use Rattle.marking_reader.specs.File.{unless as unlessBy, bodyStep, endStep, stepOn as markingStepOn, stepAt as markingStepAt}
+use Rattle.marking_reader.specs.File.{refused as refusedFile, goOn as goOnMarking, walk as walkMarking, headed, opening as openingMarking, nothingRead, afterOpening, fileRead}
+use Rattle.marking_reader.proofs.StepLaws.{placed-told, pointed-told}
+use Rattle.marking_reader.proofs.WalkLaws.{place-ends, point-ends}
 use Rattle.codes.specs.Codes.{Within}
 use Rattle.sendoshi.proofs.Numbers.{within, is-within, numbered-by, numbered}
 

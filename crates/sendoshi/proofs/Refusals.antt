@@ -26,7 +26,7 @@ use Rattle.scan.specs.declared.Scanning.{Scanning}
 use Rattle.scan.specs.Answer.{sizeRefusal, scanRefusal, scanAnswer}
 use Rattle.scan.proofs.AnswerLaws.{refused-e as unscanned-e}
 use Rattle.marking.specs.declared.check.Checking.{Checking}
-use Rattle.marking.specs.File.{known, FileRead, content, refused, fileRead}
+use Rattle.marking_reader.specs.File.{known, FileRead, content, refused, fileRead}
 use Rattle.marking.specs.Answer.{ruled, afterColumns, verdictAnswer}
 use Rattle.marking.proofs.Theorems.{history-refused}
 use Rattle.straighten.specs.declared.Straightening.{Straightening}

@@ -12,7 +12,7 @@ use borrow.Author.Tests.{ne-eqb, le-leb, leb-true}
 use Rattle.lists.specs.Lists.{_and_, all, keep, push, latest}
 use Rattle.lists.proofs.ListLaws.{and-l, and-r, and-i, eqb-self, orElse-none, keep-both}
 use Rattle.opacity.specs.Marking.{Point, gapOf}
-use Rattle.marking.proofs.ReadBack.{rising}
+use Rattle.marking_reader.proofs.ReadBack.{rising}
 use Rattle.straighten.specs.Straight.{Rises}
 
 -- ---- rising

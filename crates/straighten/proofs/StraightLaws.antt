@@ -25,7 +25,7 @@ use Rattle.opacity.proofs.MarkingBytes.{marking-length}
 use Rattle.opacity.proofs.Orders.{filled}
 use Rattle.opacity.proofs.Rules.{legal-gap, accepted-justified, justified-accepted}
 use Rattle.opacity.proofs.VerdictLaws.{accepted-rules}
-use Rattle.marking.proofs.ReadBack.{rising, passing-rise}
+use Rattle.marking_reader.proofs.ReadBack.{rising, passing-rise}
 use Rattle.straighten.specs.Straight.{stands, atReader, straightPoint, straightened, movedEvents, Rises}
 use Rattle.straighten.proofs.PointLaws.{pointWith, by-event, keep-map, keep-keep, map-none, rises}
 

@@ -30,11 +30,11 @@ use Rattle.opacity.specs.Marking.{Marking, ReadableFor, markingBytes, verdict, 
 use Rattle.opacity.proofs.VerdictLaws.{same-rule}
 use Rattle.opacity.proofs.Rules.{justified-accepted}
 use Rattle.marking.specs.declared.check.Checking.the-variants.{Ruled}
-use Rattle.marking.specs.File.{known, FileRead, content, refused, fileRead}
+use Rattle.marking_reader.specs.File.{known, FileRead, content, refused, fileRead}
 use Rattle.marking.specs.Answer.{verdictAnswer}
-use Rattle.marking.proofs.ContentLaws.{content-readable}
-use Rattle.marking.proofs.ReadBack.{bytes-content}
-use Rattle.marking.proofs.WriteBack.{content-bytes}
+use Rattle.marking_reader.proofs.ContentLaws.{content-readable}
+use Rattle.marking_reader.proofs.ReadBack.{bytes-content}
+use Rattle.marking_reader.proofs.WriteBack.{content-bytes}
 use Rattle.marking.proofs.Theorems.{by-verdict, accepted-iff, bytes-judged}
 use Rattle.straighten.specs.declared.Straightening.{Straightening}
 use Rattle.straighten.specs.declared.Straightening.the-variants.{Straightened, Broken, Refused, MarkingRefused}

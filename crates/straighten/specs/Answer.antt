@@ -20,7 +20,7 @@ use Rattle.opacity.specs.declared.verdict.Verdict.the-variants.{Accepted, Broke
 use Rattle.opacity.specs.Transactions.{storeReads}
 use Rattle.opacity.specs.Justification.{zeros}
 use Rattle.opacity.specs.Marking.{Marking, markingBytes, verdict}
-use Rattle.marking.specs.File.{known, FileRead, content, refused, fileRead}
+use Rattle.marking_reader.specs.File.{known, FileRead, content, refused, fileRead}
 use Rattle.marking.specs.Answer.{verdictSaid}
 use Rattle.straighten.specs.declared.Straightening.{Straightening}
 use Rattle.straighten.specs.declared.Straightening.the-variants.{Straightened, Broken, Refused, MarkingRefused}

@@ -5,25 +5,28 @@
 // writes (proofs/Theorems). A point that stays is judged twice, by itself and with all the others.
 ghost use mathlib.Core.Path.{_≡_};
 ghost use mathlib.Core.Bool.{true};
-ghost use Prim.Native.Nat.{_≤_};
+ghost use Prim.Native.Nat.{_+_, _*_, _-_, _/_, _≤_};
 ghost use lib.Dec.{leb};
 ghost use lib.ListN.{length, take};
 ghost use Rattle.lists.specs.Lists.{_and_};
 ghost use Rattle.events.specs.Questions.{readable};
-ghost use Rattle.log.specs.declared.admit.Checked.the-variants.{Readable};
+ghost use Rattle.events.specs.Said.{refuse};
 ghost use Rattle.log.specs.Columns.{columns};
 ghost use Rattle.log.specs.Rows.{logged, Entered};
 ghost use Rattle.log.specs.Starts.{startOf};
+ghost use Rattle.opacity.specs.Marking.{verdict};
 ghost use Rattle.rules.specs.Judge.{content};
-ghost use Rattle.marking.specs.File.{known, fileRead};
-ghost use Rattle.straighten.specs.Answer.{gives, settled, judged, afterFile, afterColumns, straightenedAnswer};
-ghost use Rattle.straighten.specs.Tables.{Room, Read, listed, bytesOf};
+ghost use Rattle.marking_reader.specs.File.{known, fileRead};
+ghost use Rattle.marking_reader.specs.State.{Asking, Kept};
+ghost use Rattle.marking_writer.specs.Whole.{bytesIn};
+ghost use Rattle.straighten.specs.declared.Straightening.the-variants.{Refused};
+ghost use Rattle.straighten.specs.Answer.{gives, settled, afterFile, afterColumns, straightenedAnswer};
+ghost use Rattle.straighten.specs.Tables.{Moved, listed};
 
 mod list;
 mod moves;
 
 use crate::list::list_moved;
-use crate::moves::Straight;
 use crate::moves::straight_of;
 use events::refusal::Refusal;
 use links::writes::links;
@@ -31,14 +34,13 @@ use log::admit::Checked;
 use log::admit::admit;
 use log::rows::Row;
 use log::rows::transactions_begun;
-use marking::read::Reading;
-use marking::read::read_marking;
+use marking_reader::read::read_marking;
 use marking_writer::write_marking;
 use opacity::verdict::Rule;
 use opacity::verdict::Verdict;
-use reads::count_store_reads;
+use reads::NO_POINT;
 use reads::own_writes;
-use reads::store_reads;
+use records::record::Record;
 use rules::judge::judge;
 
 // The answer: the length of the marking written and the number of events moved; the rule that is
@@ -62,20 +64,20 @@ pub enum Straightening {
 // moved events. There is room for both.
 fn settle(
     verdict: Verdict,
-    log: &[Row],
+    begun: usize,
     order: &[u16; 64],
     outcomes: &[u8; 64],
-    reads: &[bool; 2048],
-    straight: Straight,
+    gaps: &[u16],
+    moves: &[bool; 2048],
     output: &mut [u8],
     moved: &mut [u32],
 ) -> Straightening
-    requires { ⌜ readable (logged (now log)) ≡ true ⌝ }
-    requires { ⌜ length (bytesOf (logged (now log)) (now order) (now outcomes) (now reads) (straight .gaps)) ≤ length (now output) ⌝ }
-    requires { ⌜ length (listed (straight .moves) (length (logged (now log)))) ≤ length (now moved) ⌝ }
+    requires { ⌜ (begun ≤ 64) × (length (now gaps) ≤ 2048) ⌝ }
+    requires { ⌜ length (bytesIn (now order) (now outcomes) begun (now gaps)) ≤ length (now output) ⌝ }
+    requires { ⌜ length (listed (now moves) (length (now gaps))) ≤ length (now moved) ⌝ }
     ensures { λ r. ⌜ gives r (now (output .exit)) (now (moved .exit))
-        ≡ settled (bytesOf (logged (now (log .entry))) (now (order .entry)) (now (outcomes .entry)) (now (reads .entry)) (straight .gaps))
-        (listed (straight .moves) (length (logged (now (log .entry))))) (now (output .entry)) (now (moved .entry)) verdict ⌝ }
+        ≡ settled (bytesIn (now (order .entry)) (now (outcomes .entry)) begun (now (gaps .entry)))
+        (listed (now (moves .entry)) (length (now (gaps .entry)))) (now (output .entry)) (now (moved .entry)) verdict ⌝ }
 {
     if let Verdict::Broken {
         rule,
@@ -88,63 +90,58 @@ fn settle(
             transaction,
         };
     }
-    let begun = transactions_begun(log);
-    let points = straight.gaps;
-    let moves = straight.moves;
-    let length = write_marking(order, outcomes, begun, reads, &points, log.len(), output);
-    let number = list_moved(&moves, log.len(), moved);
+    let length = write_marking(order, outcomes, begun, gaps, output);
+    let number = list_moved(moves, gaps.len(), moved);
     Straightening::Straightened {
         length,
         moved: number,
     }
 }
 
-// Moves the points of a marking that was read, judges what comes out, and settles.
-fn straighten_points(
+// Moves the points of a marking that was read, and judges what comes out.
+fn judge_moved(
     starts: &[u32; 32],
     log: &[Row],
     own: &[u16; 2048],
-    reads: &[bool; 2048],
-    reading: Reading,
-    output: &mut [u8],
-    moved: &mut [u32],
-) -> Straightening
-    requires { ⌜ Read (now log) (now own) (now reads) reading ⌝ }
-    requires { ⌜ Room (logged (now log)) (length (now output)) (length (now moved)) ⌝ }
-    ensures { λ r. ⌜ gives r (now (output .exit)) (now (moved .exit))
-        ≡ judged (startOf (now (starts .entry))) (logged (now (log .entry)))
-        (content (logged (now (log .entry))) (reading .order) (reading .outcomes) (reading .gaps))
-        (now (output .entry)) (now (moved .entry)) ⌝ }
+    begun: usize,
+    order: &[u16; 64],
+    outcomes: &[u8; 64],
+    gaps: &mut [u16; 2048],
+    moves: &mut [bool; 2048],
+) -> Verdict
+    requires { ⌜ Asking (now log) (now own) begun ⌝ }
+    requires { ⌜ Kept (logged (now log)) (now order) (now outcomes) (now gaps) ⌝ }
+    requires { ⌜ (length (now gaps) ≡ 2048) × (length (now moves) ≡ 2048) ⌝ }
+    ensures { λ v. ⌜ v ≡ verdict (startOf (now (starts .entry))) (logged (now (log .entry)))
+        (content (logged (now (log .entry))) (now (order .entry)) (now (outcomes .entry)) (now (gaps .exit))) ⌝ }
+    ensures { λ _. ⌜ Moved (startOf (now (starts .entry))) (logged (now (log .entry))) (now (order .entry)) (now (outcomes .entry))
+        (now (gaps .entry)) (now (gaps .exit)) (now (moves .exit)) ⌝ }
 {
-    let begun = transactions_begun(log);
     let mut link = [0u16; 2048];
     links(log, &mut link);
-    let order = reading.order;
-    let outcomes = reading.outcomes;
-    let gaps = reading.gaps;
-    let straight = straight_of(starts, log, begun, &link, &order, &outcomes, &gaps);
-    let points = straight.gaps;
-    let verdict = judge(starts, log, own, &link, &order, &outcomes, &points);
-    settle(
-        verdict,
-        log,
-        &order,
-        &outcomes,
-        reads,
-        straight,
-        output,
-        moved,
-    )
+    straight_of(starts, log, begun, &link, order, outcomes, gaps, moves);
+    judge(starts, log, own, &link, order, outcomes, gaps)
 }
 
-// Question 15: is the output as long as the marking, and has the list an entry for every store read?
-fn has_room(marking: usize, output: usize, points: usize, entries: usize) -> bool
-    ensures { λ r. ⌜ r ≡ (leb marking output and leb points entries) ⌝ }
+// Question 15, of a readable marking's length: is the output as long, and has the list an entry for every
+// store read? What is left behind head and places are the points, one for each store read.
+fn has_room(marking: usize, begun: usize, output: usize, entries: usize) -> bool
+    requires { ⌜ (begun ≤ 64) × (6 + 8 * begun ≤ marking) ⌝ }
+    ensures { λ r. ⌜ r ≡ (leb marking output and leb ((marking - (6 + 8 * begun)) / 10) entries) ⌝ }
 {
     if output < marking {
         return false;
     }
+    let points = (marking - (Record::WHOLE_HEAD + Record::WHOLE_PLACE * begun))
+        / Record::WHOLE_POINT;
     points <= entries
+}
+
+// The answer that a question says no.
+fn refused(question: u8, at: usize) -> Straightening
+    ensures { λ r. ⌜ r ≡ Refused (refuse question at) ⌝ }
+{
+    Straightening::Refused(Refusal { question, at })
 }
 
 // Straightens the read points of a marking file for the readable history in a log: the marking's
@@ -163,23 +160,40 @@ pub fn straighten_log(
         (fileRead (known (logged (now (log .entry)))) (now (file .entry))) ⌝ }
 {
     let begun = transactions_begun(log);
-    let own = own_writes(log);
-    let reads = store_reads(log, &own);
-    let reading = read_marking(&reads, log.len(), begun, file);
-    if reading.question != 0 {
-        return Straightening::MarkingRefused(Refusal {
-            question: reading.question,
-            at: reading.byte,
-        });
+    let mut own = [0u16; 2048];
+    own_writes(log, &mut own);
+    let mut order = [0u16; 64];
+    let mut outcomes = [0u8; 64];
+    let mut gaps = [NO_POINT; 2048];
+    let read = read_marking(log, &own, begun, file, &mut order, &mut outcomes, &mut gaps);
+    if let Checked::Refused(refusal) = read {
+        return Straightening::MarkingRefused(refusal);
     }
-    let points = count_store_reads(log);
-    if !has_room(file.len(), output.len(), points, moved.len()) {
-        return Straightening::Refused(Refusal {
-            question: 15,
-            at: log.len(),
-        });
+    if !has_room(file.len(), begun, output.len(), moved.len()) {
+        return refused(15, log.len());
     }
-    straighten_points(starts, log, &own, &reads, reading, output, moved)
+    let mut moves = [false; 2048];
+    let verdict = judge_moved(
+        starts,
+        log,
+        &own,
+        begun,
+        &order,
+        &outcomes,
+        &mut gaps,
+        &mut moves,
+    );
+    let count = log.len();
+    settle(
+        verdict,
+        begun,
+        &order,
+        &outcomes,
+        &gaps[..count],
+        &moves,
+        output,
+        moved,
+    )
 }
 
 // The answer for what was taken in: the question that refuses it, or the straightening for the first

@@ -3,15 +3,14 @@ ghost use mathlib.Core.Path.{_≡_};
 ghost use mathlib.Core.Bool.{true, false};
 ghost use Prim.Native.Nat.{_<_};
 ghost use lib.ListN.{length};
-ghost use Rattle.lists.specs.Filled.{Filled};
+ghost use Rattle.lists.specs.Filled.{Front};
 ghost use Rattle.events.specs.Events.{begins};
 ghost use Rattle.events.specs.Questions.{readable};
 ghost use Rattle.log.specs.Rows.{logged};
 ghost use Rattle.log.specs.Starts.{startOf};
 ghost use Rattle.rules.specs.Walks.{Pointable, pointRule};
-ghost use Rattle.rules.specs.Judge.{Given, content};
-ghost use Rattle.straighten.specs.Straight.{straightened, movedEvents};
-ghost use Rattle.straighten.specs.Tables.{breaksBy, gapBy, listed};
+ghost use Rattle.rules.specs.Judge.{Given};
+ghost use Rattle.straighten.specs.Tables.{breaksBy, gapBy, Moved};
 use links::tables::tables_of;
 use log::rows::Row;
 use log::rows::event_at;
@@ -21,12 +20,6 @@ use rules::places::places_of;
 use rules::places::writers_of;
 use rules::points::holds_at;
 use rules::points::place_at;
-
-// Which points were moved, and the gap of each store read afterwards, by event.
-pub struct Straight {
-    pub moves: [bool; 2048],
-    pub gaps: [u16; 2048],
-}
 
 // Does the point of event i break D or E?
 fn breaks(
@@ -58,19 +51,20 @@ fn moves_of(
     writers: &[Writer; 64],
     place: &[u16; 64],
     gaps: &[u16; 2048],
-) -> [bool; 2048]
+    moves: &mut [bool; 2048],
+)
     requires { ⌜ Pointable (logged (now log)) (now link) (now writers) (now place) (now gaps) ⌝ }
-    ensures { λ r. ⌜ Filled 2048 false (breaksBy (pointRule (startOf (now (starts .entry))) (logged (now (log .entry)))
-        (now (link .entry)) (now (writers .entry)) (now (place .entry)) (now (gaps .entry)))) (length (logged (now (log .entry)))) r ⌝ }
+    requires { ⌜ length (now moves) ≡ 2048 ⌝ }
+    ensures { λ _. ⌜ Front false (breaksBy (pointRule (startOf (now (starts .entry))) (logged (now (log .entry)))
+        (now (link .entry)) (now (writers .entry)) (now (place .entry)) (now (gaps .entry))))
+        (length (logged (now (log .entry)))) (now (moves .exit)) ⌝ }
 {
-    let mut moves = [false; 2048];
     let mut i: usize = 0;
     while i < log.len() {
         let broken = breaks(starts, log, link, writers, place, gaps, i);
         moves[i] = broken;
         i += 1;
     }
-    moves
 }
 
 // Where the point of event i stands: at its reader's place, if it is moved.
@@ -86,22 +80,23 @@ fn gap_at(log: &[Row], place: &[u16; 64], moves: &[bool; 2048], gaps: &[u16; 204
     gaps[i]
 }
 
-// The gap of each event.
-fn gaps_of(log: &[Row], place: &[u16; 64], moves: &[bool; 2048], gaps: &[u16; 2048]) -> [u16; 2048]
+// Moves the points of the events that the table says.
+fn move_points(log: &[Row], place: &[u16; 64], moves: &[bool; 2048], gaps: &mut [u16; 2048])
     requires { ⌜ readable (logged (now log)) ≡ true ⌝ }
-    ensures { λ r. ⌜ Filled 2048 0 (gapBy (logged (now (log .entry))) (now (place .entry)) (now (moves .entry)) (now (gaps .entry)))
-        (length (logged (now (log .entry)))) r ⌝ }
+    requires { ⌜ length (now gaps) ≡ 2048 ⌝ }
+    ensures { λ _. ⌜ Front 0 (gapBy (logged (now (log .entry))) (now (place .entry)) (now (moves .entry)) (now (gaps .entry)))
+        (length (logged (now (log .entry)))) (now (gaps .exit)) ⌝ }
+    ensures { λ _. ⌜ length (now (gaps .exit)) ≡ 2048 ⌝ }
 {
-    let mut straight = [0u16; 2048];
     let mut i: usize = 0;
     while i < log.len() {
-        straight[i] = gap_at(log, place, moves, gaps, i);
+        gaps[i] = gap_at(log, place, moves, gaps, i);
         i += 1;
     }
-    straight
 }
 
-// The points of a readable marking, those that break D or E moved to their readers' places.
+// Moves the points of a readable marking that break D or E to their readers' places, and notes which
+// they are.
 pub fn straight_of(
     starts: &[u32; 32],
     log: &[Row],
@@ -109,27 +104,20 @@ pub fn straight_of(
     link: &[u16; 2048],
     order: &[u16; 64],
     outcomes: &[u8; 64],
-    gaps: &[u16; 2048],
-) -> Straight
+    gaps: &mut [u16; 2048],
+    moves: &mut [bool; 2048],
+)
     requires { ⌜ Given (logged (now log)) (now link) (now order) (now outcomes) (now gaps) ⌝ }
     requires { ⌜ begun ≡ begins (logged (now log)) ⌝ }
-    ensures { λ r. ⌜ content (logged (now (log .entry))) (now (order .entry)) (now (outcomes .entry)) (r .gaps)
-        ≡ straightened (startOf (now (starts .entry))) (logged (now (log .entry)))
-        (content (logged (now (log .entry))) (now (order .entry)) (now (outcomes .entry)) (now (gaps .entry))) ⌝ }
-    ensures { λ r. ⌜ listed (r .moves) (length (logged (now (log .entry))))
-        ≡ movedEvents (startOf (now (starts .entry))) (logged (now (log .entry)))
-        (content (logged (now (log .entry))) (now (order .entry)) (now (outcomes .entry)) (now (gaps .entry))) ⌝ }
-    ensures { λ r. ⌜ Given (logged (now (log .entry))) (now (link .entry)) (now (order .entry)) (now (outcomes .entry)) (r .gaps) ⌝ }
+    requires { ⌜ (length (now gaps) ≡ 2048) × (length (now moves) ≡ 2048) ⌝ }
+    ensures { λ _. ⌜ Moved (startOf (now (starts .entry))) (logged (now (log .entry))) (now (order .entry)) (now (outcomes .entry))
+        (now (gaps .entry)) (now (gaps .exit)) (now (moves .exit)) ⌝ }
 {
     let place = places_of(order, begun);
     let tables = tables_of(log);
     let written = tables.written;
     let registers = tables.registers;
     let writers = writers_of(order, outcomes, &written, &registers, begun);
-    let moves = moves_of(starts, log, link, &writers, &place, gaps);
-    let straight = gaps_of(log, &place, &moves, gaps);
-    Straight {
-        moves,
-        gaps: straight,
-    }
+    moves_of(starts, log, link, &writers, &place, gaps, moves);
+    move_points(log, &place, moves, gaps);
 }

@@ -18,7 +18,7 @@ use Rattle.opacity.specs.Store.{put}
 use Rattle.opacity.specs.Serial.{does, eventsOf, run, readsRight, after, runsRight}
 use Rattle.opacity.specs.Counts.{counts}
 use Rattle.counts.specs.Tally.{standing, tally}
-use Rattle.marking.specs.File.{nextEvent, everyPlaced, hasPoint, everyPointed, headQuestions, recordQuestions, endQuestions, bodyStep, endStep, stepAt, walk as walkMarking, opening, fileRead}
+use Rattle.marking_reader.specs.File.{nextEvent, everyPlaced, hasPoint, everyPointed, headQuestions, recordQuestions, endQuestions, bodyStep, endStep, stepAt, walk as walkMarking, opening, fileRead}
 use Rattle.marking.specs.Answer.{verdictAnswer, said as checkSaid}
 use Rattle.straighten.specs.Straight.{stands, straightPoint, straightened, movedEvents}
 use Rattle.worked.specs.Worked.{right, worked}

@@ -4,7 +4,7 @@ use borrow.Author.Needs.{needs}
 use Rattle.log.specs.Rows.{logged}
 use Rattle.log.specs.Starts.{startOf}
 use Rattle.marking.specs.declared.check.Ruling.{Ruling}
-use Rattle.marking.specs.File.{known, fileRead}
+use Rattle.marking_reader.specs.File.{known, fileRead}
 use Rattle.capture.specs.Report.{markingOf}
 use Rattle.capture.proofs.ReportLaws.{lineOf, ruled-line}
 use Rattle.capture.proofs.marking_of.Statement.{statement}

@@ -55,14 +55,14 @@ marks g =
     let h = given s in
     let n = logged-length (s .args .log .now) in
     let ten : length (s .args .codes) ≡ 10 = search needs in
-    let front : Front (length (s .args .gaps .now)) 0 (placedAt h (p .readers-by .result)) (length h) (g .gaps-at-readers .last .1 .1 .0) =
-    subst (λ (k : ℕ). Front (length (s .args .gaps .now)) 0 (placedAt h (p .readers-by .result)) k (g .gaps-at-readers .last .1 .1 .0)) (sym n) (g .gaps-at-readers .ensures) in
+    let front : Front 0 (placedAt h (p .readers-by .result)) (length h) (g .gaps-at-readers .last .1 .1 .0) =
+    subst (λ (k : ℕ). Front 0 (placedAt h (p .readers-by .result)) k (g .gaps-at-readers .last .1 .1 .0)) (sym n) (g .gaps-at-readers .ensures) in
     let gaps = g .gaps-at-readers .last .1 .1 .0 in
     let order = a .placed-by .result .order in
     let outcomes = a .placed-by .result .outcomes in
     subst (λ (k : ℕ). bytesIn order outcomes (s .args .begun) (take k gaps) ≡ foundBytes h (take (s .args .begun) (s .args .codes))) n
     (arrays-mark h (s .pre .0 .readable) (s .args .codes) (a .placed-by .result .order) (a .placed-by .result .outcomes) (s .args .begun) (s .pre .1 .0 .0) (few s)
-    (omega (arith, few s)) (a .placed-by .ensures) (p .readers-by .result) (p .readers-by .ensures) (g .gaps-at-readers .last .1 .1 .0) front (omega (arith, s .pre .1 .0 .1, n)))
+    (omega (arith, few s)) (a .placed-by .ensures) (p .readers-by .result) (p .readers-by .ensures) (g .gaps-at-readers .last .1 .1 .0) front)
 
 placed-by-requires : tie.Need-placed-by-requires
 placed-by-requires c κs = few (c .before .before)

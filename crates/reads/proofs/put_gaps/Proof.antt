@@ -20,7 +20,8 @@ use Rattle.reads.proofs.put_gaps.Tie as tie
 
 abbrev Inv-loop : tie.InvT-loop
 Inv-loop log place last₀ gaps₀ i₀ last gaps i =
-    (length last ≡ length last₀) × Lasts (logged log) (begins (logged log)) last i × Front (length gaps₀) 0 (placedAt (logged log) place) i gaps
+    (length last ≡ length last₀) × (length gaps ≡ length gaps₀) × Lasts (logged log) (begins (logged log)) last i
+    × Front 0 (placedAt (logged log) place) i gaps
 
 abbrev μ-loop : tie.MeasureT-loop
 μ-loop log place last₀ gaps₀ i₀ last gaps i = length log - i
@@ -59,20 +60,16 @@ room : (c : tie.After-gap-of Inv-loop μ-loop) → taken (noted c) .before .befo
 room c =
     let t = taken (noted c) .before in
     let s = entered (t .before) in
-    omega (arith, t .loop-test .taken, s .pre .1 .1, t .before .loop .inv .2 .size)
-
-fits : (c : tie.After-gap-of Inv-loop μ-loop)
-    → taken (noted c) .before .before .loop .i < length (entered (taken (noted c) .before .before) .args .gaps .now)
-fits c = omega (arith, room c, taken (noted c) .before .before .loop .inv .2 .size)
+    omega (arith, t .loop-test .taken, s .pre .1 .1, t .before .loop .inv .1)
 
 loop-holds : tie.Need-loop-holds Inv-loop μ-loop
-loop-holds c = (refl, lasts-first _ _ _ (c .before .before .pre .1 .0), front-none _ 0 _ refl)
+loop-holds c = (refl, refl, lasts-first _ _ _ (c .before .before .pre .1 .0), front-none 0 _ _)
 
 note-requires : tie.Need-note-requires Inv-loop μ-loop
 note-requires c κs =
     let e = c .before in
     let t = e .before in
-    let slot = slot-room _ (low-here t) (t .before .loop .inv .1 .room) in
+    let slot = slot-room _ (low-here t) (t .before .loop .inv .2 .room) in
     ((few t, subst (λ (x : Event). slotOf x < length (t .before .loop .last)) (sym (e .event-at .ensures)) slot), low-taken e)
 
 gap-of-requires : tie.Need-gap-of-requires Inv-loop μ-loop
@@ -96,7 +93,7 @@ gap c =
     let l = e .before .before in
     let place = entered l .args .place .now in
     let found = n .note .ensures .0 ∙ ap (λ (x : Event). getD (l .loop .last) (slotOf x) 0) (e .event-at .ensures) in
-    let store = its-read (given l) _ (l .loop .last) (l .loop .i) (l .loop .inv .1) (low-here (e .before)) (n .note .result) found in
+    let store = its-read (given l) _ (l .loop .last) (l .loop .i) (l .loop .inv .2) (low-here (e .before)) (n .note .result) found in
     c .gap-of .ensures
     ∙ (ap (λ (x : Event). gapOf (readsStore x (n .note .result)) x place) (e .event-at .ensures)
     ∙ ap (λ (b : Bool). gapOf b (eventAt (given l) (l .loop .i)) place) (sym store))
@@ -107,17 +104,18 @@ loop-again c =
     let e = taken n in
     let l = e .before .before in (
       n .note .kept .0 ∙ l .loop .inv .0,
+      length-set (l .loop .gaps) (l .loop .i) (c .gap-of .result) ∙ l .loop .inv .1,
       rw (n .note .ensures .1)
-          (lasts-more (given l) _ (l .loop .last) (l .loop .i) (l .loop .inv .1) (inside (e .before)) (low-here (e .before)) (e .event-at .result) (e .event-at .ensures)),
-      front-more _ 0 _ (l .loop .i) (c .gap-of .result) (l .loop .gaps) (fits c) (gap c) (l .loop .inv .2),
+          (lasts-more (given l) _ (l .loop .last) (l .loop .i) (l .loop .inv .2) (inside (e .before)) (low-here (e .before)) (e .event-at .result) (e .event-at .ensures)),
+      front-more 0 _ (l .loop .i) (c .gap-of .result) (l .loop .gaps) (room c) (gap c) (l .loop .inv .3),
     )
 
 returns : tie.Need-returns Inv-loop μ-loop
 returns c =
     let l = c .before in
     let end : l .loop .i ≡ length (entered l .args .log .now) =
-    omega (arith, logged-length (entered l .args .log .now), c .loop-test .left, l .loop .inv .1 .inside) in
-    rw end at (l .loop .inv .2)
+    omega (arith, logged-length (entered l .args .log .now), c .loop-test .left, l .loop .inv .2 .inside) in
+    rw end at (l .loop .inv .3)
 
 pub put-gaps-spec : {M : Type 1} → statement M
 put-gaps-spec =

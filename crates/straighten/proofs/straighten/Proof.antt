@@ -18,22 +18,27 @@ abbrev given : tie.Start → Columns
 given s = columns (s .args .kinds .now) (s .args .transactions .now) (s .args .registers .now) (s .args .values .now)
 
 -- where the columns were taken in, into 64 rows or into 2,048: the function's entry
+abbrev lent : tie.After-slice-known2 → tie.Start
+lent c = c .before .before .before .before .before .before .before
+
 abbrev entered : tie.After-admit → tie.Start
-entered a = a .before .before .before .before .before .before .before .before .before .before
+entered a = lent (a .before .before .before)
 
 abbrev entered-2 : tie.After-admit2 → tie.Start
-entered-2 a = a .before .before .before .before .before .before .before .before .before .before
+entered-2 a = lent (a .before .before .before)
 
 -- the answer of what was taken in
 abbrev answer : tie.Start → Checked → List Event → Given
-answer s x h = afterColumns (startOf (s .args .starts .now)) h (s .args .count) (s .args .file .now) (now (s .args .output)) (now (s .args .moved)) x
+answer s x h =
+    let a = s .args in
+    afterColumns (startOf (a .starts .now)) h (a .count) (a .file .now) (now (a .output)) (now (a .moved)) x
 
 straighten-admitted-requires : tie.Need-straighten-admitted-requires
 straighten-admitted-requires c κs =
     let a = c .before .before .before .before in
     let s = entered a in
-    let-in (s .args .edition) (s .args .starts .now) (given s) (s .args .count) (a .admit .result) _ _ (a .admit .ensures .0) (a .admit .ensures .1)
-    (λ m. omega (arith, a .before .before .if1 .taken))
+    let-in (s .args .edition) (s .args .starts .now) (given s) (s .args .count) (a .admit .result) _ _
+    (a .admit .ensures .0) (a .admit .ensures .1) (λ m. omega (arith, a .before .before .if1 .taken))
 
 returns : tie.Need-returns
 unfolding straightenedAnswer
@@ -42,15 +47,15 @@ returns c =
     let a = q .before .before .before .before .before in
     let s = entered a in
     q .straighten-admitted .ensures
-    ∙ behind (s .args .edition) (s .args .starts .now) (given s) (s .args .count) (a .admit .result) _ _ (a .admit .ensures .0) (a .admit .ensures .1)
-    (λ m. omega (arith, a .before .before .if1 .taken)) (answer s) (λ r g h. refl)
+    ∙ behind (s .args .edition) (s .args .starts .now) (given s) (s .args .count) (a .admit .result) _ _
+    (a .admit .ensures .0) (a .admit .ensures .1) (λ m. omega (arith, a .before .before .if1 .taken)) (answer s) (λ r g h. refl)
 
 straighten-admitted-requires-2 : tie.Need-straighten-admitted-requires-2
 straighten-admitted-requires-2 c κs =
     let a = c .before .before .before .before in
     let s = entered-2 a in
-    let-in (s .args .edition) (s .args .starts .now) (given s) (s .args .count) (a .admit2 .result) _ _ (a .admit2 .ensures .0) (a .admit2 .ensures .1)
-    (λ m. m)
+    let-in (s .args .edition) (s .args .starts .now) (given s) (s .args .count) (a .admit2 .result) _ _
+    (a .admit2 .ensures .0) (a .admit2 .ensures .1) (λ m. m)
 
 returns-2 : tie.Need-returns-2
 unfolding straightenedAnswer
@@ -59,8 +64,8 @@ returns-2 c =
     let a = q .before .before .before .before .before in
     let s = entered-2 a in
     q .straighten-admitted2 .ensures
-    ∙ behind (s .args .edition) (s .args .starts .now) (given s) (s .args .count) (a .admit2 .result) _ _ (a .admit2 .ensures .0) (a .admit2 .ensures .1)
-    (λ m. m) (answer s) (λ r g h. refl)
+    ∙ behind (s .args .edition) (s .args .starts .now) (given s) (s .args .count) (a .admit2 .result) _ _
+    (a .admit2 .ensures .0) (a .admit2 .ensures .1) (λ m. m) (answer s) (λ r g h. refl)
 
 pub straighten-spec : {M : Type 1} → statement M
 straighten-spec =

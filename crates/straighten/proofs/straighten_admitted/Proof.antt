@@ -7,7 +7,7 @@ use lib.ListN.{take}
 use lib.Seq.{length-take-le}
 use Rattle.log.specs.Rows.{logged}
 use Rattle.log.specs.Starts.{startOf}
-use Rattle.marking.specs.File.{known, fileRead}
+use Rattle.marking_reader.specs.File.{known, fileRead}
 use Rattle.straighten.specs.Answer.{afterFile}
 use borrow.Author.Needs.{needs}
 use Rattle.straighten.proofs.straighten_admitted.Statement.{statement}
@@ -34,7 +34,10 @@ returns-2 c =
     let h = logged (take (s .args .count) (s .args .rows .now)) in
     rw (t .enum-told .given .1)
     (l .straighten-log .ensures
-    ∙ ap (λ (n : ℕ). afterFile (startOf (s .args .starts .now)) h n (s .args .file .now) (now (s .args .output)) (now (s .args .moved)) (fileRead (known h) (s .args .file .now)))
+    ∙ ap
+    (λ (n : ℕ).
+    afterFile (startOf (s .args .starts .now)) h n (s .args .file .now) (now (s .args .output)) (now (s .args .moved))
+    (fileRead (known h) (s .args .file .now)))
     (length-take-le _ _ (s .pre .room (t .enum-told .given .1))))
 
 pub straighten-admitted-spec : {M : Type 1} → statement M

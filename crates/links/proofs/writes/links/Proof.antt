@@ -4,7 +4,7 @@ use Prim.Native.Nat.{ℕ, _-_, _≤_, _<_}
 use mathlib.Core.Path.{_≡_, ap, _∙_, subst}
 use native.Mathlib.Omega.{arith}
 use borrow.Author.Needs.{needs}
-use lib.ListN.{length}
+use lib.ListN.{length, length-set}
 use Rattle.events.specs.declared.event.Event.{Event}
 use Rattle.events.specs.Events.{eventAt}
 use Rattle.log.specs.Rows.{logged}
@@ -19,7 +19,7 @@ use Rattle.links.proofs.writes.links.Statement.{statement}
 use Rattle.links.proofs.writes.links.Tie as tie
 
 abbrev Inv-loop : tie.InvT-loop
-Inv-loop log link₀ last₀ i₀ link last i = (i ≤ length log) × Slots LastWrite (logged log) i last × Links (logged log) i link
+Inv-loop log link₀ last₀ i₀ link last i = (i ≤ length log) × Slots LastWrite (logged log) i last × Links (logged log) i link × (length link ≡ 2048)
 
 abbrev μ-loop : tie.MeasureT-loop
 μ-loop log link₀ last₀ i₀ link last i = length log - i
@@ -38,7 +38,7 @@ few : (c : tie.In-loop Inv-loop μ-loop) → c .before .loop .i < 2048
 few c = omega (arith, log-most (c .before .before .args .log .now) (c .before .before .pre .0))
 
 loop-holds : tie.Need-loop-holds Inv-loop μ-loop
-loop-holds c = (omega arith, slots-start _ _, front-none _ _ _ (c .pre .1))
+loop-holds c = (omega arith, slots-start _ _, front-none _ _ _, c .pre .1)
 
 mul-link : tie.Need-mul-link Inv-loop μ-loop
 mul-link c = let l = its-slot c in search needs
@@ -64,7 +64,9 @@ loop-again c =
     ∙ ap (λ (x : Event). slot LastWrite h (x .transaction) (t .loop .i)) (e .event-at .ensures) in (
       search needs,
       slots-more LastWrite h (t .loop .i) (e .event-at .ensures) (low e) (c .note .ensures) (t .loop .inv .1),
-      front-more _ _ (λ i. slot LastWrite h (eventAt h i .transaction) i) (t .loop .i) _ (t .loop .link) (few (e .before)) q (t .loop .inv .2),
+      front-more _ (λ i. slot LastWrite h (eventAt h i .transaction) i) (t .loop .i) _ (t .loop .link)
+          (omega (arith, few (e .before), t .loop .inv .3)) q (t .loop .inv .2),
+      length-set (t .loop .link) _ _ ∙ t .loop .inv .3,
     )
 
 returns : tie.Need-returns Inv-loop μ-loop

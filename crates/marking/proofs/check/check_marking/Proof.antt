@@ -18,11 +18,14 @@ abbrev given : tie.Start → Columns
 given s = columns (s .args .kinds .now) (s .args .transactions .now) (s .args .registers .now) (s .args .values .now)
 
 -- where columns of few events, and of more, have been taken in
+abbrev asked : tie.After-shared-slice-known5 → tie.Start
+asked c = c .before .before .before .before .before
+
 abbrev few : tie.After-admit → tie.Start
-few a = a .before .before .before .before .before .before .before .before
+few a = asked (a .before .before .before)
 
 abbrev many : tie.After-admit2 → tie.Start
-many a = a .before .before .before .before .before .before .before .before
+many a = asked (a .before .before .before)
 
 -- the answer of what was taken in
 abbrev answer : tie.Start → Checked → List Event → Checking
@@ -32,8 +35,8 @@ check-admitted-requires : tie.Need-check-admitted-requires
 check-admitted-requires c κs =
     let a = c .before .before in
     let s = few a in
-    entered (s .args .edition) (s .args .starts .now) (given s) (s .args .count) (a .admit .result) _ _ (a .admit .ensures .0) (a .admit .ensures .1)
-    (λ m. omega (arith, a .before .before .if1 .taken))
+    entered (s .args .edition) (s .args .starts .now) (given s) (s .args .count) (a .admit .result) _ _
+    (a .admit .ensures .0) (a .admit .ensures .1) (λ m. omega (arith, a .before .before .if1 .taken))
 
 returns : tie.Need-returns
 unfolding verdictAnswer
@@ -41,14 +44,15 @@ returns c =
     let a = c .before .before .before in
     let s = few a in
     c .check-admitted .ensures
-    ∙ behind (s .args .edition) (s .args .starts .now) (given s) (s .args .count) (a .admit .result) _ _ (a .admit .ensures .0) (a .admit .ensures .1)
-    (λ m. omega (arith, a .before .before .if1 .taken)) (answer s) (λ r g h. refl)
+    ∙ behind (s .args .edition) (s .args .starts .now) (given s) (s .args .count) (a .admit .result) _ _
+    (a .admit .ensures .0) (a .admit .ensures .1) (λ m. omega (arith, a .before .before .if1 .taken)) (answer s) (λ r g h. refl)
 
 check-admitted-requires-2 : tie.Need-check-admitted-requires-2
 check-admitted-requires-2 c κs =
     let a = c .before .before in
     let s = many a in
-    entered (s .args .edition) (s .args .starts .now) (given s) (s .args .count) (a .admit2 .result) _ _ (a .admit2 .ensures .0) (a .admit2 .ensures .1) (λ m. m)
+    entered (s .args .edition) (s .args .starts .now) (given s) (s .args .count) (a .admit2 .result) _ _
+    (a .admit2 .ensures .0) (a .admit2 .ensures .1) (λ m. m)
 
 returns-2 : tie.Need-returns-2
 unfolding verdictAnswer
@@ -56,8 +60,8 @@ returns-2 c =
     let a = c .before .before .before in
     let s = many a in
     c .check-admitted2 .ensures
-    ∙ behind (s .args .edition) (s .args .starts .now) (given s) (s .args .count) (a .admit2 .result) _ _ (a .admit2 .ensures .0) (a .admit2 .ensures .1)
-    (λ m. m) (answer s) (λ r g h. refl)
+    ∙ behind (s .args .edition) (s .args .starts .now) (given s) (s .args .count) (a .admit2 .result) _ _
+    (a .admit2 .ensures .0) (a .admit2 .ensures .1) (λ m. m) (answer s) (λ r g h. refl)
 
 pub check-marking-spec : {M : Type 1} → statement M
 check-marking-spec =

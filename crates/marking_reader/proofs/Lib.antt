@@ -1,0 +1,9 @@
+pub mod StepLaws
+pub mod PointLaws
+pub mod AskingLaws
+pub mod SoundLaws
+pub mod WalkLaws
+pub mod ReadLaws
+pub mod ContentLaws
+pub mod WriteBack
+pub mod ReadBack
