@@ -198,8 +198,8 @@ module _ (h : List Event) (J : List Place) (g i : ℕ) where
   abbrev byAnother : List Place → Option ℕ
   byAnother P = latest (written h register) (others (eventAt h i .transaction) P)
 
-  stands : (w : Answering (written h register) another J) → Between g reader (length (w .front)) → WriterBetween h J g i
-  stands w b =
+  writer-between : (w : Answering (written h register) another J) → Between g reader (length (w .front)) → WriterBetween h J g i
+  writer-between w b =
       let c = writer h register (w .here) (w .answers) in
       record {
         front = w .front;
@@ -229,11 +229,11 @@ module _ (h : List Event) (J : List Place) (g i : ℕ) where
       elim (decLe g reader) [
         | yes l ↦
             let w = within g reader l (rw (min-eq-left l, max-eq-right l) at e) in
-            stands (w .whole) (inl (w .low, w .high))
+            writer-between (w .whole) (inl (w .low, w .high))
         | no u ↦
             let l : reader ≤ g = le-of-lt (lt-of-not-le u) in
             let w = within reader g l (rw (min-eq-right l, max-eq-left l) at e) in
-            stands (w .whole) (inr (passed (w .whole) (w .low), w .high))
+            writer-between (w .whole) (inr (passed (w .whole) (w .low), w .high))
       ]
     where
       within : (a b : ℕ) → a ≤ b → isNone (latest (written h register) (keep another (drop a (take b J)))) ≡ false

@@ -38,15 +38,11 @@ module _ (start : Store) (h : List Event) (J : List Place) (r : readable h ≡ t
   known : Known h
   known i l = lt-of-lt-of-le (begun h r i l) (begins-take (suc i) h)
 
-  -- what the status of t says of its events, and the other way round
-  stands : (t : ℕ) (s : Status) → (status h t ≡ s) ↔ Stands s h t
-  stands t s = status-iff h r t s
-
   -- ---- a justification explains
 
   allowed : Justified start h J → (t : ℕ) → t < begins h → (s : Status) → Stands s h t → allows s (outcome t J) ≡ true
   unfolding outcomeKept
-  allowed j t l s e = subst (λ (x : Status). allows x (outcome t J) ≡ true) (stands t s .1 e) (j .outcomes t l)
+  allowed j t l s e = subst (λ (x : Status). allows x (outcome t J) ≡ true) (status-iff h r t s .1 e) (j .outcomes t l)
 
   -- the two of `EndedBefore` are transactions of the history
   by-known : (p : Event → Bool) (t i : ℕ) → i < length h → by p t (eventAt h i) ≡ true → t < begins h
@@ -92,10 +88,10 @@ module _ (start : Store) (h : List Event) (J : List Place) (r : readable h ≡ t
   kept x t l = go (status h t) refl
     where
       go : (s : Status) → status h t ≡ s → allows s (outcome t J) ≡ true
-      go committed e = x .committed t l (stands t committed .0 e)
-      go aborted e = ap not (x .aborted t l (stands t aborted .0 e))
+      go committed e = x .committed t l (status-iff h r t committed .0 e)
+      go aborted e = ap not (x .aborted t l (status-iff h r t aborted .0 e))
       go pending e = refl
-      go live e = let w = stands t live .0 e in ap not (x .unfinished t l (w .0) (w .1))
+      go live e = let w = status-iff h r t live .0 e in ap not (x .unfinished t l (w .0) (w .1))
 
   timed : Explains start h J → (u : ℕ) → u < begins h → realTimeKept h J u ≡ true
   unfolding realTimeKept preceded
