@@ -26,11 +26,15 @@ use log::rows::Row;
 use log::rows::transactions_begun;
 use log::starts::is_admitted;
 use marking_writer::write_marking;
-use reads::gaps_at_readers;
+use reads::count_by;
+use reads::put_gaps;
 use records::record::Record;
 
 // Question 31: at most this many transactions are searched.
 const SEARCHED: usize = 10;
+
+// The slots of the last writes of so many transactions, one a register.
+const LAST_WRITES: usize = 320;
 
 // The finder's answer: the length of the marking written, none, or the question that says no with its event.
 pub enum Finding {
@@ -58,24 +62,25 @@ fn write_found(
     let order = placed.order;
     let outcomes = placed.outcomes;
     let place = arrays::readers_by(codes, begun);
-    gaps_at_readers(log, &place, gaps);
+    let mut last = [0u16; LAST_WRITES];
+    put_gaps(log, &place, &mut last, gaps);
     let count = log.len();
     write_marking(&order, &outcomes, begun, &gaps[..count], output)
 }
 
 // The lowest marking of a log, if it has one, put into an output that has room for any.
-fn find_lowest(starts: &[u32; 32], log: &[Row], output: &mut [u8]) -> Finding
+fn find_lowest(starts: &[u32; 32], log: &[Row], begun: usize, output: &mut [u8]) -> Finding
     requires { ⌜ Judged (logged (now log)) ⌝ }
+    requires { ⌜ begun ≡ begins (logged (now log)) ⌝ }
     requires { ⌜ markingSize (logged (now log)) ≤ length (now output) ⌝ }
     ensures { λ r. ⌜
         gives r (now (output .exit))
         ≡ decided Readable (lowestMarking (startOf (now (starts .entry))) (logged (now (log .entry)))) (now (output .entry)) ⌝ }
 {
-    let found = lowest::find_order(starts, log);
+    let found = lowest::find_order(starts, log, begun);
     if found == 0 {
         return Finding::None;
     }
-    let begun = transactions_begun(log);
     let codes = places::state::codes_of(found, begun);
     if log.len() <= 64 {
         let mut few = [0u16; 64];
@@ -99,7 +104,8 @@ pub fn find_log(starts: &[u32; 32], log: &[Row], count: usize, output: &mut [u8]
             at: count,
         });
     }
-    let reads = reads::count_store_reads(log);
+    let mut last = [0u16; LAST_WRITES];
+    let reads = count_by(log, &mut last);
     if output.len()
         < Record::WHOLE_HEAD + Record::WHOLE_PLACE * begun + Record::WHOLE_POINT * reads
     {
@@ -108,7 +114,7 @@ pub fn find_log(starts: &[u32; 32], log: &[Row], count: usize, output: &mut [u8]
             at: count,
         });
     }
-    find_lowest(starts, log, output)
+    find_lowest(starts, log, begun, output)
 }
 
 // What the questions refuse, and else what is found of the first of the rows taken in.

@@ -76,17 +76,17 @@ ended-zero x = bit-none x
 shaped-zero : Shaped (tablesOf [] .facts)
 unfolding tablesOf goThrough empty
 shaped-zero =
-    let row : List ℕ = replicate 67 0 in
+    let row : List ℕ = replicate 72 0 in
     record {
       rows = length-replicate {A = List ℕ} 11 row;
-      row = λ t l. ap length (getD-replicate 11 t row [] l) ∙ length-replicate {A = ℕ} 67 0;
+      row = λ t l. ap length (getD-replicate 11 t row [] l) ∙ length-replicate {A = ℕ} 72 0;
     }
 
-pub fact-zero : (t k : ℕ) → t < 11 → k < 67 → fact (tablesOf [] .facts) t k ≡ 0
+pub fact-zero : (t k : ℕ) → t < 11 → k < 72 → fact (tablesOf [] .facts) t k ≡ 0
 unfolding tablesOf goThrough empty
 fact-zero t k l m =
-    let row : List ℕ = replicate 67 0 in
-    ap (λ (r : List ℕ). getD r k 0) (getD-replicate 11 t row [] l) ∙ getD-replicate 67 k 0 0 m
+    let row : List ℕ = replicate 72 0 in
+    ap (λ (r : List ℕ). getD r k 0) (getD-replicate 11 t row [] l) ∙ getD-replicate 72 k 0 0 m
 
 after-zero : (t x : ℕ) → t < 10 → bitAt x (fact (tablesOf [] .facts) t 0) ≡ digit (precedes [] x t)
 unfolding precedes

@@ -4,6 +4,7 @@ ghost use mathlib.Core.Bool.{cond};
 ghost use mathlib.Core.Option.{none};
 ghost use Prim.Native.Nat.{_≤_};
 ghost use lib.Dec.{eqb};
+ghost use Rattle.events.specs.Events.{begins};
 ghost use Rattle.log.specs.Rows.{logged};
 ghost use Rattle.log.specs.Starts.{startOf};
 ghost use Rattle.opacity.specs.Lowest.{lowestOf};
@@ -12,7 +13,6 @@ ghost use Rattle.tables.specs.Tables.{tablesBy};
 ghost use Rattle.lowest.specs.Order.{constraintsOf, Judged, orderOf};
 use log::rows::Row;
 use log::rows::event_at;
-use log::rows::transactions_begun;
 use places::facts::Facts;
 use tables::Standing;
 use tables::no_events;
@@ -31,12 +31,13 @@ pub fn complete(starts: &[u32; 32], s: Standing, facts: &[Facts; 11], transactio
     search::find(starts, facts, transactions)
 }
 
-// The lowest justification of a log, as the search answers it.
-pub fn find_order(starts: &[u32; 32], log: &[Row]) -> u64
+// The lowest justification of a log in which so many transactions begin, as the search answers it.
+pub fn find_order(starts: &[u32; 32], log: &[Row], begun: usize) -> u64
     requires { ⌜ Judged (logged (now log)) ⌝ }
+    requires { ⌜ begun ≡ begins (logged (now log)) ⌝ }
     ensures { λ r. ⌜ orderOf (logged (now (log .entry))) r ≡ lowestOf (startOf (now (starts .entry))) (logged (now (log .entry))) ⌝ }
 {
-    let mut facts = [[0u64; 67]; 11];
+    let mut facts = [[0u64; 72]; 11];
     let mut s = no_events();
     let mut i: usize = 0;
     while i < log.len() {
@@ -44,5 +45,5 @@ pub fn find_order(starts: &[u32; 32], log: &[Row]) -> u64
         s = s.step(&mut facts, e);
         i += 1;
     }
-    complete(starts, s, &facts, transactions_begun(log))
+    complete(starts, s, &facts, begun)
 }

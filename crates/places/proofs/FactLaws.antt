@@ -17,11 +17,11 @@ module _ (f : List (List ℕ)) (h : Shaped f) (t k v : ℕ) (l : t < 11) where
   pub put-shaped : Shaped (put f t k v)
   put-shaped = record { rows = length-set f t _ ∙ h .rows; row = λ u m. go u m (eqb u t) refl }
     where
-      go : (u : ℕ) → u < 11 → (b : Bool) → eqb u t ≡ b → length (getD (put f t k v) u []) ≡ 67
+      go : (u : ℕ) → u < 11 → (b : Bool) → eqb u t ≡ b → length (getD (put f t k v) u []) ≡ 72
       go u m true e = rw (eqb-true u t e, getD-set-same f t (set (getD f t []) k v) [] (rw (h .rows) l)) (length-set (getD f t []) k v ∙ h .row t l)
       go u m false e = rw (getD-set-other f t u (set (getD f t []) k v) [] (eqb-false u t e)) (h .row u m)
 
-  pub put-here : k < 67 → fact (put f t k v) t k ≡ v
+  pub put-here : k < 72 → fact (put f t k v) t k ≡ v
   put-here m = rw (getD-set-same f t (set (getD f t []) k v) [] (rw (h .rows) l)) (getD-set-same (getD f t []) k v 0 (rw (h .row t l) m))
 
   pub put-elsewhere : (j : ℕ) → j ≢ k → fact (put f t k v) t j ≡ fact f t j

@@ -43,7 +43,7 @@ requiredOf f t r = fact f t (3 + r)
 abbrev pub writtenOf : List (List ℕ) → ℕ → ℕ → ℕ
 writtenOf f t r = fact f t (35 + r)
 
--- a table of eleven rows of 67 numbers
+-- a table of eleven rows of 72 numbers, of which the first 67 are used
 pub record Shaped (f : List (List ℕ)) : Type 0 where
   pub rows : length f ≡ 11
-  pub row : (t : ℕ) → t < 11 → length (getD f t []) ≡ 67
+  pub row : (t : ℕ) → t < 11 → length (getD f t []) ≡ 72

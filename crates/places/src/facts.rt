@@ -3,8 +3,9 @@ ghost use mathlib.Core.Path.{_≡_};
 ghost use Prim.Native.Nat.{_<_};
 ghost use Rattle.places.specs.Facts.{readsAsked};
 
-// Of a transaction, or of the end: see the columns below.
-pub type Facts = [u64; 67];
+// The row of a transaction, or of the end: 67 numbers, in the columns below. It has nine lines of 64 bytes, so that the place of a row is
+// found by an addition and a shift: the walks of the search find one at each step.
+pub type Facts = [u64; 72];
 
 // The rows of the transactions come first.
 pub const TRANSACTIONS: usize = 10;

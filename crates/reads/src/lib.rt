@@ -117,7 +117,7 @@ fn one_if(holds: bool) -> usize
 }
 
 // How many reads of the store the log has, counted with a lent table of last writes.
-fn count_by(log: &[Row], last: &mut [u16]) -> usize
+pub fn count_by(log: &[Row], last: &mut [u16]) -> usize
     requires { ⌜ readable (logged (now log)) ≡ true ⌝ }
     requires { ⌜ Blank (begins (logged (now log))) (now last) ⌝ }
     ensures { λ r. ⌜ r ≡ length (storeReads (logged (now (log .entry)))) ⌝ }
@@ -158,8 +158,8 @@ fn gap_of(e: Event, own: u16, place: &[u16; 64]) -> u16
     NO_POINT
 }
 
-// Puts the gaps of a log's events, with a lent table of last writes.
-fn put_gaps(log: &[Row], place: &[u16; 64], last: &mut [u16], gaps: &mut [u16])
+// Puts the gap of each event of a log, where each store read has its point at its reader's place, with a lent table of last writes.
+pub fn put_gaps(log: &[Row], place: &[u16; 64], last: &mut [u16], gaps: &mut [u16])
     requires { ⌜ readable (logged (now log)) ≡ true ⌝ }
     requires { ⌜ Blank (begins (logged (now log))) (now last) ⌝ }
     requires { ⌜ length (now log) ≤ length (now gaps) ⌝ }
@@ -172,19 +172,4 @@ fn put_gaps(log: &[Row], place: &[u16; 64], last: &mut [u16], gaps: &mut [u16])
         gaps[i] = gap_of(e, own, place);
         i += 1;
     }
-}
-
-// The gap of each event of a log, where each store read has its point at its reader's place.
-pub fn gaps_at_readers(log: &[Row], place: &[u16; 64], gaps: &mut [u16])
-    requires { ⌜ readable (logged (now log)) ≡ true ⌝ }
-    requires { ⌜ length (now log) ≤ length (now gaps) ⌝ }
-    ensures { λ _. ⌜ Front 0 (placedAt (logged (now (log .entry))) (now (place .entry))) (length (now (log .entry))) (now (gaps .exit)) ⌝ }
-{
-    if transactions_begun(log) <= FEW {
-        let mut few = [0u16; 320];
-        put_gaps(log, place, &mut few, gaps);
-        return;
-    }
-    let mut last = [0u16; 2048];
-    put_gaps(log, place, &mut last, gaps);
 }

@@ -79,7 +79,7 @@ fn scan_prefixes(starts: &[u32; 32], log: &[Row]) -> Scanned
     requires { ⌜ Judged (logged (now log)) ⌝ }
     ensures { λ r. ⌜ r ≡ scan (startOf (now (starts .entry))) (logged (now (log .entry))) ⌝ }
 {
-    let mut facts = [[0u64; 67]; 11];
+    let mut facts = [[0u64; 72]; 11];
     let mut s = tables::no_events();
     let mut n: usize = 0;
     let mut order: u64 = 1;

@@ -16,7 +16,7 @@ use Rattle.places.specs.Tree.{Constraints, constraints, firstCompletion, fromCa
 use Rattle.places.specs.Tree.{allowsOutcome, noneIn, legalReads, legalAt, remove, upFrom}
 
 h0 : Constraints
-h0 = constraints (replicate 32 0) (put (put (put (put (put (replicate 11 (replicate 67 0)) 0 1 1) 0 38 8) 1 2 8) 1 6 1) 10 0 3)
+h0 = constraints (replicate 32 0) (put (put (put (put (put (replicate 11 (replicate 72 0)) 0 1 1) 0 38 8) 1 2 8) 1 6 1) 10 0 3)
 
 h0-lowest : firstCompletion h0 2 ≡ some (2 ∷ 1 ∷ [])
 unfolding

@@ -42,7 +42,7 @@ module _ (b : Bool) (f : List (List ℕ)) (h : Shaped f) (t k v : ℕ) (l : t < 
       go false d e = refl
 
   -- and this one changes in the row of t
-  pub put-if-at : k < 67 → (u : ℕ) → fact (putIf b f t k v) u k ≡ cond (eqb t u and b) v (fact f u k)
+  pub put-if-at : k < 72 → (u : ℕ) → fact (putIf b f t k v) u k ≡ cond (eqb t u and b) v (fact f u k)
   unfolding putIf _and_
   put-if-at m u = go b (eqb t u) refl
     where
@@ -53,7 +53,7 @@ module _ (b : Bool) (f : List (List ℕ)) (h : Shaped f) (t k v : ℕ) (l : t < 
       go false false e = refl
 
 -- the same in the columns of registers, from column d on
-pub put-if-register : (b : Bool) (f : List (List ℕ)) → Shaped f → (t d r v : ℕ) → t < 11 → d + r < 67 → (u q : ℕ)
+pub put-if-register : (b : Bool) (f : List (List ℕ)) → Shaped f → (t d r v : ℕ) → t < 11 → d + r < 72 → (u q : ℕ)
     → fact (putIf b f t (d + r) v) u (d + q) ≡ cond ((eqb t u and b) and eqb r q) v (fact f u (d + q))
 put-if-register b f h t d r v l m u q = go (eqb r q) refl
   where

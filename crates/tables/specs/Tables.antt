@@ -93,7 +93,7 @@ next s e =
     }
 
 unfoldable pub empty : Tables
-empty = record { ended = 0; facts = replicate 11 (replicate 67 0); contradictory = 0 }
+empty = record { ended = 0; facts = replicate 11 (replicate 72 0); contradictory = 0 }
 
 unfoldable pub goThrough : Tables → List Event → Tables
 goThrough s [] = s

@@ -180,7 +180,7 @@ impl Standing {
 
 // The standing before any event; the table then holds 0.
 pub fn no_events() -> Standing
-    ensures { λ r. ⌜ tablesBy r (replicate 11 (replicate 67 0)) ≡ empty ⌝ }
+    ensures { λ r. ⌜ tablesBy r (replicate 11 (replicate 72 0)) ≡ empty ⌝ }
 {
     Standing {
         ended: 0,

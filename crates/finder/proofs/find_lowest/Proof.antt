@@ -25,27 +25,27 @@ use Rattle.finder.proofs.find_lowest.Tie as tie
 
 -- the function's entry, the history given, and the order found
 abbrev entered : tie.After-codes-of → tie.Start
-entered a = a .before .before .before .before .before
+entered a = a .before .before .before .before
 
 abbrev given : tie.Start → List Event
 given s = logged (s .args .log .now)
 
 abbrev codes : tie.After-codes-of → List ℕ
-codes a = take (a .before .transactions-begun .result) (a .codes-of .result)
+codes a = take (entered a .args .begun) (a .codes-of .result)
 
 -- the order is that of the lowest justification
 lowest : (a : tie.After-codes-of) → some (decode (codes a)) ≡ lowestOf (startOf (entered a .args .starts .now)) (given (entered a))
 lowest a =
     let s = entered a in
-    let f = a .before .before .before .find-order in
-    places-found (startOf (s .args .starts .now)) (given s) (s .pre .0) (a .codes-of .result) (f .result) (a .before .transactions-begun .result)
-    (a .before .before .if1 .left) (f .ensures) (a .before .transactions-begun .ensures) (a .codes-of .ensures)
+    let f = a .before .before .find-order in
+    places-found (startOf (s .args .starts .now)) (given s) (s .pre .0) (a .codes-of .result) (f .result) (s .args .begun)
+    (a .before .if1 .left) (f .ensures) (s .pre .1 .0) (a .codes-of .ensures)
 
 -- there is room for its marking
 fits : (a : tie.After-codes-of) → length (foundBytes (given (entered a)) (codes a)) ≤ length (entered a .args .output .now)
 fits a =
     let s = entered a in
-    marking-fits (startOf (s .args .starts .now)) (given s) (s .pre .0) (length (s .args .output .now)) (lowest a) (s .pre .1)
+    marking-fits (startOf (s .args .starts .now)) (given s) (s .pre .0) (length (s .args .output .now)) (lowest a) (s .pre .1 .1)
 
 returns : tie.Need-returns
 returns c =
@@ -54,14 +54,11 @@ returns c =
     let f = c .before .find-order in
     decided-none (s .args .output .now) refl (marking-none o (given s) (s .pre .0) (answer-none o (given s) (s .pre .0) (f .result) (c .if1 .taken) (f .ensures)))
 
-transactions-begun-requires : tie.Need-transactions-begun-requires
-transactions-begun-requires c κs = c .before .before .before .pre .0 .readable
-
 write-found-requires : tie.Need-write-found-requires
 write-found-requires c κs =
     let t = c .before .before in
     let a = t .before in
-    (entered a .pre .0, ((a .before .transactions-begun .ensures, t .if2 .taken), fits a))
+    (entered a .pre .0, ((entered a .pre .1 .0, t .if2 .taken), fits a))
 
 returns-2 : tie.Need-returns-2
 returns-2 c =
@@ -76,7 +73,7 @@ write-found-requires-2 c κs =
     let a = c .before .before .before in
     let s = entered a in
     let short : length (s .args .log .now) ≤ 2048 = omega (arith, readable-most (given s) (s .pre .0 .readable), logged-length (s .args .log .now)) in
-    (s .pre .0, ((a .before .transactions-begun .ensures, short), fits a))
+    (s .pre .0, ((s .pre .1 .0, short), fits a))
 
 returns-3 : tie.Need-returns-3
 returns-3 c =
@@ -89,5 +86,5 @@ returns-3 c =
 pub find-lowest-spec : {M : Type 1} → statement M
 find-lowest-spec =
     tie.close
-    (tie.spec (λ c κs. search needs) returns transactions-begun-requires (λ c κs. search needs) (λ c. search needs) write-found-requires
+    (tie.spec (λ c κs. search needs) returns (λ c κs. search needs) (λ c. search needs) write-found-requires
     (λ c. search needs) returns-2 (λ c. search needs) write-found-requires-2 (λ c. search needs) returns-3)
