@@ -18,7 +18,7 @@ use Rattle.events.specs.Events.{begins}
 use Rattle.events.specs.Questions.{readable as isReadable}
 use Rattle.opacity.specs.declared.verdict.Scanned.{Scanned}
 use Rattle.opacity.specs.declared.verdict.Verdict.{Verdict}
-use Rattle.opacity.specs.Transactions.{Status, committed, aborted, pending, live, Stands}
+use Rattle.opacity.specs.Transactions.{Status, committed, aborted, pending, live, HasStatus}
 use Rattle.opacity.specs.Justification.{Justified}
 use Rattle.opacity.specs.declared.verdict.Rule.{Rule}
 use Rattle.opacity.specs.Marking.{Marking as Content, verdict, namedEvent, namedTransaction}
@@ -79,7 +79,7 @@ module _ (s : List ℕ) (by : Bytes s) (l : Log) (file : historyOf s ≡ readabl
   tally-counts-once t k = counted-once h t k
 
   -- that which its events say
-  pub tally-counts-as : (s : Status) (t : ℕ) → (times t (standing s h) ≡ 1) ↔ ((t < countsOf h .transactions) × Stands s h t)
+  pub tally-counts-as : (s : Status) (t : ℕ) → (times t (standing s h) ≡ 1) ↔ ((t < countsOf h .transactions) × HasStatus s h t)
   unfolding countsOf counts
   tally-counts-as s t = counted-iff h is-readable s t
 

@@ -22,8 +22,8 @@ use Rattle.opacity.specs.Counts.{one}
 use Rattle.opacity.proofs.HowMany.{kept-snoc, howMany, how-many-none, how-many-same, how-many-moved}
 use Rattle.opacity.proofs.Bounds.{transaction-known}
 use Rattle.opacity.proofs.Statuses.{ended-by, no-second, status-iff}
-use Rattle.counts.specs.Tally.{stands, standing, tally}
-use Rattle.counts.proofs.Theorems.{stands-so, so-stands}
+use Rattle.counts.specs.Tally.{hasStatus, standing, tally}
+use Rattle.counts.proofs.Theorems.{has-status, status-has}
 
 -- events of a kind that ends a transaction, and the status of those that have one
 module _ (h : List Event) (r : readable h ≡ true) (p : Event → Bool) (s : Status)
@@ -78,7 +78,7 @@ module _ (h : List Event) (r : readable h ≡ true) (p : Event → Bool) (s : St
   unfolding standing
   ends-counted =
       let whole : take (length h) h ≡ h = take-all (length h) h (le-refl (length h)) in
-      how-many-same (stands s h) (λ t. has p t h) (begins h) (λ t m. both-ways _ _ (λ e. means t .0 (so-stands s h t e)) (λ e. stands-so s h t (means t .1 e)))
+      how-many-same (hasStatus s h) (λ t. has p t h) (begins h) (λ t m. both-ways _ _ (λ e. means t .0 (status-has s h t e)) (λ e. has-status s h t (means t .1 e)))
       ∙ sym (subst (λ (g : List Event). length (keep p g) ≡ howMany (λ t. has p t g) (begins h)) whole (counted (length h) (le-refl (length h))))
 
 module _ (h : List Event) (r : readable h ≡ true) where

@@ -27,13 +27,13 @@ standing-low pending = omega arith
 standing-low live = omega arith
 
 -- the transaction u stands as k
-abbrev standsAs : List Event → ℕ → ℕ → Bool
-standsAs h k u = eqb (statusNumber (status h u)) k
+abbrev statusIs : List Event → ℕ → ℕ → Bool
+statusIs h k u = eqb (statusNumber (status h u)) k
 
 pub record Counted (h : List Event) (many : List ℕ) (t : ℕ) : Type 0 where
   pub inside : t ≤ begins h
   pub size : length many ≡ 4
-  pub holds : (k : ℕ) → k < 4 → getD many k 0 ≡ howMany (standsAs h k) t
+  pub holds : (k : ℕ) → k < 4 → getD many k 0 ≡ howMany (statusIs h k) t
 
 module _ (h : List Event) where
   pub counted-first : Counted h (replicate 4 0) 0
@@ -46,15 +46,15 @@ module _ (h : List Event) where
     number-low = omega (arith, same, standing-low (status h t))
 
     pub counts-few : getD many s 0 ≤ t
-    counts-few = omega (arith, w .holds s number-low, how-many-low (standsAs h s) t)
+    counts-few = omega (arith, w .holds s number-low, how-many-low (statusIs h s) t)
 
     pub counted-more : Counted h (set many s (getD many s 0 + 1)) (t + 1)
     counted-more = record { inside = omega arith; size = length-set many s _ ∙ w .size; holds = λ k m. go k m (eqb s k) refl }
       where
-        added : (k : ℕ) → howMany (standsAs h k) (t + 1) ≡ howMany (standsAs h k) t + one (eqb s k)
-        added k = how-many-more (standsAs h k) t ∙ ap (λ (x : ℕ). howMany (standsAs h k) t + one (eqb x k)) (sym same)
+        added : (k : ℕ) → howMany (statusIs h k) (t + 1) ≡ howMany (statusIs h k) t + one (eqb s k)
+        added k = how-many-more (statusIs h k) t ∙ ap (λ (x : ℕ). howMany (statusIs h k) t + one (eqb x k)) (sym same)
 
-        go : (k : ℕ) → k < 4 → (b : Bool) → eqb s k ≡ b → getD (set many s (getD many s 0 + 1)) k 0 ≡ howMany (standsAs h k) (t + 1)
+        go : (k : ℕ) → k < 4 → (b : Bool) → eqb s k ≡ b → getD (set many s (getD many s 0 + 1)) k 0 ≡ howMany (statusIs h k) (t + 1)
         go k m true e =
             let q : s ≡ k = eqb-true s k e in
             let one-more : one (eqb s k) ≡ 1 = ap one e in
@@ -70,13 +70,13 @@ module _ (h : List Event) where
 
   -- the counts after the last transaction
   module _ (many : List ℕ) (t : ℕ) (l : begins h ≤ t) (w : Counted h many t) where
-    stands-so : (s : Status) → getD many (statusNumber s) 0 ≡ length (standing s h)
+    has-status : (s : Status) → getD many (statusNumber s) 0 ≡ length (standing s h)
     unfolding standing
-    stands-so s =
+    has-status s =
         let e : t ≡ begins h = omega (arith, w .inside) in
-        w .holds (statusNumber s) (standing-low s) ∙ ap (howMany (standsAs h (statusNumber s))) e
+        w .holds (statusNumber s) (standing-low s) ∙ ap (howMany (statusIs h (statusNumber s))) e
 
     pub counted-all : _≡_ {A = Tally} record { committed = getD many 3 0; aborted = getD many 2 0; pending = getD many 1 0; live = getD many 0 0 } (tally h)
     unfolding tally
     counted-all =
-        λ i. record { committed = stands-so committed i; aborted = stands-so aborted i; pending = stands-so pending i; live = stands-so live i }
+        λ i. record { committed = has-status committed i; aborted = has-status aborted i; pending = has-status pending i; live = has-status live i }

@@ -19,14 +19,14 @@ use Rattle.log.specs.Columns.{Columns, history}
 use Rattle.events.specs.Questions.{readable}
 use Rattle.log.specs.Answer.{columnsAnswer}
 use Rattle.lists.proofs.ListLaws.{and-false-l, eqb-self, keep-both}
-use Rattle.opacity.specs.Transactions.{Status, committed, aborted, pending, live, Stands, statusNumber, status}
+use Rattle.opacity.specs.Transactions.{Status, committed, aborted, pending, live, HasStatus, statusNumber, status}
 use Rattle.opacity.specs.Counts.{one, counts}
 use Rattle.opacity.proofs.HowMany.{howMany, how-many-suc, how-many-none, how-many-moved}
 use Rattle.opacity.proofs.Statuses.{status-iff}
 use Rattle.counts.specs.declared.Counting.{Counting}
 use Rattle.counts.specs.declared.Tallying.{Tallying}
 use Rattle.counts.specs.declared.tally.Tally.{Tally}
-use Rattle.counts.specs.Tally.{stands, standing, tally, times}
+use Rattle.counts.specs.Tally.{hasStatus, standing, tally, times}
 use Rattle.counts.specs.Answer.{counted, transactionsAnswer, tallied, tallyAnswer}
 
 -- a status is one of the four
@@ -67,53 +67,53 @@ named-back aborted = refl
 named-back pending = refl
 named-back live = refl
 
-pub stands-so : (s : Status) (h : List Event) (t : ℕ) → status h t ≡ s → stands s h t ≡ true
-stands-so s h t e = ap (λ (z : Status). eqb (statusNumber z) (statusNumber s)) e ∙ eqb-self (statusNumber s)
+pub has-status : (s : Status) (h : List Event) (t : ℕ) → status h t ≡ s → hasStatus s h t ≡ true
+has-status s h t e = ap (λ (z : Status). eqb (statusNumber z) (statusNumber s)) e ∙ eqb-self (statusNumber s)
 
-pub so-stands : (s : Status) (h : List Event) (t : ℕ) → stands s h t ≡ true → status h t ≡ s
-so-stands s h t q = sym (named-back (status h t)) ∙ (ap named (eqb-true _ _ q) ∙ named-back s)
+pub status-has : (s : Status) (h : List Event) (t : ℕ) → hasStatus s h t ≡ true → status h t ≡ s
+status-has s h t q = sym (named-back (status h t)) ∙ (ap named (eqb-true _ _ q) ∙ named-back s)
 
 module _ (h : List Event) where
-  all-counted : (n : ℕ) → howMany (stands committed h) n + howMany (stands aborted h) n + howMany (stands pending h) n + howMany (stands live h) n ≡ n
+  all-counted : (n : ℕ) → howMany (hasStatus committed h) n + howMany (hasStatus aborted h) n + howMany (hasStatus pending h) n + howMany (hasStatus live h) n ≡ n
   unfolding range keep
   all-counted zero = refl
   all-counted (suc n) =
-      omega (arith, how-many-suc (stands committed h) n, how-many-suc (stands aborted h) n, how-many-suc (stands pending h) n, how-many-suc (stands live h) n, one-of-four (status h n), all-counted n)
+      omega (arith, how-many-suc (hasStatus committed h) n, how-many-suc (hasStatus aborted h) n, how-many-suc (hasStatus pending h) n, how-many-suc (hasStatus live h) n, one-of-four (status h n), all-counted n)
 
   pub adds-up : tally h .committed + tally h .aborted + tally h .pending + tally h .live ≡ begins h
   unfolding tally standing
   adds-up = all-counted (begins h)
 
   -- a transaction is counted once as what it is
-  counted-as : (s : Status) (t : ℕ) → t < begins h → times t (standing s h) ≡ one (stands s h t)
+  counted-as : (s : Status) (t : ℕ) → t < begins h → times t (standing s h) ≡ one (hasStatus s h t)
   unfolding standing
-  counted-as s t l = times-below (stands s h) t (begins h) l
+  counted-as s t l = times-below (hasStatus s h) t (begins h) l
 
   pub counted-once : (t : ℕ) → t < begins h
       → times t (standing committed h) + times t (standing aborted h) + times t (standing pending h) + times t (standing live h) ≡ 1
   counted-once t l = rw (counted-as committed t l, counted-as aborted t l, counted-as pending t l, counted-as live t l) (one-of-four (status h t))
 
   -- and in which of the four, in a readable history: in the one that its events say
-  pub counted-iff : readable h ≡ true → (s : Status) (t : ℕ) → (times t (standing s h) ≡ 1) ↔ ((t < begins h) × Stands s h t)
+  pub counted-iff : readable h ≡ true → (s : Status) (t : ℕ) → (times t (standing s h) ≡ 1) ↔ ((t < begins h) × HasStatus s h t)
   unfolding standing
   counted-iff r s t = (
     λ e.
         elim (decLt t (begins h)) [
-          | yes l ↦ (l, status-iff h r t s .0 (passes (stands s h t) refl (sym (counted-as s t l) ∙ e)))
-          | no f ↦ absurd (omega (arith, e, times-beyond (stands s h) t (begins h) (omega arith)))
+          | yes l ↦ (l, status-iff h r t s .0 (passes (hasStatus s h t) refl (sym (counted-as s t l) ∙ e)))
+          | no f ↦ absurd (omega (arith, e, times-beyond (hasStatus s h) t (begins h) (omega arith)))
         ],
-    λ x. counted-as s t (x .0) ∙ ap one (stands-so s h t (status-iff h r t s .1 (x .1))),
+    λ x. counted-as s t (x .0) ∙ ap one (has-status s h t (status-iff h r t s .1 (x .1))),
   )
     where
-      passes : (b : Bool) → stands s h t ≡ b → one b ≡ 1 → status h t ≡ s
-      passes true q e = so-stands s h t q
+      passes : (b : Bool) → hasStatus s h t ≡ b → one b ≡ 1 → status h t ≡ s
+      passes true q e = status-has s h t q
       passes false q e = absurd (omega (arith, e))
 
 -- where there is a tally there is a count of the transactions, and the four add up to it
-pub told-adds-up : (c : Columns) (count : ℕ) (x : Tally) → tallyAnswer c count ≡ Tallying.Tallied x
+pub tally-adds-up : (c : Columns) (count : ℕ) (x : Tally) → tallyAnswer c count ≡ Tallying.Tallied x
     → transactionsAnswer c count ≡ Counting.Counted (x .committed + x .aborted + x .pending + x .live)
 unfolding tallyAnswer transactionsAnswer counts
-told-adds-up c count x e = go (columnsAnswer c count) e
+tally-adds-up c count x e = go (columnsAnswer c count) e
   where
     go : (y : Checked) → tallied y (tally (history c count)) ≡ Tallying.Tallied x
         → counted y (begins (history c count)) ≡ Counting.Counted (x .committed + x .aborted + x .pending + x .live)

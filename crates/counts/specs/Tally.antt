@@ -13,12 +13,12 @@ use Rattle.opacity.specs.Transactions.{Status, committed, aborted, pending, liv
 use Rattle.counts.specs.declared.tally.Tally.{Tally}
 
 -- a transaction has this status
-abbrev pub stands : Status → List Event → ℕ → Bool
-stands s h t = eqb (statusNumber (status h t)) (statusNumber s)
+abbrev pub hasStatus : Status → List Event → ℕ → Bool
+hasStatus s h t = eqb (statusNumber (status h t)) (statusNumber s)
 
 -- the transactions of a history that have it, rising
 unfoldable pub standing : Status → List Event → List ℕ
-standing s h = keep (stands s h) (range (begins h))
+standing s h = keep (hasStatus s h) (range (begins h))
 
 unfoldable pub tally : List Event → Tally
 tally h = record {

@@ -14,7 +14,7 @@ use lib.Dec.{eqb}
 use borrow.Author.Tests.{eqb-true, eqb-false, eq-eqb, ne-eqb}
 use Rattle.lists.specs.Lists.{_and_, _or_, orElse, any, push, keep, lowestFrom}
 use Rattle.opacity.specs.Justification.{Place, isOf, placed}
-use Rattle.opacity.specs.Lowest.{place, lowestPlace, goOn}
+use Rattle.opacity.specs.Lowest.{place, lowestPlace, continued}
 use Rattle.lists.proofs.ListLaws.{or-false, not-true, not-false, below-cases, any-append, lowest-upwards}
 use Rattle.places.specs.Tree.{Constraints, Completion, remove, upFrom, legalReads, fitsAt, firstOf, tryOne, tryBoth, placingAll}
 use Rattle.places.specs.Facts.{endRow}
@@ -150,10 +150,10 @@ module _ (D : Constraints) (ok : List Place → Place → Bool) (n : ℕ)
     (ending : (p : List ℕ) → legalReads D p endRow ≡ true) where
   -- what the definition tries next after P
   tries : ℕ → List Place → Place → Option (List Place)
-  tries k P p = cond (ok P p) (goOn ok n k (P ++ (p ∷ []))) none
+  tries k P p = cond (ok P p) (continued ok n k (P ++ (p ∷ []))) none
 
-  pub trees : (k : ℕ) (p u : List ℕ) → State n p u → decoded (placingAll D k p u u) ≡ goOn ok n k (decode p)
-  unfolding placingAll goOn lowestPlace tries tryBoth tryOne free
+  pub trees : (k : ℕ) (p u : List ℕ) → State n p u → decoded (placingAll D k p u u) ≡ continued ok n k (decode p)
+  unfolding placingAll continued lowestPlace tries tryBoth tryOne free
   trees zero p u s = rw (ending p)
   trees (suc k) p u s =
       ap (λ (l : List ℕ). decoded (firstOf (tryBoth D (λ p′ u′. placingAll D k p′ u′ u′) p u) l)) (s .left)
@@ -167,15 +167,15 @@ module _ (D : Constraints) (ok : List Place → Place → Bool) (n : ℕ)
       none-tried t q = rw (fresh (decode p) (place t false) q, fresh (decode p) (place t true) q)
 
       one-tried : (t : ℕ) (c : Bool) → t < n → placed t (decode p) ≡ false
-          → decoded (placingAll D k (p ++ ((t * 2 + digit c) ∷ [])) (remove t u) (remove t u)) ≡ goOn ok n k (decode (p ++ ((t * 2 + digit c) ∷ [])))
+          → decoded (placingAll D k (p ++ ((t * 2 + digit c) ∷ [])) (remove t u) (remove t u)) ≡ continued ok n k (decode (p ++ ((t * 2 + digit c) ∷ [])))
           → decoded (tryOne D (λ p′ u′. placingAll D k p′ u′ u′) p u t (digit c)) ≡ tries k (decode p) (place t c)
       one-tried t c l q ih =
           let d : decode (p ++ ((t * 2 + digit c) ∷ [])) ≡ decode p ++ (place t c ∷ []) =
           decode-snoc p (t * 2 + digit c) ∙ ap (λ (x : Place). decode p ++ (x ∷ [])) (place-code t c) in
           decoded-cond (fitsAt D p u t (digit c)) _
-          ∙ ap₂ (λ (b : Bool) (o : Option (List Place)). cond b o none) (agree p u s t l q c) (ih ∙ ap (goOn ok n k) d)
+          ∙ ap₂ (λ (b : Bool) (o : Option (List Place)). cond b o none) (agree p u s t l q c) (ih ∙ ap (continued ok n k) d)
 
-      both-tried : (t : ℕ) → ((c : Bool) → decoded (placingAll D k (p ++ ((t * 2 + digit c) ∷ [])) (remove t u) (remove t u)) ≡ goOn ok n k (decode (p ++ ((t * 2 + digit c) ∷ []))))
+      both-tried : (t : ℕ) → ((c : Bool) → decoded (placingAll D k (p ++ ((t * 2 + digit c) ∷ [])) (remove t u) (remove t u)) ≡ continued ok n k (decode (p ++ ((t * 2 + digit c) ∷ []))))
           → t < n → placed t (decode p) ≡ false
           → decoded (tryBoth D (λ p′ u′. placingAll D k p′ u′ u′) p u t) ≡ orElse (tries k (decode p) (place t false)) (tries k (decode p) (place t true))
       both-tried t ih l q =

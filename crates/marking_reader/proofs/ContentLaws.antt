@@ -18,10 +18,10 @@ use Rattle.opacity.proofs.Finder.{events-of}
 use Rattle.opacity.proofs.Bounds.{at-most-64}
 use Rattle.marking_reader.specs.declared.step.Step.{Step}
 use Rattle.marking_reader.specs.declared.step.Step.the-variants.{Placed, Pointed, Refused, Unfinished, Finished}
-use Rattle.marking_reader.specs.File.{known, Asked, asked, everyPointed, stepAt, goOn, walk}
+use Rattle.marking_reader.specs.File.{known, Asked, asked, everyPointed, stepAt, continued, walk}
 use Rattle.marking_reader.specs.File.{content, refused, opening, afterOpening, fileRead}
 use Rattle.marking_reader.specs.State.{pointBy, askedBy, soFar, Sound, Kept}
-use Rattle.marking_reader.proofs.StepLaws.{placed-told, pointed-told, finished-told}
+use Rattle.marking_reader.proofs.StepLaws.{placed-means, pointed-means, finished-means}
 use Rattle.marking_reader.proofs.PointLaws.{points-kept, gaps-low}
 use Rattle.marking_reader.proofs.SoundLaws.{arrays-fresh, sound-start, nothing-so, step-same, end-so, end-kept}
 use Rattle.marking_reader.proofs.SoundLaws.{place-so, place-sound, point-so, point-sound}
@@ -60,19 +60,19 @@ module _ (h : List Event) (s : List ℕ) (m′ : Marking) where
       pointed : Bool
       pointed = every (pointBy h gaps) (length h)
 
-      go : (x : Step) → stepAt asks pointed s at ≡ x → goOn (walk (known h) left s) s at M x ≡ content m′ → Going left → Arrays h m′
+      go : (x : Step) → stepAt asks pointed s at ≡ x → continued (walk (known h) left s) s at M x ≡ content m′ → Going left → Arrays h m′
       go (Placed t o end) q d ih =
-          let w = placed-told asks s at pointed t o end q in
+          let w = placed-means asks s at pointed t o end q in
           ih end (set order filled t) (set outcomes filled o) (set used t true) (filled + 1) gaps next (place-sound y t o (w .fine))
           (ap (walk (known h) left s end) (place-so y t o (w .fine)) ∙ d)
       go (Pointed i g end) q d ih =
-          let w = pointed-told asks s at pointed i g end q in
+          let w = pointed-means asks s at pointed i g end q in
           ih end order outcomes used filled (set gaps i g) (i + 1) (point-sound y i g (w .fine))
           (ap (walk (known h) left s end) (point-so y i g (w .fine)) ∙ d)
       go (Refused q′) q d ih = absurd (refused≢content q′ at m′ d)
       go (Unfinished q′) q d ih = absurd (refused≢content q′ (length s) m′ d)
       go Finished q d ih =
-          let w = finished-told asks s at pointed q in
+          let w = finished-means asks s at pointed q in
           let z : M ≡ m′ = cc in
           record {
             order = order;

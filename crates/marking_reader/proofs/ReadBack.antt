@@ -28,7 +28,7 @@ use Rattle.opacity.proofs.MarkingBytes.{marking-length, readable-length}
 use Rattle.opacity.proofs.Orders.{distinct-at}
 use Rattle.marking_reader.specs.declared.step.Step.the-variants.{Placed, Pointed, Finished}
 use Rattle.marking_reader.specs.File.{Known, known, asked, transactionIn, outcomeIn, eventIn, gapIn, nextEvent, everyPlaced, hasPoint}
-use Rattle.marking_reader.specs.File.{everyPointed, headQuestions, endQuestions, bodyStep, endStep, stepOn, stepAt, goOn, walk}
+use Rattle.marking_reader.specs.File.{everyPointed, headQuestions, endQuestions, bodyStep, endStep, stepOn, stepAt, continued, walk}
 use Rattle.marking_reader.specs.File.{FileRead, content, opening, nothingRead, afterOpening, fileRead}
 use Rattle.marking_reader.specs.State.{placeQuestions, pointQuestions, placeStep, pointStep}
 use Rattle.marking_reader.proofs.StepLaws.{body-place, body-point}
@@ -159,7 +159,7 @@ module _ (k : Known) (few : k .transactions ≤ 64) (P : List Place) (all-points
 
   -- one step of the walk
   abbrev step : ℕ → List ℕ → ℕ → Marking → FileRead
-  step n s at m = goOn (walk k n s) s at m (stepAt (asked k m) (everyPointed k m) s at)
+  step n s at m = continued (walk k n s) s at m (stepAt (asked k m) (everyPointed k m) s at)
 
   points-back : (qs done : List Point) (pre : List ℕ) (n : ℕ) → done ++ qs ≡ all-points → length qs < n
       → rising (nextEvent done) (map (λ q. q .event) qs) ≡ true → all (λ q. k .storeRead (q .event)) qs ≡ true
@@ -171,7 +171,7 @@ module _ (k : Known) (few : k .transactions ≤ 64) (P : List Place) (all-points
       let d : done ≡ all-points = sym (append-nil done) ∙ e in
       let c : everyPointed k (upTo done) ≡ true = rw d complete in
       subst (λ (x : List ℕ). step n x (length pre) (upTo done) ≡ content whole) (sym (append-nil pre))
-      (ap (goOn (walk k n pre) pre (length pre) (upTo done)) (end-back k (upTo done) pre full c)
+      (ap (continued (walk k n pre) pre (length pre) (upTo done)) (end-back k (upTo done) pre full c)
       ∙ ap (λ (x : List Point). content (record { places = P; points = x })) d)
   points-back (q ∷ qs) done pre zero e l r a w g = absurd (omega arith)
   points-back (q ∷ qs) done pre (suc n) e l r a w g =
@@ -182,7 +182,7 @@ module _ (k : Known) (few : k .transactions ≤ 64) (P : List Place) (all-points
       let y : pre ++ (pointBytes q ++ later) ≡ (pre ++ pointBytes q) ++ later = sym (append-assoc pre (pointBytes q) later) in
       let d : (done ++ (q ∷ [])) ++ qs ≡ all-points = append-assoc done (q ∷ []) qs ∙ e in
       let v : nextEvent (done ++ (q ∷ [])) ≡ q .event + 1 = next-more done q in
-      ap (goOn (walk k n (pre ++ (pointBytes q ++ later))) (pre ++ (pointBytes q ++ later)) (length pre) m)
+      ap (continued (walk k n (pre ++ (pointBytes q ++ later))) (pre ++ (pointBytes q ++ later)) (length pre) m)
       (point-back k (everyPointed k m) m pre later q (ltb-true _ _ (and-l _ _ w)) (omega arith) full
       (and-l _ _ r) (and-l _ _ a) (and-l _ _ g))
       ∙ ((λ i. walk k n (y i) (x i) (record { places = P; points = done ++ (q ∷ []) }))
@@ -211,7 +211,7 @@ module _ (k : Known) (few : k .transactions ≤ 64) (P : List Place) (all-points
         let fresh : placed (p .transaction) done ≡ false = distinct-at done p ps (ap distinct e ∙ apart) .0 in
         let c = outcome-is (p .committed) in
         ap (λ (b : List ℕ). step n b (length pre) m) z
-        ∙ (ap (goOn (walk k n (pre ++ (placeBytes p ++ rest))) (pre ++ (placeBytes p ++ rest)) (length pre) m)
+        ∙ (ap (continued (walk k n (pre ++ (placeBytes p ++ rest))) (pre ++ (placeBytes p ++ rest)) (length pre) m)
         (place-back k (everyPointed k m) m pre rest p (ltb-true _ _ (and-l _ _ low)) few fresh refl)
         ∙ ((λ i. walk k n (y i) (x i) (unpointed (done ++ (record { transaction = p .transaction; committed = c i } ∷ []))))
         ∙ places-back ps (done ++ (p ∷ [])) (pre ++ placeBytes p) n d (omega arith) (and-r _ _ low)))

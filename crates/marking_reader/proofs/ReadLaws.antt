@@ -17,9 +17,9 @@ use Rattle.opacity.specs.Marking.{Marking}
 use Rattle.rules.specs.Judge.{content as inArrays}
 use Rattle.marking_reader.specs.declared.step.Step.{Step}
 use Rattle.marking_reader.specs.declared.step.Step.the-variants.{Placed, Pointed, Refused, Unfinished, Finished}
-use Rattle.marking_reader.specs.File.{known, Asked, stepAt, content, refused, goOn, walk, fileRead}
+use Rattle.marking_reader.specs.File.{known, Asked, stepAt, content, refused, continued, walk, fileRead}
 use Rattle.marking_reader.specs.State.{pointBy, askedBy, pointsOf, soFar, Sound, Kept, readAs}
-use Rattle.marking_reader.proofs.StepLaws.{placed-told, pointed-told, finished-told}
+use Rattle.marking_reader.proofs.StepLaws.{placed-means, pointed-means, finished-means}
 use Rattle.marking_reader.proofs.PointLaws.{pt, points-kept}
 use Rattle.marking_reader.proofs.SoundLaws.{step-same, end-so, end-kept}
 use Rattle.marking_reader.proofs.SoundLaws.{room, place-low, outcome-low, place-so, place-sound, inside, point-so, point-sound}
@@ -55,7 +55,7 @@ module _ {h : List Event} {order outcomes : List ℕ} {used : List Bool} {filled
   abbrev read : Marking
   read = soFar order outcomes filled gaps next
 
-  on : (x : Step) → stepAt asks pointed s at ≡ x → fileRead (known h) s ≡ goOn (walk (known h) (g .left) s) s at read x
+  on : (x : Step) → stepAt asks pointed s at ≡ x → fileRead (known h) s ≡ continued (walk (known h) (g .left) s) s at read x
   on x q = on-step (known h) s at read g x (sym (step-same y s at) ∙ q)
 
   reached : (m m′ : Marking) (end : ℕ) → (at < end) × (end ≤ length s) → m′ ≡ m → fileRead (known h) s ≡ walk (known h) (g .left) s end m
@@ -75,7 +75,7 @@ module _ {h : List Event} {order outcomes : List ℕ} {used : List Bool} {filled
 
   pub placing : {t o end : ℕ} → stepAt asks pointed s at ≡ Placed t o end → Placing t o end
   placing {t} {o} {end} q =
-      let w = placed-told asks s at pointed t o end q in
+      let w = placed-means asks s at pointed t o end q in
       let l = place-ends w in
       let few = y .few-begun in
       record {
@@ -98,7 +98,7 @@ module _ {h : List Event} {order outcomes : List ℕ} {used : List Bool} {filled
 
   pub pointing : {e gap end : ℕ} → stepAt asks pointed s at ≡ Pointed e gap end → Pointing e gap end
   pointing {e} {gap} {end} q =
-      let w = pointed-told asks s at pointed e gap end q in
+      let w = pointed-means asks s at pointed e gap end q in
       let l = point-ends w in
       let few = y .few in
       record {
@@ -121,6 +121,6 @@ module _ {h : List Event} {order outcomes : List ℕ} {used : List Bool} {filled
   -- the end
   pub finished : stepAt asks pointed s at ≡ Finished → Answers h s order outcomes gaps Readable
   finished d =
-      let w = finished-told asks s at pointed d in
+      let w = finished-means asks s at pointed d in
       let k = end-kept y (w .1) (w .2) in
       (ap content (arrays-so k ∙ end-so y (w .1) (w .2)) ∙ sym (on Finished d), λ e. k)

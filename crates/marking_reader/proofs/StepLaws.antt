@@ -111,7 +111,7 @@ body-given true (some q) x y n d = absurd (n q d)
 body-given false o x y n d = absurd (n 23 d)
 
 -- a record that gives a place: its body, and that no question says no
-pub record PlaceTold (a : Asked) (s : List ℕ) (at t o end : ℕ) : Type 0 where
+pub record PlaceRead (a : Asked) (s : List ℕ) (at t o end : ℕ) : Type 0 where
   pub whole : Record
   pub there : recordAt s at ≡ Whole whole
   pub kind : isPlace (whole .kind) ≡ true
@@ -121,7 +121,7 @@ pub record PlaceTold (a : Asked) (s : List ℕ) (at t o end : ℕ) : Type 0 wher
   pub ends : whole .start + whole .size ≡ end
   pub fine : refusal (placeQuestions (a .transactions) (a .nextEvent) (a .placed t) t o) ≡ none
 
-pub record PointTold (a : Asked) (s : List ℕ) (at e g end : ℕ) : Type 0 where
+pub record PointRead (a : Asked) (s : List ℕ) (at e g end : ℕ) : Type 0 where
   pub whole : Record
   pub there : recordAt s at ≡ Whole whole
   pub kind : isPoint (whole .kind) ≡ true
@@ -145,10 +145,10 @@ module _ (a : Asked) (s : List ℕ) (at : ℕ) where
   abbrev pointGiven : Record → Step
   pointGiven r = Pointed (eventIn (body r)) (gapIn (body r)) (ends r)
 
-  placed-told-body : (r : Record) (t o end : ℕ) → recordAt s at ≡ Whole r → isPlace (r .kind) ≡ true
-      → placeBody a (body r) (ends r) ≡ Placed t o end → PlaceTold a s at t o end
+  placed-means-body : (r : Record) (t o end : ℕ) → recordAt s at ≡ Whole r → isPlace (r .kind) ≡ true
+      → placeBody a (body r) (ends r) ≡ Placed t o end → PlaceRead a s at t o end
   unfolding placeStep
-  placed-told-body r t o end w k d =
+  placed-means-body r t o end w k d =
       let g = body-given _ (placeAsked a (body r)) (placeGiven r) (Placed t o end) (λ q. refused≢placed q t o end) d in
       let same = g .2 in
       let x : transactionIn (body r) ≡ t = cc in
@@ -165,10 +165,10 @@ module _ (a : Asked) (s : List ℕ) (at : ℕ) where
         fine = sym (λ i. refusal (placeQuestions (a .transactions) (a .nextEvent) (a .placed (x i)) (x i) (y i))) ∙ g .1;
       }
 
-  pointed-told-body : (r : Record) (t o end : ℕ) → recordAt s at ≡ Whole r → isPoint (r .kind) ≡ true
-      → pointBody a (body r) (ends r) ≡ Pointed t o end → PointTold a s at t o end
+  pointed-means-body : (r : Record) (t o end : ℕ) → recordAt s at ≡ Whole r → isPoint (r .kind) ≡ true
+      → pointBody a (body r) (ends r) ≡ Pointed t o end → PointRead a s at t o end
   unfolding pointStep
-  pointed-told-body r t o end w k d =
+  pointed-means-body r t o end w k d =
       let g = body-given _ (pointAsked a (body r)) (pointGiven r) (Pointed t o end) (λ q. refused≢pointed q t o end) d in
       let same = g .2 in
       let x : eventIn (body r) ≡ t = cc in
@@ -213,40 +213,40 @@ module _ (a : Asked) (s : List ℕ) (at : ℕ) where
   end≢pointed false q t o e d = let z : _≡_ {A = ℕ} 0 1 = cc in omega arith
 
   module _ (pointed : Bool) where
-    pub placed-told : (t o end : ℕ) → stepAt a pointed s at ≡ Placed t o end → PlaceTold a s at t o end
+    pub placed-means : (t o end : ℕ) → stepAt a pointed s at ≡ Placed t o end → PlaceRead a s at t o end
     unfolding stepAt
-    placed-told t o end d = go (recordAt s at) refl d
+    placed-means t o end d = go (recordAt s at) refl d
       where
         by-kind : (r : Record) → recordAt s at ≡ Whole r → bodyStep a (r .kind) (body r) (ends r) ≡ Placed t o end
-            → (x y : Bool) → isPlace (r .kind) ≡ x → isPoint (r .kind) ≡ y → PlaceTold a s at t o end
-        by-kind r w k true y p q = placed-told-body r t o end w p (sym (body-place a (r .kind) (body r) (ends r) p) ∙ k)
+            → (x y : Bool) → isPlace (r .kind) ≡ x → isPoint (r .kind) ≡ y → PlaceRead a s at t o end
+        by-kind r w k true y p q = placed-means-body r t o end w p (sym (body-place a (r .kind) (body r) (ends r) p) ∙ k)
         by-kind r w k false true p q = absurd (point≢placed r t o end (sym (body-point a (r .kind) (body r) (ends r) q) ∙ k))
         by-kind r w k false false p q = absurd (refused≢placed 22 t o end (sym (body-other a (r .kind) (body r) (ends r) p q) ∙ k))
 
-        go : (f : Found) → recordAt s at ≡ f → stepOn a pointed s f ≡ Placed t o end → PlaceTold a s at t o end
+        go : (f : Found) → recordAt s at ≡ f → stepOn a pointed s f ≡ Placed t o end → PlaceRead a s at t o end
         go (Whole r) w k = by-kind r w k (isPlace (r .kind)) (isPoint (r .kind)) refl refl
         go Short w k = absurd (refused≢placed 2 t o end k)
         go End w k = absurd (end≢placed (a .everyPlaced) pointed t o end k)
 
-    pub pointed-told : (t o end : ℕ) → stepAt a pointed s at ≡ Pointed t o end → PointTold a s at t o end
+    pub pointed-means : (t o end : ℕ) → stepAt a pointed s at ≡ Pointed t o end → PointRead a s at t o end
     unfolding stepAt
-    pointed-told t o end d = go (recordAt s at) refl d
+    pointed-means t o end d = go (recordAt s at) refl d
       where
         by-kind : (r : Record) → recordAt s at ≡ Whole r → bodyStep a (r .kind) (body r) (ends r) ≡ Pointed t o end
-            → (x y : Bool) → isPlace (r .kind) ≡ x → isPoint (r .kind) ≡ y → PointTold a s at t o end
+            → (x y : Bool) → isPlace (r .kind) ≡ x → isPoint (r .kind) ≡ y → PointRead a s at t o end
         by-kind r w k true y p q = absurd (place≢pointed r t o end (sym (body-place a (r .kind) (body r) (ends r) p) ∙ k))
-        by-kind r w k false true p q = pointed-told-body r t o end w q (sym (body-point a (r .kind) (body r) (ends r) q) ∙ k)
+        by-kind r w k false true p q = pointed-means-body r t o end w q (sym (body-point a (r .kind) (body r) (ends r) q) ∙ k)
         by-kind r w k false false p q = absurd (refused≢pointed 22 t o end (sym (body-other a (r .kind) (body r) (ends r) p q) ∙ k))
 
-        go : (f : Found) → recordAt s at ≡ f → stepOn a pointed s f ≡ Pointed t o end → PointTold a s at t o end
+        go : (f : Found) → recordAt s at ≡ f → stepOn a pointed s f ≡ Pointed t o end → PointRead a s at t o end
         go (Whole r) w k = by-kind r w k (isPlace (r .kind)) (isPoint (r .kind)) refl refl
         go Short w k = absurd (refused≢pointed 2 t o end k)
         go End w k = absurd (end≢pointed (a .everyPlaced) pointed t o end k)
 
     -- where the walk ends, the file ends, every transaction is placed, and every store read has a point
-    pub finished-told : stepAt a pointed s at ≡ Finished → (recordAt s at ≡ End) × (a .everyPlaced ≡ true) × (pointed ≡ true)
+    pub finished-means : stepAt a pointed s at ≡ Finished → (recordAt s at ≡ End) × (a .everyPlaced ≡ true) × (pointed ≡ true)
     unfolding stepAt bodyStep endStep endQuestions refusal
-    finished-told d = go (recordAt s at) refl d
+    finished-means d = go (recordAt s at) refl d
       where
         no-refused : (q : ℕ) → Refused q ≡ Finished → ⊥
         no-refused q d = let z : _≡_ {A = ℕ} 0 1 = cc in omega arith

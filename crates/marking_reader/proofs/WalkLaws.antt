@@ -9,17 +9,17 @@ use lib.ListN.{length}
 use Rattle.records.proofs.RecordLaws.{whole-in}
 use Rattle.opacity.specs.Marking.{Marking}
 use Rattle.marking_reader.specs.declared.step.Step.{Step}
-use Rattle.marking_reader.specs.File.{Known, Asked, asked, everyPointed, stepAt, refused, goOn, walk, opening, nothingRead, fileRead}
-use Rattle.marking_reader.proofs.StepLaws.{PlaceTold, PointTold}
+use Rattle.marking_reader.specs.File.{Known, Asked, asked, everyPointed, stepAt, refused, continued, walk, opening, nothingRead, fileRead}
+use Rattle.marking_reader.proofs.StepLaws.{PlaceRead, PointRead}
 
 -- a record ends behind where it begins, within the file
 module _ {a : Asked} {s : List ℕ} {at x y end : ℕ} where
-  pub place-ends : PlaceTold a s at x y end → (at < end) × (end ≤ length s)
+  pub place-ends : PlaceRead a s at x y end → (at < end) × (end ≤ length s)
   place-ends w =
       let i = whole-in s at (w .whole) (w .there) in
       (omega (arith, i .0, i .1, w .ends), omega (arith, i .0, i .1, w .ends))
 
-  pub point-ends : PointTold a s at x y end → (at < end) × (end ≤ length s)
+  pub point-ends : PointRead a s at x y end → (at < end) × (end ≤ length s)
   point-ends w =
       let i = whole-in s at (w .whole) (w .there) in
       (omega (arith, i .0, i .1, w .ends), omega (arith, i .0, i .1, w .ends))
@@ -39,9 +39,9 @@ unfolding fileRead
 opening-refused k s q e = rw e
 
 module _ (k : Known) (s : List ℕ) (at : ℕ) (m : Marking) (g : Reached k s at m) where
-  pub on-step : (x : Step) → stepAt (asked k m) (everyPointed k m) s at ≡ x → fileRead k s ≡ goOn (walk k (g .left) s) s at m x
+  pub on-step : (x : Step) → stepAt (asked k m) (everyPointed k m) s at ≡ x → fileRead k s ≡ continued (walk k (g .left) s) s at m x
   unfolding walk
-  on-step x e = g .same ∙ ap (goOn (walk k (g .left) s) s at m) e
+  on-step x e = g .same ∙ ap (continued (walk k (g .left) s) s at m) e
 
   pub reached-next : (m′ : Marking) (e : ℕ) → at < e → e ≤ length s → fileRead k s ≡ walk k (g .left) s e m′ → Reached k s e m′
   reached-next m′ e l b q = go (g .left) (g .enough) q

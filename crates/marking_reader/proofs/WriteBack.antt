@@ -24,15 +24,15 @@ use Rattle.opacity.specs.Marking.{Marking, Point, markingHead, outcomeNumber, p
 use Rattle.opacity.proofs.MarkingBytes.{outcome-back, flat-append}
 use Rattle.marking_reader.specs.declared.step.Step.{Step}
 use Rattle.marking_reader.specs.declared.step.Step.the-variants.{Placed, Pointed, Refused, Unfinished, Finished}
-use Rattle.marking_reader.specs.File.{Known, Asked, asked, outcomeIn, nextEvent, everyPointed, headQuestions, stepAt, goOn, walk}
+use Rattle.marking_reader.specs.File.{Known, Asked, asked, outcomeIn, nextEvent, everyPointed, headQuestions, stepAt, continued, walk}
 use Rattle.marking_reader.specs.File.{content, refused, withPlace, withPoint, headed, opening, nothingRead, afterOpening, fileRead}
 use Rattle.marking_reader.specs.State.{placeQuestions}
-use Rattle.marking_reader.proofs.StepLaws.{PlaceTold, PointTold, placed-told, pointed-told, finished-told}
+use Rattle.marking_reader.proofs.StepLaws.{PlaceRead, PointRead, placed-means, pointed-means, finished-means}
 
 -- ---- a record that was read is the bytes of what it gave
 
 module _ (a : Asked) (s : List ℕ) (at : ℕ) (by : Bytes s) where
-  place-forth : (t o end : ℕ) → PlaceTold a s at t o end → o < 2
+  place-forth : (t o end : ℕ) → PlaceRead a s at t o end → o < 2
       → drop at s ≡ placeBytes (record { transaction = t; committed = eqb o 1 }) ++ drop end s
   place-forth t o end w l =
       let r = w .whole in
@@ -45,7 +45,7 @@ module _ (a : Asked) (s : List ℕ) (at : ℕ) (by : Bytes s) where
       ∙ (λ i. u16Bytes (w .first i) ++ u16Bytes (x i)) in
       record-forth s at r h by 4 32 end _ (sym (body-length s at r h) ∙ w .size) (eqb-true _ _ (w .kind)) b (w .ends)
 
-  point-forth : (e g end : ℕ) → PointTold a s at e g end → drop at s ≡ pointBytes (record { event = e; gap = g }) ++ drop end s
+  point-forth : (e g end : ℕ) → PointRead a s at e g end → drop at s ≡ pointBytes (record { event = e; gap = g }) ++ drop end s
   point-forth e g end w =
       let r = w .whole in
       let h = there s at r (w .there) in
@@ -85,7 +85,7 @@ refused≢content : (q at : ℕ) (m : Marking) → refused q at ≡ content m �
 refused≢content q at m e = let z : _≡_ {A = ℕ} 0 1 = cc in omega arith
 
 module _ (k : Known) (s : List ℕ) (by : Bytes s) (m′ : Marking) where
-  forth-place : (at : ℕ) (m : Marking) (t o end : ℕ) → Forth s at m → PlaceTold (asked k m) s at t o end → Forth s end (withPlace m t o)
+  forth-place : (at : ℕ) (m : Marking) (t o end : ℕ) → Forth s at m → PlaceRead (asked k m) s at t o end → Forth s end (withPlace m t o)
   unfolding placeQuestions
   forth-place at m t o end f w =
       let q = head-yes _ _ (w .fine) in
@@ -100,7 +100,7 @@ module _ (k : Known) (s : List ℕ) (by : Bytes s) (m′ : Marking) where
         unpointed = f .unpointed;
       }
 
-  forth-point : (at : ℕ) (m : Marking) (e g end : ℕ) → Forth s at m → PointTold (asked k m) s at e g end → Forth s end (withPoint m e g)
+  forth-point : (at : ℕ) (m : Marking) (e g end : ℕ) → Forth s at m → PointRead (asked k m) s at e g end → Forth s end (withPoint m e g)
   unfolding nextEvent
   forth-point at m e g end f w =
       record {
@@ -121,16 +121,16 @@ module _ (k : Known) (s : List ℕ) (by : Bytes s) (m′ : Marking) where
   walk-forth zero at m f e = absurd (refused≢content 0 at m′ e)
   walk-forth (suc left) at m f e = go (stepAt (asked k m) (everyPointed k m) s at) refl e (λ a x. walk-forth left a x)
     where
-      go : (x : Step) → stepAt (asked k m) (everyPointed k m) s at ≡ x → goOn (walk k left s) s at m x ≡ content m′
+      go : (x : Step) → stepAt (asked k m) (everyPointed k m) s at ≡ x → continued (walk k left s) s at m x ≡ content m′
           → ((a : ℕ) (x : Marking) → Forth s a x → walk k left s a x ≡ content m′ → s ≡ markingBytes m′) → s ≡ markingBytes m′
       go (Placed t o end) q d ih =
-          ih end (withPlace m t o) (forth-place at m t o end f (placed-told (asked k m) s at (everyPointed k m) t o end q)) d
+          ih end (withPlace m t o) (forth-place at m t o end f (placed-means (asked k m) s at (everyPointed k m) t o end q)) d
       go (Pointed i g end) q d ih =
-          ih end (withPoint m i g) (forth-point at m i g end f (pointed-told (asked k m) s at (everyPointed k m) i g end q)) d
+          ih end (withPoint m i g) (forth-point at m i g end f (pointed-means (asked k m) s at (everyPointed k m) i g end q)) d
       go (Refused x) q d ih = absurd (refused≢content x at m′ d)
       go (Unfinished x) q d ih = absurd (refused≢content x (length s) m′ d)
       go Finished q d ih =
-          let w = finished-told (asked k m) s at (everyPointed k m) q in
+          let w = finished-means (asked k m) s at (everyPointed k m) q in
           let z : m ≡ m′ = cc in
           let n : drop at s ≡ [] = drop-of-length-le s (end-past s at (w .0)) in
           f .so ∙ (ap (λ (x : List ℕ). markingBytes m ++ x) n ∙ (append-nil (markingBytes m) ∙ ap markingBytes z))

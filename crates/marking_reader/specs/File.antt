@@ -134,16 +134,16 @@ abbrev pub withPoint : Marking → ℕ → ℕ → Marking
 withPoint m e g = record { places = m .places; points = m .points ++ (record { event = e; gap = g } ∷ []) }
 
 -- the byte is the record's, or the file's length at the end
-abbrev pub goOn : (ℕ → Marking → FileRead) → List ℕ → ℕ → Marking → Step → FileRead
-goOn rest s at m (Placed t o end) = rest end (withPlace m t o)
-goOn rest s at m (Pointed e g end) = rest end (withPoint m e g)
-goOn rest s at m (Refused q) = refused q at
-goOn rest s at m (Unfinished q) = refused q (length s)
-goOn rest s at m Finished = content m
+abbrev pub continued : (ℕ → Marking → FileRead) → List ℕ → ℕ → Marking → Step → FileRead
+continued rest s at m (Placed t o end) = rest end (withPlace m t o)
+continued rest s at m (Pointed e g end) = rest end (withPoint m e g)
+continued rest s at m (Refused q) = refused q at
+continued rest s at m (Unfinished q) = refused q (length s)
+continued rest s at m Finished = content m
 
 unfoldable pub walk : Known → ℕ → List ℕ → ℕ → Marking → FileRead
 walk k zero s at m = refused 0 at
-walk k (suc left) s at m = goOn (walk k left s) s at m (stepAt (asked k m) (everyPointed k m) s at)
+walk k (suc left) s at m = continued (walk k left s) s at m (stepAt (asked k m) (everyPointed k m) s at)
 
 abbrev pub headed : List ℕ → Found → Option ℕ
 headed s (Whole r) = refusal (headQuestions s r)

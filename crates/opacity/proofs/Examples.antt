@@ -10,7 +10,7 @@ use Rattle.events.specs.declared.event.Event.{Event}
 use Rattle.events.specs.Events.{isBegin, isRead, isWrite, asksCommit, isCommit, isAbort, isEnd, by, has, begins}
 use Rattle.opacity.specs.Transactions.{status, allows, precedes, lastWrite, ownWrite, isOwnRead, isStoreRead, ownRight}
 use Rattle.opacity.specs.Justification.{Place, placed, before, outcome, written, contents, outcomeKept, preceded, legalOver, realTimeKept}
-use Rattle.opacity.specs.Lowest.{place, fits, lowestPlace, goOn, lowestOf}
+use Rattle.opacity.specs.Lowest.{place, fits, lowestPlace, continued, lowestOf}
 use Rattle.opacity.specs.Marking.{Marking, gapOf, placeOf, others, between, noWriterBetween, valueAtGap, Accepted, lastEvent, beginOf, ruleHolds, broke, tries, verdict}
 use Rattle.opacity.specs.Scan.{Opaque, cause, scan}
 use Rattle.opacity.specs.Store.{put, writesOf, afterWrite, afterPlace, applied}
@@ -35,7 +35,7 @@ pair =
     ∷ event 16 1 1 0 ∷ event 17 1 0 0 ∷ event 18 1 0 5 ∷ []
 
 pub pending-may-commit : scan (λ r. 0) pair ≡ Opaque
-unfolding justification fits lowestPlace goOn lowestOf cause scan pair
+unfolding justification fits lowestPlace continued lowestOf cause scan pair
 pending-may-commit = refl
 
 -- T0 reads 0, writes 5 and commits; its point stands behind it

@@ -15,7 +15,7 @@ use Rattle.events.specs.Questions.{readable}
 use Rattle.lists.proofs.ListLaws.{and-l, imp-e, imp-i, every-e, every-i, or-l, or-r, not-true, any-append}
 use Rattle.events.proofs.EventLaws.{begins-take}
 use Rattle.events.proofs.QuestionLaws.{begun}
-use Rattle.opacity.specs.Transactions.{Status, committed, aborted, pending, live, Stands, status, allows, precedes}
+use Rattle.opacity.specs.Transactions.{Status, committed, aborted, pending, live, HasStatus, status, allows, precedes}
 use Rattle.opacity.specs.Transactions.{EndedBefore}
 use Rattle.opacity.specs.Justification.{Place, isOf, placed, before, outcome, isOrder, OnePlace}
 use Rattle.opacity.specs.Justification.{outcomeKept, preceded, realTimeKept, Justified}
@@ -40,7 +40,7 @@ module _ (start : Store) (h : List Event) (J : List Place) (r : readable h ≡ t
 
   -- ---- a justification explains
 
-  allowed : Justified start h J → (t : ℕ) → t < begins h → (s : Status) → Stands s h t → allows s (outcome t J) ≡ true
+  allowed : Justified start h J → (t : ℕ) → t < begins h → (s : Status) → HasStatus s h t → allows s (outcome t J) ≡ true
   unfolding outcomeKept
   allowed j t l s e = subst (λ (x : Status). allows x (outcome t J) ≡ true) (status-iff h r t s .1 e) (j .outcomes t l)
 

@@ -13,7 +13,7 @@ use Rattle.lists.specs.Lists.{orElse}
 use Rattle.events.specs.declared.event.Event.{Event}
 use Rattle.events.specs.Events.{eventAt, begins}
 use Rattle.opacity.specs.Justification.{Place, Justified}
-use Rattle.opacity.specs.Lowest.{place, below, samePlace, fits, follows, lowestPlace, goOn, lowestOf}
+use Rattle.opacity.specs.Lowest.{place, below, samePlace, fits, follows, lowestPlace, continued, lowestOf}
 use Rattle.lists.proofs.ListLaws.{and-l, and-r, and-i, or-l, or-r, eqb-self, every-i, none-some, lowest-some, lowest-at}
 use Rattle.opacity.proofs.Compare.{notAbove}
 use Rattle.opacity.proofs.Orders.{fills, filled}
@@ -97,15 +97,15 @@ pub record Grown (ok : List Place → Place → Bool) (k : ℕ) (P J : List Plac
 
 -- the places that the search tries after P
 abbrev tries : (List Place → Place → Bool) → ℕ → ℕ → List Place → Place → Option (List Place)
-tries ok n k P p = cond (ok P p) (goOn ok n k (P ++ (p ∷ []))) none
+tries ok n k P p = cond (ok P p) (continued ok n k (P ++ (p ∷ []))) none
 
-pub goOn-sound : (ok : List Place → Place → Bool) (n k : ℕ) (P : List Place) {J : List Place} → goOn ok n k P ≡ some J → Grown ok k P J
-unfolding goOn follows
-goOn-sound ok n zero P {J} e = record { more = []; whole = sym (Option·some-injective P J e) ∙ sym (append-nil P); follow = refl; size = refl }
-goOn-sound ok n (suc k) P e =
+pub continued-sound : (ok : List Place → Place → Bool) (n k : ℕ) (P : List Place) {J : List Place} → continued ok n k P ≡ some J → Grown ok k P J
+unfolding continued follows
+continued-sound ok n zero P {J} e = record { more = []; whole = sym (Option·some-injective P J e) ∙ sym (append-nil P); follow = refl; size = refl }
+continued-sound ok n (suc k) P e =
     let r = place-some (tries ok n k P) n e in
     let c = cond-some _ _ (r .1) in
-    let g = goOn-sound ok n k (P ++ (r .0 ∷ [])) (c .1) in
+    let g = continued-sound ok n k (P ++ (r .0 ∷ [])) (c .1) in
     record {
       more = r .0 ∷ g .more;
       whole = g .whole ∙ append-assoc P (r .0 ∷ []) (g .more);
@@ -125,25 +125,25 @@ same-self p = and-i _ _ (eqb-self (p .transaction)) (go (p .committed))
 pub record Least (ok : List Place → Place → Bool) (n : ℕ) (P S : List Place) : Type 0 where
   pub found : List Place
   pub more : List Place
-  pub finds : goOn ok n (length S) P ≡ some found
+  pub finds : continued ok n (length S) P ≡ some found
   pub whole : found ≡ P ++ more
   pub low : notAbove more S ≡ true
 
-pub goOn-least : (ok : List Place → Place → Bool) (n : ℕ) → ((P : List Place) (p : Place) → ok P p ≡ true → p .transaction < n) → (P S : List Place) → follows ok P S ≡ true → Least ok n P S
-unfolding goOn follows notAbove
-goOn-least ok n known P [] t = record { found = P; more = []; finds = refl; whole = sym (append-nil P); low = refl }
-goOn-least ok n known P (q ∷ S) t =
-    let i = goOn-least ok n known (P ++ (q ∷ [])) S (and-r _ _ t) in
+pub continued-least : (ok : List Place → Place → Bool) (n : ℕ) → ((P : List Place) (p : Place) → ok P p ≡ true → p .transaction < n) → (P S : List Place) → follows ok P S ≡ true → Least ok n P S
+unfolding continued follows notAbove
+continued-least ok n known P [] t = record { found = P; more = []; finds = refl; whole = sym (append-nil P); low = refl }
+continued-least ok n known P (q ∷ S) t =
+    let i = continued-least ok n known (P ++ (q ∷ [])) S (and-r _ _ t) in
     let r = place-least (tries ok n (length S) P) n q (known P q (and-l _ _ t)) (some-cond (and-l _ _ t) (i .finds)) in
     let z = r .0 in
     let c = r .2 .choice in
     let a = cond-some (ok P c) _ (r .2 .answer) in
     ⊎-elim
     (λ b.
-    let g = goOn-sound ok n (length S) (P ++ (c ∷ [])) (a .1) in
+    let g = continued-sound ok n (length S) (P ++ (c ∷ [])) (a .1) in
     record { found = z; more = c ∷ g .more; finds = r .1; whole = g .whole ∙ append-assoc P (c ∷ []) (g .more); low = or-l _ _ b })
     (λ e.
-    let s : some z ≡ some (i .found) = sym (a .1) ∙ ap (λ (x : Place). goOn ok n (length S) (P ++ (x ∷ []))) e ∙ i .finds in
+    let s : some z ≡ some (i .found) = sym (a .1) ∙ ap (λ (x : Place). continued ok n (length S) (P ++ (x ∷ []))) e ∙ i .finds in
     record {
       found = z;
       more = q ∷ i .more;
@@ -159,7 +159,7 @@ module _ (start : ℕ → ℕ) (h : List Event) where
   unfolding lowestOf
   lowest-justifies begun {J} e =
       let c = cond-some _ _ e in
-      let g = goOn-sound (fits start h) (begins h) (begins h) [] (c .1) in
+      let g = continued-sound (fits start h) (begins h) (begins h) [] (c .1) in
       let t : follows (fits start h) [] J ≡ true = rw (g .whole) (g .follow) in
       let k = known-apart start h J t in
       justified start h J begun (c .0) t (fills (begins h) J (k .0) (k .1) (ap length (g .whole) ∙ g .size))
@@ -167,8 +167,8 @@ module _ (start : ℕ → ℕ) (h : List Event) where
   pub lowest-least : {K : List Place} → Justified start h K → (J : List Place) × (lowestOf start h ≡ some J) × (notAbove J K ≡ true)
   unfolding lowestOf
   lowest-least {K} j =
-      let l = goOn-least (fits start h) (begins h) (λ P p t. ltb-true _ _ (fits-e start h P p t .known)) [] K (steps start h K j [] K refl) in
-      let e : goOn (fits start h) (begins h) (begins h) [] ≡ some (l .found) = rw (filled (begins h) K (j .order)) at (l .finds) in
+      let l = continued-least (fits start h) (begins h) (λ P p t. ltb-true _ _ (fits-e start h P p t .known)) [] K (steps start h K j [] K refl) in
+      let e : continued (fits start h) (begins h) (begins h) [] ≡ some (l .found) = rw (filled (begins h) K (j .order)) at (l .finds) in
       (l .found, some-cond (every-i _ _ (j .own)) e, rw (l .whole) (l .low))
 
   pub none-iff : ((i : ℕ) → i < length h → eventAt h i .transaction < begins h) → (lowestOf start h ≡ none) ↔ ((K : List Place) → Justified start h K → ⊥)

@@ -19,7 +19,7 @@ use Rattle.lists.proofs.ListLaws.{and-l, and-r, and-i, or-l, or-r, or-cases, no
 use Rattle.events.proofs.KindLaws.{begin-not-end}
 use Rattle.events.proofs.QuestionLaws.{asked-at}
 use Rattle.events.proofs.StateLaws.{has-snoc}
-use Rattle.opacity.specs.Transactions.{Status, committed, aborted, pending, live, Stands, status}
+use Rattle.opacity.specs.Transactions.{Status, committed, aborted, pending, live, HasStatus, status}
 
 -- a transaction has ended if it is committed or aborted
 pub ended-by : (t : ℕ) (h : List Event) → ended t h ≡ (has isCommit t h or has isAbort t h)
@@ -111,14 +111,14 @@ module _ (h : List Event) (r : readable h ≡ true) (t : ℕ) where
       go false e = refl
       go true e = absurd (not-both h r t (length h) (le-refl (length h)) (rw whole e) (rw whole a))
 
-  by-tests : (s : Status) → Tests s (has isCommit t h) (has isAbort t h) (has asksCommit t h) ↔ Stands s h t
+  by-tests : (s : Status) → Tests s (has isCommit t h) (has isAbort t h) (has asksCommit t h) ↔ HasStatus s h t
   unfolding Tests
   by-tests committed = (λ x. x, λ x. x)
   by-tests aborted = (λ x. x .1, λ a. (uncommitted a, a))
   by-tests pending = (λ x. (x .2, open-ended (x .0) (x .1)), λ x. (not-committed t h (x .1), not-aborted t h (x .1), x .0))
   by-tests live = (λ x. (x .2, open-ended (x .0) (x .1)), λ x. (not-committed t h (x .1), not-aborted t h (x .1), x .0))
 
-  pub status-iff : (s : Status) → (status h t ≡ s) ↔ Stands s h t
+  pub status-iff : (s : Status) → (status h t ≡ s) ↔ HasStatus s h t
   unfolding status chosen
   status-iff s = (
     λ e. by-tests s .0 (subst (λ (x : Status). Tests x (has isCommit t h) (has isAbort t h) (has asksCommit t h)) e (tested (has isCommit t h) (has isAbort t h) (has asksCommit t h))),

@@ -58,13 +58,13 @@ unfoldable pub lowestPlace : {B : Type 0} → (Place → Option B) → ℕ → O
 lowestPlace f n = lowest (λ t. let c = f (place t true) in orElse (f (place t false)) c) n
 
 -- the lowest order that goes on after the places P by `left` places more, each of which `ok` lets come next
-unfoldable pub goOn : (List Place → Place → Bool) → ℕ → ℕ → List Place → Option (List Place)
-goOn ok n zero P = some P
-goOn ok n (suc left) P = lowestPlace (λ p. let r = goOn ok n left (P ++ (p ∷ [])) in cond (ok P p) r none) n
+unfoldable pub continued : (List Place → Place → Bool) → ℕ → ℕ → List Place → Option (List Place)
+continued ok n zero P = some P
+continued ok n (suc left) P = lowestPlace (λ p. let r = continued ok n left (P ++ (p ∷ [])) in cond (ok P p) r none) n
 
 unfoldable pub lowestOf : (ℕ → ℕ) → List Event → Option (List Place)
 lowestOf start h =
-    let r = goOn (fits start h) (begins h) (begins h) [] in
+    let r = continued (fits start h) (begins h) (begins h) [] in
     cond (every (ownRight h) (length h)) r none
 
 -- J goes place by place: own reads are right, each place may come next after those before it, and there are as many as transactions

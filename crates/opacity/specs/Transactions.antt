@@ -32,11 +32,11 @@ statusNumber live = 0
 
 -- what a status says of the events of a readable history: the end is recorded; commit is called and the transaction has not ended; commit
 -- is not called and it has not ended
-abbrev pub Stands : Status → List Event → ℕ → Type 0
-Stands committed h t = has isCommit t h ≡ true
-Stands aborted h t = has isAbort t h ≡ true
-Stands pending h t = (has asksCommit t h ≡ true) × (ended t h ≡ false)
-Stands live h t = (has asksCommit t h ≡ false) × (ended t h ≡ false)
+abbrev pub HasStatus : Status → List Event → ℕ → Type 0
+HasStatus committed h t = has isCommit t h ≡ true
+HasStatus aborted h t = has isAbort t h ≡ true
+HasStatus pending h t = (has asksCommit t h ≡ true) × (ended t h ≡ false)
+HasStatus live h t = (has asksCommit t h ≡ false) × (ended t h ≡ false)
 
 -- the outcomes, true for committed, that a status allows: the recorded one; free after a commit called and unanswered; aborted for
 -- others not ended

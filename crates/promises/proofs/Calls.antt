@@ -20,7 +20,7 @@ use Rattle.log.proofs.ColumnLaws.{history-length}
 use Rattle.lists.proofs.ListLaws.{keep-length, range-length}
 use Rattle.reader.specs.declared.Reading.{Reading}
 use Rattle.reader.specs.declared.HistoryRead.{HistoryRead}
-use Rattle.reader.specs.Reading.{readAnswer, told, saidOf, said as readSaid}
+use Rattle.reader.specs.Reading.{readAnswer, historyRead, saidOf, said as readSaid}
 use Rattle.writer.specs.declared.Writing.{Writing}
 use Rattle.writer.proofs.FileLaws.{length-file, length-most}
 use Rattle.writer.proofs.StartLaws.{starts-most}
@@ -40,7 +40,7 @@ use Rattle.scan.proofs.Theorems.{no-cause-four}
 use Rattle.marking.specs.Answer.{verdictAnswer, said as checkSaid}
 use Rattle.straighten.specs.declared.Straightening.{Straightening}
 use Rattle.straighten.specs.Answer.{straightenedAnswer, said as straightSaid}
-use Rattle.straighten.proofs.AnswerLaws.{told as straight-told}
+use Rattle.straighten.proofs.AnswerLaws.{answer-means as straight-means}
 use Rattle.straighten.proofs.Theorems.{said-straightened, said-broken, never-broken-D, untouched, written-behind, written-accepted}
 use Rattle.counts.specs.declared.tally.Tally.{Tally}
 use Rattle.counts.proofs.SaidLaws.{transactions-exactly, tallied-exactly}
@@ -222,7 +222,7 @@ pub straighten-never-204 : (edition : ℕ) (starts : List ℕ) (c : Columns) (co
     → decoded twoValues ofMarking (straightenCall edition starts c count file out list .number) ≡ broken 4 e t → ⊥
 straighten-never-204 edition starts c count small file out list e t x =
     let s = said-broken _ D e t (sym (straighten-says edition starts c count small file out list) ∙ x) in
-    let w = straight-told edition starts c count file out list (Straightening.Broken D e t) s .0 in
+    let w = straight-means edition starts c count file out list (Straightening.Broken D e t) s .0 in
     never-broken-D edition starts c count file out list (w .0) (w .1) e t s
 
 -- ---- the tally

@@ -22,7 +22,7 @@ use Rattle.opacity.specs.Marking.{Marking, marked, markingBytes, ruleNumber}
 use Rattle.opacity.specs.Scan.{AllJustified, FaultsAt}
 use Rattle.opacity.specs.Verdicts.{AllHold}
 use Rattle.reader.specs.declared.Reading.the-variants.{Read}
-use Rattle.reader.specs.Reading.{TooShort, historyOf, refused, eventsIn, told, readAnswer, said as readSaid}
+use Rattle.reader.specs.Reading.{TooShort, historyOf, refused, eventsIn, historyRead, readAnswer, said as readSaid}
 use Rattle.writer.specs.declared.Writing.the-variants.{Written}
 use Rattle.writer.specs.Writing.{SameEntries, fileOf, answered, writtenAnswer, said as writtenSaid}
 use Rattle.reader.proofs.SaidLaws as reader
@@ -102,7 +102,7 @@ nothing-read = kept.reader-keeps
 -- (`FittingStarts`, `Fitting` and `Bytes` are what the types of the numbers say)
 pub read-what-was-written : (edition : ℕ) (starts : List ℕ) (c d : Columns) (n : ℕ) (out : List ℕ) (len : ℕ) → FittingStarts starts → Fitting c
     → writtenAnswer edition starts c n out .result ≡ Written len → hold d n ≡ true
-    → (readAnswer (take len (writtenAnswer edition starts c n out .output)) d .result ≡ told n edition starts)
+    → (readAnswer (take len (writtenAnswer edition starts c n out .output)) d .result ≡ historyRead n edition starts)
     × SameEntries n (readAnswer (take len (writtenAnswer edition starts c n out .output)) d .columns) c
 read-what-was-written = round.read-written
 

@@ -19,7 +19,7 @@ use Rattle.opacity.specs.Justification.{Place, Justified}
 use Rattle.opacity.specs.Lowest.{LowestJustified}
 use Rattle.opacity.specs.Marking.{marked, markingBytes}
 use Rattle.reader.specs.Reading.{Outcome, eventsOf, eventsIn, readAnswer}
-use Rattle.writer.proofs.RoundTrip.{read-stands}
+use Rattle.writer.proofs.RoundTrip.{read-passes}
 use Rattle.finder.specs.Answer.{markingSize, Given, Passed, foundAnswer, said}
 use Rattle.finder.proofs.AnswerLaws.{said-marking}
 use Rattle.finder.proofs.Theorems.{found-said, none-said}
@@ -47,14 +47,14 @@ module _ (file : List ℕ) (c : Columns) (count prefix : ℕ) (output : List ℕ
   events = take prefix (eventsIn file)
 
   same-events : history filled count ≡ eventsIn file
-  same-events = sym (ap eventsOf (read-stands file c count (d .bytes) (d .read) .1))
+  same-events = sym (ap eventsOf (read-passes file c count (d .bytes) (d .read) .1))
 
   same-prefix : take prefix (history filled count) ≡ events
   same-prefix = ap (take prefix) same-events
 
   no-question : Passed edition starts filled count prefix (length output)
   no-question =
-      let a = read-stands file c count (d .bytes) (d .read) .0 in
+      let a = read-passes file c count (d .bytes) (d .read) .0 in
       let r = history-readable edition starts filled count a in
       record {
         held = hold-i filled count (r .0);

@@ -14,7 +14,7 @@ use Rattle.records.specs.Bytes.{over}
 use Rattle.log.specs.Columns.{Columns, history, hold, filledWith}
 use Rattle.log.specs.Answer.{columnsAnswer, historyAnswer}
 use Rattle.reader.specs.declared.HistoryRead.{HistoryRead}
-use Rattle.reader.specs.Reading.{Log, Outcome, readable, refused, historyOf, told, declined, answered as filledIn, filled, readAnswer}
+use Rattle.reader.specs.Reading.{Log, Outcome, readable, refused, historyOf, historyRead, notRead, answered as filledIn, filled, readAnswer}
 use Rattle.writer.specs.declared.Writing.{Writing}
 use Rattle.writer.specs.declared.Writing.the-variants.{Written, Refused as Unwritten}
 use Rattle.writer.specs.Writing.{fileOf, answered, written, writtenAnswer}
@@ -79,10 +79,10 @@ unfolding readAnswer
 reader-held file c d e = go (historyOf file)
   where
     tells : Bool → Log → HistoryRead
-    tells b l = cond b (told (length (l .events)) (l .edition) (l .starts)) (declined 14 (length file))
+    tells b l = cond b (historyRead (length (l .events)) (l .edition) (l .starts)) (notRead 14 (length file))
 
     by-room : (l : Log) (x : Columns) (b : Bool)
-        → cond b (filledIn (told (length (l .events)) (l .edition) (l .starts)) (filledWith (l .events) x)) (filledIn (declined 14 (length file)) x) .result ≡ tells b l
+        → cond b (filledIn (historyRead (length (l .events)) (l .edition) (l .starts)) (filledWith (l .events) x)) (filledIn (notRead 14 (length file)) x) .result ≡ tells b l
     by-room l x true = refl
     by-room l x false = refl
 

@@ -49,10 +49,10 @@ fn broken_by(rule: Rule, log: &[Row], fact: Fact, t: usize) -> Verdict
     requires { ⌜ t < 64 ⌝ }
     ensures { λ v. ⌜ v ≡ Broken rule (slot fact (logged (now (log .entry))) t (length (logged (now (log .entry)))) - 1) t ⌝ }
 {
-    let told = table(log, fact);
+    let slots = table(log, fact);
     Verdict::Broken {
         rule,
-        event: less_one(told[t]),
+        event: less_one(slots[t]),
         transaction: t,
     }
 }

@@ -59,13 +59,13 @@ use Rattle.marking_reader.proofs.ContentLaws.{content-readable}
 use Rattle.counts.specs.declared.Counting.{Counting}
 use Rattle.counts.specs.declared.Tallying.{Tallying}
 use Rattle.counts.specs.declared.tally.Tally.{Tally}
-use Rattle.counts.specs.Tally.{stands, standing, tally}
+use Rattle.counts.specs.Tally.{hasStatus, standing, tally}
 use Rattle.counts.specs.Answer.{counted, transactionsAnswer, storeReadsAnswer, tallied, tallyAnswer, countSaid, tallySaid}
 use Rattle.straighten.specs.declared.Straightening.{Straightening}
 use Rattle.straighten.specs.Straight.{straightened}
 use Rattle.straighten.specs.Answer.{straightenedAnswer, said as straightSaid}
 use Rattle.straighten.proofs.StraightLaws.{straight-length, moved-few}
-use Rattle.straighten.proofs.AnswerLaws.{told}
+use Rattle.straighten.proofs.AnswerLaws.{answer-means}
 use Rattle.codes.specs.Codes.{most, place, Within, Halves, Quarters, Known}
 use Rattle.codes.specs.Decoded.{noValue, oneValue, twoValues, fourValues, always, never, ofMarking}
 use Rattle.codes.proofs.CodeLaws.{two-back, four-back, Decodable}
@@ -113,7 +113,7 @@ marking-decodable values {r} m =
 read-halves : (file : List ℕ) (c : Columns) (n : ℕ) → readAnswer file c .result .reading ≡ Reading.Read n → Halves (readAnswer file c .result .edition) n
 read-halves file c n x =
     let w = was-read file c n x in
-    let t : readAnswer file c .result .edition ≡ w .says .edition = ap (λ (r : HistoryRead). r .edition) (w .told) in
+    let t : readAnswer file c .result .edition ≡ w .says .edition = ap (λ (r : HistoryRead). r .edition) (w .read) in
     let l = read-limits file (w .says) (w .file) in
     record { upper = ⊎-elim (λ a. omega arith) (λ a. omega arith) (l .edition); lower = omega (arith, l .events, w .count) }
 
@@ -253,7 +253,7 @@ module _ (edition : ℕ) (starts : List ℕ) (c : Columns) (count : ℕ) (small 
 
   straightened-halves : (file output list : List ℕ) (n k : ℕ) → straightenedAnswer edition starts c count file output list .result ≡ Straightening.Straightened n k → Halves k n
   straightened-halves file output list n k x =
-      let d = told edition starts c count file output list (Straightening.Straightened n k) x in
+      let d = answer-means edition starts c count file output list (Straightening.Straightened n k) x in
       let m = d .marking in
       let h = history c count in
       let r = call-readable edition starts c count (d .passes .fine) in
@@ -274,7 +274,7 @@ module _ (edition : ℕ) (starts : List ℕ) (c : Columns) (count : ℕ) (small 
       go : (j : Straightening) → straightenedAnswer edition starts c count file output list .result ≡ j → Decodable twoValues ofMarking (straightSaid j)
       go (Straightening.Straightened n k) w = let h = straightened-halves file output list n k w in (h, two-back k n h)
       go (Straightening.Broken q i t) w =
-          let d = told edition starts c count file output list (Straightening.Broken q i t) w .0 in
+          let d = answer-means edition starts c count file output list (Straightening.Broken q i t) w .0 in
           let h = history c count in
           let r = call-readable edition starts c count (d .1 .fine) in
           let m = straightened (startOf starts) h (d .0) in
@@ -304,7 +304,7 @@ module _ (c : Columns) (count : ℕ) (small : count ≤ most) where
   -- no more transactions stand so than begin
   standing-few : readable (history c count) ≡ true → (s : Status) → length (standing s (history c count)) ≤ 64
   unfolding standing
-  standing-few r s = omega (arith, how-many-low (stands s (history c count)) (begins (history c count)), at-most-64 (history c count) r)
+  standing-few r s = omega (arith, how-many-low (hasStatus s (history c count)) (begins (history c count)), at-most-64 (history c count) r)
 
   tally-quarters : readable (history c count) ≡ true
       → Quarters (tally (history c count) .committed) (tally (history c count) .aborted) (tally (history c count) .pending) (tally (history c count) .live)

@@ -23,15 +23,15 @@ use Rattle.lists.proofs.ListLaws.{and-l, and-r, or-cases}
 use Rattle.events.proofs.QuestionLaws.{asked, head-yes}
 use Rattle.records.proofs.RecordLaws.{whole-in}
 use Rattle.steps.proofs.StepLaws.{starting}
-use Rattle.reader.specs.Reading.{isEdition, opening, Log, readable, refused, goOn, walk, opened, historyOf}
+use Rattle.reader.specs.Reading.{isEdition, opening, Log, readable, refused, continued, walk, opened, historyOf}
 use Rattle.reader.proofs.OpeningLaws.{opens, head-long, head-known}
 use Rattle.reader.proofs.WalkLaws.{event-in, readable≢}
 use Rattle.opacity.specs.Marking.{Marking}
 use Rattle.marking_reader.specs.declared.step.Step.{Step as MarkingStep}
 use Rattle.marking_reader.specs.File.{Known, Asked, asked as askedOf, everyPointed, isPlace, headQuestions, recordQuestions as markingQuestions, endQuestions, taken}
 use Rattle.marking_reader.specs.File.{unless as unlessBy, bodyStep, endStep, stepOn as markingStepOn, stepAt as markingStepAt}
-use Rattle.marking_reader.specs.File.{refused as refusedFile, goOn as goOnMarking, walk as walkMarking, headed, opening as openingMarking, nothingRead, afterOpening, fileRead}
-use Rattle.marking_reader.proofs.StepLaws.{placed-told, pointed-told}
+use Rattle.marking_reader.specs.File.{refused as refusedFile, continued as continuedMarking, walk as walkMarking, headed, opening as openingMarking, nothingRead, afterOpening, fileRead}
+use Rattle.marking_reader.proofs.StepLaws.{placed-means, pointed-means}
 use Rattle.marking_reader.proofs.WalkLaws.{place-ends, point-ends}
 use Rattle.codes.specs.Codes.{Within}
 use Rattle.sendoshi.proofs.Numbers.{within, is-within, numbered-by, numbered}
@@ -81,7 +81,7 @@ walk-number zero s at next l q b i m x = absurd (omega arith)
 walk-number (suc n) s at next l q b i m x =
     go (recordStep (l .edition) s at next (past (l .events))) refl x (λ end k y. walk-number n s end k y q b)
   where
-    go : (y : Step) → recordStep (l .edition) s at next (past (l .events)) ≡ y → goOn (walk n s) at next l y ≡ refused q b
+    go : (y : Step) → recordStep (l .edition) s at next (past (l .events)) ≡ y → continued (walk n s) at next l y ≡ refused q b
         → ((end k : ℕ) (y : Log) → end ≤ length s → length s < end + n → walk n s end k y ≡ refused q b → HistoryNumber 13 q × (b ≤ length s))
         → HistoryNumber 13 q × (b ≤ length s)
     go (Step.Taken e end) w k ih =
@@ -125,7 +125,7 @@ unfolding walk eventQuestions
 walk-count zero s at next l m i x = let z : _≡_ {A = ℕ} 0 1 = cc in absurd (omega arith)
 walk-count (suc n) s at next l m i x = go (recordStep (l .edition) s at next (past (l .events))) refl x (λ end k y. walk-count n s end k y m)
   where
-    go : (y : Step) → recordStep (l .edition) s at next (past (l .events)) ≡ y → goOn (walk n s) at next l y ≡ readable m
+    go : (y : Step) → recordStep (l .edition) s at next (past (l .events)) ≡ y → continued (walk n s) at next l y ≡ readable m
         → ((end k : ℕ) (y : Log) → length (y .events) ≤ 2048 → walk n s end k y ≡ readable m → Walked (y .edition) m)
         → Walked (l .edition) m
     go (Step.Taken e end) w k ih =
@@ -224,14 +224,14 @@ unfolding walkMarking
 marking-walk kn zero s at m q b l r x = absurd (omega arith)
 marking-walk kn (suc n) s at m q b l r x = go (markingStepAt (askedOf kn m) (everyPointed kn m) s at) refl x (λ end m′. marking-walk kn n s end m′ q b)
   where
-    go : (y : MarkingStep) → markingStepAt (askedOf kn m) (everyPointed kn m) s at ≡ y → goOnMarking (walkMarking kn n s) s at m y ≡ refusedFile q b
+    go : (y : MarkingStep) → markingStepAt (askedOf kn m) (everyPointed kn m) s at ≡ y → continuedMarking (walkMarking kn n s) s at m y ≡ refusedFile q b
         → ((end : ℕ) (m′ : Marking) → end ≤ length s → length s < end + n → walkMarking kn n s end m′ ≡ refusedFile q b → MarkingNumber q × (b ≤ length s))
         → MarkingNumber q × (b ≤ length s)
     go (MarkingStep.Placed t o end) w k ih =
-        let e = place-ends (placed-told (askedOf kn m) s at (everyPointed kn m) t o end w) in
+        let e = place-ends (placed-means (askedOf kn m) s at (everyPointed kn m) t o end w) in
         ih end _ (e .1) (omega (arith, e .0)) k
     go (MarkingStep.Pointed t o end) w k ih =
-        let e = point-ends (pointed-told (askedOf kn m) s at (everyPointed kn m) t o end w) in
+        let e = point-ends (pointed-means (askedOf kn m) s at (everyPointed kn m) t o end w) in
         ih end _ (e .1) (omega (arith, e .0)) k
     go (MarkingStep.Refused p) w k ih =
         let e : p ≡ q = cc in

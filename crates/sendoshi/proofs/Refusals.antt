@@ -18,7 +18,7 @@ use Rattle.log.specs.Columns.{Columns, history, hold, filledWith}
 use Rattle.log.specs.Starts.{startOf}
 use Rattle.log.specs.Answer.{columnsAnswer, historyAnswer}
 use Rattle.reader.specs.declared.Reading.{Reading}
-use Rattle.reader.specs.Reading.{Log, Outcome, readable as isRead, refused as unread, historyOf, told, declined, answered as answers, filled, readAnswer}
+use Rattle.reader.specs.Reading.{Log, Outcome, readable as isRead, refused as unread, historyOf, historyRead, notRead, answered as answers, filled, readAnswer}
 use Rattle.writer.specs.declared.Writing.{Writing}
 use Rattle.writer.specs.Writing.{fileOf, written, answered, writtenAnswer}
 use Rattle.finder.specs.Answer.{prefixRefusal, callRefusal, findRefusal}
@@ -31,7 +31,7 @@ use Rattle.marking.specs.Answer.{ruled, afterColumns, verdictAnswer}
 use Rattle.marking.proofs.Theorems.{history-refused}
 use Rattle.straighten.specs.declared.Straightening.{Straightening}
 use Rattle.straighten.specs.Answer.{straightenedAnswer}
-use Rattle.straighten.proofs.AnswerLaws.{told as straight-told}
+use Rattle.straighten.proofs.AnswerLaws.{answer-means as straight-means}
 use Rattle.sendoshi.proofs.Numbers.{Asked, widen, events-number, columns-number, call-number, asked-number, then-cases}
 use Rattle.sendoshi.proofs.Files.{HistoryNumber, history-number, read-limits, MarkingNumber, marking-number}
 
@@ -44,7 +44,7 @@ read-refusal file c r x = go (historyOf file) refl x
     Number y = HistoryNumber 14 (y .question) × (y .at ≤ 32768)
 
     held : (l : Log) (y : Bool) → historyOf file ≡ isRead l
-        → cond y (answers (told (length (l .events)) (l .edition) (l .starts)) (filledWith (l .events) c)) (answers (declined 14 (length file)) c) .result .reading ≡ Reading.Refused r
+        → cond y (answers (historyRead (length (l .events)) (l .edition) (l .starts)) (filledWith (l .events) c)) (answers (notRead 14 (length file)) c) .result .reading ≡ Reading.Refused r
         → Number r
     held l true w k = let z : _≡_ {A = ℕ} 0 1 = cc in absurd (omega arith)
     held l false w k =
@@ -129,9 +129,9 @@ straighten-refusal edition starts c count file output list r x =
     ⊎-elim
     (λ a. call-number edition starts c count r a)
     (λ b. short-refusal count r (sym (b .1)))
-    (straight-told edition starts c count file output list (Straightening.Refused r) x .0)
+    (straight-means edition starts c count file output list (Straightening.Refused r) x .0)
 
 pub straighten-marking : (edition : ℕ) (starts : List ℕ) (c : Columns) (count : ℕ) (file output list : List ℕ) (r : Refusal)
     → straightenedAnswer edition starts c count file output list .result ≡ Straightening.MarkingRefused r → OfMarking r
 straighten-marking edition starts c count file output list r x =
-    marking-number (known (history c count)) file (r .question) (r .at) (straight-told edition starts c count file output list (Straightening.MarkingRefused r) x .0 .1)
+    marking-number (known (history c count)) file (r .question) (r .at) (straight-means edition starts c count file output list (Straightening.MarkingRefused r) x .0 .1)

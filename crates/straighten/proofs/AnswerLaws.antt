@@ -30,7 +30,7 @@ use Rattle.marking_reader.specs.File.{known, FileRead, content, refused, fileRe
 use Rattle.straighten.specs.declared.Straightening.{Straightening}
 use Rattle.straighten.specs.declared.Straightening.the-variants.{Straightened, Broken, Refused, MarkingRefused}
 use Rattle.straighten.specs.Straight.{straightened, movedEvents}
-use Rattle.straighten.specs.Answer.{Given, gives, settled, judged, roomy, afterFile, afterColumns, straightenedAnswer, Passes, Short}
+use Rattle.straighten.specs.Answer.{Given, gives, afterVerdict, judged, roomy, afterFile, afterColumns, straightenedAnswer, Passes, Short}
 use Rattle.straighten.proofs.StraightLaws.{accepted-same}
 
 -- ---- 15 is no question of the history
@@ -150,7 +150,7 @@ module _ (edition : ℕ) (starts : List ℕ) (c : Columns) (n : ℕ) (file outpu
   tells = columns (historyAnswer edition starts c n) refl
     where
       rules : (m : Marking) → Passes edition starts c n file output list m → (v : Verdict) → verdict (startOf starts) (history c n) (straightened (startOf starts) (history c n) m) ≡ v
-          → TellsOf (settled (markingBytes (straightened (startOf starts) (history c n) m)) (movedEvents (startOf starts) (history c n) m) output list v)
+          → TellsOf (afterVerdict (markingBytes (straightened (startOf starts) (history c n) m)) (movedEvents (startOf starts) (history c n) m) output list v)
       rules m p Accepted v = record { marking = m; passes = p; accepted = v; size = refl; count = refl; bytes = refl; entries = refl }
       rules m p (Breaks q i t) v = ((m, p, v), refl, refl)
 
@@ -168,7 +168,7 @@ module _ (edition : ℕ) (starts : List ℕ) (c : Columns) (n : ℕ) (file outpu
       columns Readable e = marking e (fileRead (known (history c n)) file) refl
       columns (Refuses r) e = (inl e, refl, refl)
 
-  pub told : (r : Straightening) → straightenedAnswer edition starts c n file output list .result ≡ r
+  pub answer-means : (r : Straightening) → straightenedAnswer edition starts c n file output list .result ≡ r
       → Tells r (straightenedAnswer edition starts c n file output list .output) (straightenedAnswer edition starts c n file output list .list)
   unfolding TellsOf
-  told r e = subst (λ (x : Straightening). Tells x (straightenedAnswer edition starts c n file output list .output) (straightenedAnswer edition starts c n file output list .list)) e tells
+  answer-means r e = subst (λ (x : Straightening). Tells x (straightenedAnswer edition starts c n file output list .output) (straightenedAnswer edition starts c n file output list .list)) e tells

@@ -4,6 +4,6 @@ pub mod PointLaws
 pub mod StraightLaws
 pub mod RuleLaws
 pub mod MoveLaws
-pub mod SettleLaws
+pub mod VerdictLaws
 pub mod AnswerLaws
 pub mod Theorems

@@ -26,7 +26,7 @@ use Rattle.opacity.proofs.Orders.{filled}
 use Rattle.opacity.proofs.Rules.{legal-gap, accepted-justified, justified-accepted}
 use Rattle.opacity.proofs.VerdictLaws.{accepted-rules}
 use Rattle.marking_reader.proofs.ReadBack.{rising, passing-rise}
-use Rattle.straighten.specs.Straight.{stands, atReader, straightPoint, straightened, movedEvents, Rises}
+use Rattle.straighten.specs.Straight.{staysPut, atReader, straightPoint, straightened, movedEvents, Rises}
 use Rattle.straighten.proofs.PointLaws.{pointWith, by-event, keep-map, keep-keep, map-none, rises}
 
 -- ---- an event that is no store read breaks neither D nor E at any gap, and nothing breaks D at its reader's place
@@ -69,7 +69,7 @@ module _ (start : ℕ → ℕ) (h : List Event) (m : Marking) where
       go false s = absurd (clash (and-i _ _ (no-read-D h (m .places) i _ s) (no-read-E h (m .places) i start _ s)) n)
 
   point-after : (i : ℕ) → straightPoint start h (m .places) (pointWith (gapOf (m .points)) i) ≡ pointWith gapAfter i
-  unfolding straightPoint stands ruleHolds
+  unfolding straightPoint staysPut ruleHolds
   point-after i = go (keptAt i)
     where
       go : (b : Bool)
@@ -83,20 +83,20 @@ module _ (start : ℕ → ℕ) (h : List Event) (m : Marking) where
       → all (λ p. leb (p .gap) b) (map (straightPoint start h (m .places)) ps) ≡ true
   unfolding all straightPoint placeOf
   gaps-stay b [] e a = refl
-  gaps-stay b (p ∷ ps) e a = and-i _ _ (go (stands start h (m .places) p)) (gaps-stay b ps e (and-r _ _ a))
+  gaps-stay b (p ∷ ps) e a = and-i _ _ (go (staysPut start h (m .places) p)) (gaps-stay b ps e (and-r _ _ a))
     where
       go : (x : Bool) → leb (cond x p (atReader h (m .places) p) .gap) b ≡ true
       go true = and-l _ _ a
       go false = le-leb (placeOf (eventAt h (p .event) .transaction) (m .places)) b (omega (arith, before-le (eventAt h (p .event) .transaction) (m .places)))
 
   -- where nothing is moved, the points are the same
-  points-stay : (ps : List Point) → keep (λ p. not (stands start h (m .places) p)) ps ≡ [] → map (straightPoint start h (m .places)) ps ≡ ps
+  points-stay : (ps : List Point) → keep (λ p. not (staysPut start h (m .places) p)) ps ≡ [] → map (straightPoint start h (m .places)) ps ≡ ps
   unfolding keep straightPoint
   points-stay [] e = refl
-  points-stay (p ∷ ps) e = go (stands start h (m .places) p) e (points-stay ps)
+  points-stay (p ∷ ps) e = go (staysPut start h (m .places) p) e (points-stay ps)
     where
-      go : (b : Bool) → push (not b) p (keep (λ q. not (stands start h (m .places) q)) ps) ≡ []
-          → (keep (λ q. not (stands start h (m .places) q)) ps ≡ [] → map (straightPoint start h (m .places)) ps ≡ ps)
+      go : (b : Bool) → push (not b) p (keep (λ q. not (staysPut start h (m .places) q)) ps) ≡ []
+          → (keep (λ q. not (staysPut start h (m .places) q)) ps ≡ [] → map (straightPoint start h (m .places)) ps ≡ ps)
           → cond b p (atReader h (m .places) p) ∷ map (straightPoint start h (m .places)) ps ≡ p ∷ ps
       go true x ih = ap (λ (l : List Point). p ∷ l) (ih x)
       go false x ih = absurd (let z : _≡_ {A = ℕ} 0 1 = cc in omega arith)
@@ -144,10 +144,10 @@ module _ (start : ℕ → ℕ) (h : List Event) (m : Marking) where
     -- ---- the list of moved events
 
     pub moved-exactly : movedEvents start h m ≡ keep (λ i. not (ruleHolds start h m D i and ruleHolds start h m E i)) (range (length h))
-    unfolding movedEvents stands ruleHolds storeReads
+    unfolding movedEvents staysPut ruleHolds storeReads
     moved-exactly =
-        ap (λ (ps : List Point). map (λ p. p .event) (keep (λ p. not (stands start h (m .places) p)) ps)) points-by-event
-        ∙ ap (map (λ p. p .event)) (keep-map (λ p. not (stands start h (m .places) p)) (pointWith (gapOf (m .points))) (storeReads h))
+        ap (λ (ps : List Point). map (λ p. p .event) (keep (λ p. not (staysPut start h (m .places) p)) ps)) points-by-event
+        ∙ ap (map (λ p. p .event)) (keep-map (λ p. not (staysPut start h (m .places) p)) (pointWith (gapOf (m .points))) (storeReads h))
         ∙ events-of (gapOf (m .points)) _
         ∙ keep-keep (isStoreRead h) (λ i. not (keptAt i)) (range (length h)) (λ i n. moved-read i (not-true _ n))
 
@@ -157,8 +157,8 @@ module _ (start : ℕ → ℕ) (h : List Event) (m : Marking) where
     pub moved-few : length (movedEvents start h m) ≤ length (storeReads h)
     unfolding movedEvents
     moved-few =
-        let a = length-map (keep (λ p. not (stands start h (m .places) p)) (m .points)) (λ p. p .event) in
-        let b = keep-length (λ p. not (stands start h (m .places) p)) (m .points) in
+        let a = length-map (keep (λ p. not (staysPut start h (m .places) p)) (m .points)) (λ p. p .event) in
+        let b = keep-length (λ p. not (staysPut start h (m .places) p)) (m .points) in
         let c = length-map (m .points) (λ p. p .event) in
         let d : length (map (λ p. p .event) (m .points)) ≡ length (storeReads h) = ap length (f .reads) in
         omega arith

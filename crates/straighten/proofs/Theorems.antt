@@ -39,11 +39,11 @@ use Rattle.marking.proofs.Theorems.{by-verdict, accepted-iff, bytes-judged}
 use Rattle.straighten.specs.declared.Straightening.{Straightening}
 use Rattle.straighten.specs.declared.Straightening.the-variants.{Straightened, Broken, Refused, MarkingRefused}
 use Rattle.straighten.specs.Straight.{straightened, movedEvents, FirstIllegal}
-use Rattle.straighten.specs.Answer.{Given, gives, settled, judged, roomy, afterFile, afterColumns, straightenedAnswer, firstEditionAnswer, said, Passes, Short}
+use Rattle.straighten.specs.Answer.{Given, gives, afterVerdict, judged, roomy, afterFile, afterColumns, straightenedAnswer, firstEditionAnswer, said, Passes, Short}
 use Rattle.straighten.specs.Words.{Written}
 use Rattle.straighten.proofs.StraightLaws.{moved-rise, straight-readable, straight-accepted, straight-length}
 use Rattle.straighten.proofs.RuleLaws.{order-rules-same, never-D, E-first-illegal}
-use Rattle.straighten.proofs.AnswerLaws.{never-15, Done, history-said, marking-said, short-said, done-said, broken-said, same-said, told}
+use Rattle.straighten.proofs.AnswerLaws.{never-15, Done, history-said, marking-said, short-said, done-said, broken-said, same-said, answer-means}
 
 -- a call: edition, start values, columns, count, the marking's file, and the output and the list as they were
 module _ (edition : ℕ) (starts : List ℕ) (c : Columns) (n : ℕ) (file output list : List ℕ) where
@@ -59,14 +59,14 @@ module _ (edition : ℕ) (starts : List ℕ) (c : Columns) (n : ℕ) (file outpu
   -- 17, 3 of the start values or an event's own question comes before all else, with its event, for 17 and 3 the count; 15 is not among them.
   pub history-refused : (r : Refusal) → (r .question ≡ 15 → ⊥) → (given .result ≡ Refused r) ↔ (historyAnswer edition starts c n ≡ Refuses r)
   history-refused r u = (
-    λ x. ⊎-elim (λ a. a) (λ b. absurd (u (ap (λ (y : Refusal). y .question) (b .1)))) (told edition starts c n file output list (Refused r) x .0),
+    λ x. ⊎-elim (λ a. a) (λ b. absurd (u (ap (λ (y : Refusal). y .question) (b .1)))) (answer-means edition starts c n file output list (Refused r) x .0),
     λ x. ap (λ (g : Given). g .result) (history-said edition starts c n file output list r x),
   )
 
   -- Then the marking's questions, with the byte.
   pub marking-refused : (q byte : ℕ) → (given .result ≡ MarkingRefused (refuse q byte)) ↔ ((historyAnswer edition starts c n ≡ Readable) × (fileRead (known events) file ≡ refused q byte))
   marking-refused q byte = (
-    λ x. told edition starts c n file output list (MarkingRefused (refuse q byte)) x .0,
+    λ x. answer-means edition starts c n file output list (MarkingRefused (refuse q byte)) x .0,
     λ w. ap (λ (g : Given). g .result) (marking-said edition starts c n file output list q byte (w .0) (w .1)),
   )
 
@@ -75,7 +75,7 @@ module _ (edition : ℕ) (starts : List ℕ) (c : Columns) (n : ℕ) (file outpu
   short-refused e = (
     λ x.
         ⊎-elim (λ a. absurd (never-15 edition starts c n e a)) (λ b. (b .0, ap (λ (y : Refusal). y .at) (b .1)))
-        (told edition starts c n file output list (Refused (refuse 15 e)) x .0),
+        (answer-means edition starts c n file output list (Refused (refuse 15 e)) x .0),
     λ w. ap (λ (g : Given). g .result) (short-said edition starts c n file output list (w .0)) ∙ ap (λ (i : ℕ). Refused (refuse 15 i)) (sym (w .1)),
   )
 
@@ -85,9 +85,9 @@ module _ (edition : ℕ) (starts : List ℕ) (c : Columns) (n : ℕ) (file outpu
     where
       go : (r : Straightening) → given .result ≡ r → (given .output ≡ output) × (given .list ≡ list)
       go (Straightened k l) x = absurd (u k l x)
-      go (Broken q i t) x = let w = told edition starts c n file output list (Broken q i t) x in (w .1, w .2)
-      go (Refused r) x = let w = told edition starts c n file output list (Refused r) x in (w .1, w .2)
-      go (MarkingRefused r) x = let w = told edition starts c n file output list (MarkingRefused r) x in (w .1, w .2)
+      go (Broken q i t) x = let w = answer-means edition starts c n file output list (Broken q i t) x in (w .1, w .2)
+      go (Refused r) x = let w = answer-means edition starts c n file output list (Refused r) x in (w .1, w .2)
+      go (MarkingRefused r) x = let w = answer-means edition starts c n file output list (MarkingRefused r) x in (w .1, w .2)
 
   -- ---- where no question refuses the call, and m is what the file holds
 
@@ -106,7 +106,7 @@ module _ (edition : ℕ) (starts : List ℕ) (c : Columns) (n : ℕ) (file outpu
     pub succeeds-exactly : ((k : ℕ) × (l : ℕ) × (given .result ≡ Straightened k l)) ↔ Justified (startOf starts) events (m .places)
     succeeds-exactly = (
       λ w.
-          let d = told edition starts c n file output list (Straightened (w .0) (w .1)) (w .2) in
+          let d = answer-means edition starts c n file output list (Straightened (w .0) (w .1)) (w .2) in
           straight-accepted (startOf starts) events m readable-for .0 (verdict-of (d .marking) Accepted (d .passes .holds) (d .accepted)),
       λ j. (_, _, ap (λ (g : Given). g .result) (done-said edition starts c n file output list m p (straight-accepted (startOf starts) events m readable-for .1 j))),
     )
@@ -114,7 +114,7 @@ module _ (edition : ℕ) (starts : List ℕ) (c : Columns) (n : ℕ) (file outpu
     -- Otherwise the answer is the checker's verdict on the straightened marking,
     pub broken-exactly : (q : Rule) (i t : ℕ) → (given .result ≡ Broken q i t) ↔ (verdict (startOf starts) events (straightened (startOf starts) events m) ≡ Breaks q i t)
     broken-exactly q i t = (
-      λ x. let w = told edition starts c n file output list (Broken q i t) x .0 in verdict-of (w .0) (Breaks q i t) (w .1 .holds) (w .2),
+      λ x. let w = answer-means edition starts c n file output list (Broken q i t) x .0 in verdict-of (w .0) (Breaks q i t) (w .1 .holds) (w .2),
       λ v. ap (λ (g : Given). g .result) (broken-said edition starts c n file output list m p q i t v),
     )
 
@@ -150,7 +150,7 @@ module _ (edition : ℕ) (starts : List ℕ) (c : Columns) (n : ℕ) (file outpu
 
   module _ (k l : ℕ) (x : given .result ≡ Straightened k l) where
     done : Done edition starts c n file output list k l (given .output) (given .list)
-    done = told edition starts c n file output list (Straightened k l) x
+    done = answer-means edition starts c n file output list (Straightened k l) x
 
     bytes-written : take k (given .output) ≡ markingBytes (straightened (startOf starts) events (done .marking))
     bytes-written = ap (take k) (done .bytes) ∙ take-over (markingBytes (straightened (startOf starts) events (done .marking))) output k (done .size)
@@ -252,7 +252,7 @@ module _ (edition : ℕ) (starts : List ℕ) (c : Columns) (n : ℕ) (file outpu
   straightened-said = (
     λ w.
         let x = said-straightened result (w .0) (w .1) (w .2) in
-        let d = told edition starts c n file output list (Straightened (w .0) (w .1)) x in
+        let d = answer-means edition starts c n file output list (Straightened (w .0) (w .1)) x in
         (d .marking, d .passes, succeeds-exactly edition starts c n file output list (d .marking) (d .passes) .0 (w .0, w .1, x)),
     λ w.
         let d = succeeds-exactly edition starts c n file output list (w .0) (w .1) .1 (w .2) in
@@ -264,7 +264,7 @@ module _ (edition : ℕ) (starts : List ℕ) (c : Columns) (n : ℕ) (file outpu
       ↔ ((m : Marking) × Passes edition starts c n file output list m × (verdict (startOf starts) (history c n) (straightened (startOf starts) (history c n) m) ≡ Breaks q i t))
   unfolding said
   broken-said-exactly q i t = (
-    λ x. told edition starts c n file output list (Broken q i t) (said-broken result q i t x) .0,
+    λ x. answer-means edition starts c n file output list (Broken q i t) (said-broken result q i t x) .0,
     λ w. ap said (broken-exactly edition starts c n file output list (w .0) (w .1) q i t .1 (w .2)),
   )
 
@@ -273,7 +273,7 @@ module _ (edition : ℕ) (starts : List ℕ) (c : Columns) (n : ℕ) (file outpu
       ↔ ((historyAnswer edition starts c n ≡ Refuses (refuse q e)) ⊎ (Short edition starts c n file output list × (refuse q e ≡ refuse 15 n)))
   unfolding said
   refused-said q e = (
-    λ x. told edition starts c n file output list (Refused (refuse q e)) (said-refused result q e x) .0,
+    λ x. answer-means edition starts c n file output list (Refused (refuse q e)) (said-refused result q e x) .0,
     λ w.
         ⊎-elim
         (λ a. ap (λ (g : Given). said (g .result)) (history-said edition starts c n file output list (refuse q e) a))
@@ -299,7 +299,7 @@ module _ (start : ℕ → ℕ) (h : List Event) (n : ℕ) (file output list befo
   result-same (Refuses r) = refl
   result-same Readable = content-same (fileRead (known h) file)
     where
-      rules-same : (bytes moved : List ℕ) (v : Verdict) → settled bytes moved output list v .result ≡ settled bytes moved before marks v .result
+      rules-same : (bytes moved : List ℕ) (v : Verdict) → afterVerdict bytes moved output list v .result ≡ afterVerdict bytes moved before marks v .result
       rules-same m moved Accepted = refl
       rules-same m moved (Breaks q i t) = refl
 

@@ -37,14 +37,14 @@ gives r o l = record { result = r; output = o; list = l }
 
 -- Where no rule is broken, the marking is written from the output's first byte and the moved events from the list's first entry, and
 -- nothing behind them changes; a broken rule leaves both alone.
-abbrev pub settled : List ℕ → List ℕ → List ℕ → List ℕ → Verdict → Given
-settled bytes moved output list Accepted = gives (Straightened (length bytes) (length moved)) (over bytes output) (over moved list)
-settled bytes moved output list (Breaks r e t) = gives (Broken r e t) output list
+abbrev pub afterVerdict : List ℕ → List ℕ → List ℕ → List ℕ → Verdict → Given
+afterVerdict bytes moved output list Accepted = gives (Straightened (length bytes) (length moved)) (over bytes output) (over moved list)
+afterVerdict bytes moved output list (Breaks r e t) = gives (Broken r e t) output list
 
 -- the verdict on the straightened marking
 unfoldable pub judged : (ℕ → ℕ) → List Event → Marking → List ℕ → List ℕ → Given
 judged start h m output list =
-    settled (markingBytes (straightened start h m)) (movedEvents start h m) output list (verdict start h (straightened start h m))
+    afterVerdict (markingBytes (straightened start h m)) (movedEvents start h m) output list (verdict start h (straightened start h m))
 
 -- 15: the output is as long as the marking, and the list has an entry for every store read
 unfoldable pub roomy : List Event → List ℕ → List ℕ → List ℕ → Bool

@@ -16,22 +16,22 @@ use Rattle.opacity.specs.Marking.{Point, Marking, placeOf, noWriterBetween, val
 use Rattle.opacity.specs.Verdicts.{Holds}
 
 -- the point breaks neither D nor E
-unfoldable pub stands : (ℕ → ℕ) → List Event → List Place → Point → Bool
-stands start h J p = noWriterBetween h J (p .gap) (p .event) and valueAtGap start h J (p .gap) (p .event)
+unfoldable pub staysPut : (ℕ → ℕ) → List Event → List Place → Point → Bool
+staysPut start h J p = noWriterBetween h J (p .gap) (p .event) and valueAtGap start h J (p .gap) (p .event)
 
 -- the point of the same read at its reader's place
 abbrev pub atReader : List Event → List Place → Point → Point
 atReader h J p = record { event = p .event; gap = placeOf (eventAt h (p .event) .transaction) J }
 
 unfoldable pub straightPoint : (ℕ → ℕ) → List Event → List Place → Point → Point
-straightPoint start h J p = cond (stands start h J p) p (atReader h J p)
+straightPoint start h J p = cond (staysPut start h J p) p (atReader h J p)
 
 unfoldable pub straightened : (ℕ → ℕ) → List Event → Marking → Marking
 straightened start h m = record { places = m .places; points = map (straightPoint start h (m .places)) (m .points) }
 
 -- the events whose points are moved, in the order of the points
 unfoldable pub movedEvents : (ℕ → ℕ) → List Event → Marking → List ℕ
-movedEvents start h m = map (λ p. p .event) (keep (λ p. not (stands start h (m .places) p)) (m .points))
+movedEvents start h m = map (λ p. p .event) (keep (λ p. not (staysPut start h (m .places) p)) (m .points))
 
 -- ---- The words of the theorems.
 

@@ -20,7 +20,7 @@ ghost use Rattle.marking_reader.specs.File.{known, fileRead};
 ghost use Rattle.marking_reader.specs.State.{Asking, Kept};
 ghost use Rattle.marking_writer.specs.Whole.{bytesIn};
 ghost use Rattle.straighten.specs.declared.Straightening.the-variants.{Refused};
-ghost use Rattle.straighten.specs.Answer.{gives, settled, afterFile, afterColumns, straightenedAnswer};
+ghost use Rattle.straighten.specs.Answer.{gives, afterVerdict, afterFile, afterColumns, straightenedAnswer};
 ghost use Rattle.straighten.specs.Tables.{Moved, listed};
 
 mod list;
@@ -62,7 +62,7 @@ pub enum Straightening {
 
 // What is written, by the verdict: only where no rule is broken the marking in the arrays, and the
 // moved events. There is room for both.
-fn settle(
+fn write_moved(
     verdict: Verdict,
     begun: usize,
     order: &[u16; 64],
@@ -76,7 +76,7 @@ fn settle(
     requires { ⌜ length (bytesIn (now order) (now outcomes) begun (now gaps)) ≤ length (now output) ⌝ }
     requires { ⌜ length (listed (now moves) (length (now gaps))) ≤ length (now moved) ⌝ }
     ensures { λ r. ⌜ gives r (now (output .exit)) (now (moved .exit))
-        ≡ settled (bytesIn (now (order .entry)) (now (outcomes .entry)) begun (now (gaps .entry)))
+        ≡ afterVerdict (bytesIn (now (order .entry)) (now (outcomes .entry)) begun (now (gaps .entry)))
         (listed (now (moves .entry)) (length (now (gaps .entry)))) (now (output .entry)) (now (moved .entry)) verdict ⌝ }
 {
     if let Verdict::Broken {
@@ -184,7 +184,7 @@ pub fn straighten_log(
         &mut moves,
     );
     let count = log.len();
-    settle(
+    write_moved(
         verdict,
         begun,
         &order,

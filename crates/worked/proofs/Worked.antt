@@ -11,7 +11,7 @@ use Rattle.log.specs.Starts.{startOf, allZero, admits}
 use Rattle.log.specs.Columns.{history, hold, filledWith}
 use Rattle.opacity.specs.Transactions.{status, allows, precedes, lastWrite, ownWrite, isOwnRead, isStoreRead, storeReads, ownRight}
 use Rattle.opacity.specs.Justification.{placed, before, outcome, written, contents, distinct, isOrder, outcomeKept, preceded, legalOver, realTimeKept}
-use Rattle.opacity.specs.Lowest.{fits, lowestPlace, goOn, lowestOf}
+use Rattle.opacity.specs.Lowest.{fits, lowestPlace, continued, lowestOf}
 use Rattle.opacity.specs.Marking.{flat, markingBytes, gapOf, placeOf, marked, others, between, noWriterBetween, valueAtGap, lastEvent, beginOf, ruleHolds, broke, tries, verdict}
 use Rattle.opacity.specs.Scan.{cause, scan}
 use Rattle.opacity.specs.Store.{put}
@@ -20,7 +20,7 @@ use Rattle.opacity.specs.Counts.{counts}
 use Rattle.counts.specs.Tally.{standing, tally}
 use Rattle.marking_reader.specs.File.{nextEvent, everyPlaced, hasPoint, everyPointed, headQuestions, recordQuestions, endQuestions, bodyStep, endStep, stepAt, walk as walkMarking, opening, fileRead}
 use Rattle.marking.specs.Answer.{verdictAnswer, said as checkSaid}
-use Rattle.straighten.specs.Straight.{stands, straightPoint, straightened, movedEvents}
+use Rattle.straighten.specs.Straight.{staysPut, straightPoint, straightened, movedEvents}
 use Rattle.worked.specs.Worked.{right, worked}
 
 pub worked-hold : all right worked ≡ true
@@ -31,12 +31,12 @@ unfolding
     eventsAnswer historyAnswer said startOf allZero admits history hold filledWith
     status allows precedes lastWrite ownWrite isOwnRead isStoreRead storeReads ownRight
     placed before outcome written contents distinct isOrder outcomeKept preceded legalOver realTimeKept
-    fits lowestPlace goOn lowestOf
+    fits lowestPlace continued lowestOf
     flat markingBytes gapOf placeOf marked others between noWriterBetween valueAtGap lastEvent beginOf ruleHolds broke
     tries verdict cause scan put does eventsOf run readsRight after runsRight counts
     standing tally
     nextEvent everyPlaced hasPoint everyPointed headQuestions recordQuestions endQuestions bodyStep endStep stepAt
     walkMarking opening fileRead verdictAnswer checkSaid
-    stands straightPoint straightened movedEvents
+    staysPut straightPoint straightened movedEvents
     right worked
 worked-hold = refl

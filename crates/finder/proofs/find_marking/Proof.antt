@@ -39,13 +39,13 @@ many a = entered (inside-many a .before)
 
 returns : tie.Need-returns
 returns c =
-    let told = c .before .before in
-    let s = entered (told .before .before) in
+    let tested = c .before .before in
+    let s = entered (tested .before .before) in
     let r : c .prefix-refused .result ≡ refuse _ (s .args .count) =
-    c .prefix-refused .ensures ∙ ap₂ (λ (x y : Bool). refuse (cond x (cond y 18 3) 17) (s .args .count)) (told .columns-hold .ensures) (c .before .is-admitted .ensures) in
+    c .prefix-refused .ensures ∙ ap₂ (λ (x y : Bool). refuse (cond x (cond y 18 3) 17) (s .args .count)) (tested .columns-hold .ensures) (c .before .is-admitted .ensures) in
     ap (λ (x : Refusal). gives (Finding.Refused x) (s .args .output .now)) r
     ∙ call-refused (s .args .edition) (s .args .starts .now) (given s) (s .args .count) (s .args .prefix) (s .args .output .now)
-    (call-refuses (s .args .edition) (s .args .starts .now) (given s) (s .args .count) (s .args .prefix) (told .before .if1 .taken))
+    (call-refuses (s .args .edition) (s .args .starts .now) (given s) (s .args .count) (s .args .prefix) (tested .before .if1 .taken))
 
 find-admitted-requires : tie.Need-find-admitted-requires
 find-admitted-requires c κs =

@@ -22,8 +22,8 @@ abbrev μ-loop : tie.MeasureT-loop
 abbrev entered : tie.At-loop Inv-loop μ-loop → tie.Start Inv-loop μ-loop
 entered l = l .before .before
 
-abbrev told : tie.After-put-place Inv-loop μ-loop → tie.After-outcome-number Inv-loop μ-loop
-told a = a .before .before .before
+abbrev numbered : tie.After-put-place Inv-loop μ-loop → tie.After-outcome-number Inv-loop μ-loop
+numbered a = a .before .before .before
 
 abbrev turn : tie.After-outcome-number Inv-loop μ-loop → tie.At-loop Inv-loop μ-loop
 turn a = a .before .before .before
@@ -38,7 +38,7 @@ loop-holds c =
 loop-again : tie.Need-loop-again Inv-loop μ-loop
 loop-again c =
     let p = c .before .before in
-    let l = turn (told p) in
+    let l = turn (numbered p) in
     let s = entered l in
     let order = s .args .order .now in
     let outcomes = s .args .outcomes .now in
@@ -47,7 +47,7 @@ loop-again c =
       put-more (placesTo order outcomes) (placeHere order outcomes) (places-none _ _) (places-more _ _) (s .args .out .now) 6 (s .args .begun) (omega (arith, s .pre .1))
           (l .loop .k) (omega arith) (l .loop .out) (6 + 8 * l .loop .k) (l .loop .inv .1) (p .put-place .last .0) _ (p .put-place .kept .0)
           (p .put-place .ensures
-          ∙ ap (λ (o : ℕ). placed (l .loop .out) (6 + 8 * l .loop .k) (u16Bytes 6 ++ u16Bytes 32 ++ u16Bytes (getD order (l .loop .k) 0) ++ u16Bytes o)) (told p .outcome-number .ensures))
+          ∙ ap (λ (o : ℕ). placed (l .loop .out) (6 + 8 * l .loop .k) (u16Bytes 6 ++ u16Bytes 32 ++ u16Bytes (getD order (l .loop .k) 0) ++ u16Bytes o)) (numbered p .outcome-number .ensures))
           (omega arith),
     )
 

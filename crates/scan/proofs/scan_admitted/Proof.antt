@@ -22,12 +22,12 @@ scan-log-requires c κs = c .before .before .before .pre .readable (c .before .e
 
 returns-2 : tie.Need-returns-2
 returns-2 c =
-    let told = c .before .before in
-    let a = told .before .before .args in
+    let tested = c .before .before in
+    let a = tested .before .before .args in
     let h = logged (take (a .count) (a .rows .now)) in
     c .scan-log .ensures
-    ∙ after-readable (a .starts .now) h (a .count) (logged-length _ ∙ length-take-le (a .count) (a .rows .now) (told .before .before .pre .room (told .enum-told .given .1)))
-    (told .enum-told .given .1)
+    ∙ after-readable (a .starts .now) h (a .count) (logged-length _ ∙ length-take-le (a .count) (a .rows .now) (tested .before .before .pre .room (tested .enum-told .given .1)))
+    (tested .enum-told .given .1)
 
 pub scan-admitted-spec : {M : Type 1} → statement M
 scan-admitted-spec =

@@ -91,8 +91,8 @@ abbrev transaction-claims : ℕ → choose-transaction-lts.Claims
 transaction-claims t = (ends-reads.Asked, ends-reads.Learnt, hopeful-reads.Asked, hopeful-reads.Learnt, lowest-reads.Asked, lowest-reads.Learnt, choose-outcome-below t, choose-outcome.Post)
 
 -- what each is told
-abbrev told : (t : ℕ) → choose-outcome-lts.Start (outcome-claims t) (choose-outcome-at t) choose-outcome.Post → Constraints
-told t start = asking (start .args .starts .now) (start .args .facts .now) (start .args .asked)
+abbrev asked-of : (t : ℕ) → choose-outcome-lts.Start (outcome-claims t) (choose-outcome-at t) choose-outcome.Post → Constraints
+asked-of t start = asking (start .args .starts .now) (start .args .facts .now) (start .args .asked)
 
 abbrev given : (t : ℕ) → choose-transaction-lts.Start (transaction-claims t) (choose-transaction-at t) choose-transaction.Post → Constraints
 given t start = asking (start .args .starts .now) (start .args .facts .now) (start .args .asked)
@@ -123,9 +123,9 @@ choose-outcome-returns t c =
     let next = c .before .before .place in
     let answer = c .before .choose-transaction in
     answered-next (a .s) (next .result) (a .t) 0 (answer .result) (next .ensures) (answer .ensures)
-    (outcome-first (told t start) (a .s) (a .t) _ (answer .result) _ (c .if2 .taken)
-    (attempt-next (told t start) (a .s) (next .result) (a .t) 0 (start .pre .1 .0) (next .ensures)
-    (fits-by (told t start) (a .s) (a .t) 0 _ (asked .before .rule-next .ensures) (asked .allows .ensures)) (c .before .before .before .if1 .taken) (answer .ensures .answers .completion)))
+    (outcome-first (asked-of t start) (a .s) (a .t) _ (answer .result) _ (c .if2 .taken)
+    (attempt-next (asked-of t start) (a .s) (next .result) (a .t) 0 (start .pre .1 .0) (next .ensures)
+    (fits-by (asked-of t start) (a .s) (a .t) 0 _ (asked .before .rule-next .ensures) (asked .allows .ensures)) (c .before .before .before .if1 .taken) (answer .ensures .answers .completion)))
 
 choose-outcome-allows-requires-2 : (t : ℕ) → choose-outcome-lts.Need-allows-requires-2 (outcome-claims t) (choose-outcome-at t) choose-outcome.Post
 choose-outcome-allows-requires-2 t c κs = tt
@@ -144,28 +144,28 @@ choose-outcome-choose-transaction-requires-2 t c κs =
 
 -- where the second outcome is asked for, the first led to nothing
 missed : (t : ℕ) (c : choose-outcome-lts.Joined1 (outcome-claims t) (choose-outcome-at t) choose-outcome.Post)
-    → let start = c .before .before .before in attempt (told t start) (start .args .s) (start .args .t) 0 ≡ none
+    → let start = c .before .before .before in attempt (asked-of t start) (start .args .s) (start .args .t) 0 ≡ none
 missed t c =
     let start = c .before .before .before in
     let a = start .args in
-    let fit = fits-by (told t start) (a .s) (a .t) 0 _ (c .before .before .rule-next .ensures) (c .before .allows .ensures) in
+    let fit = fits-by (asked-of t start) (a .s) (a .t) 0 _ (c .before .before .rule-next .ensures) (c .before .allows .ensures) in
     ⊎-elim
-    (λ w. sym (attempt-next (told t start) (a .s) (w .1 .result) (a .t) 0 (start .pre .1 .0) (w .1 .ensures) fit (w .0 .taken) (w .2 .ensures .answers .completion))
+    (λ w. sym (attempt-next (asked-of t start) (a .s) (w .1 .result) (a .t) 0 (start .pre .1 .0) (w .1 .ensures) fit (w .0 .taken) (w .2 .ensures .answers .completion))
     ∙ answer-none _ (w .2 .result) (w .3 .left))
-    (λ w. attempt-none (told t start) (a .s) (a .t) 0 fit (w .left))
+    (λ w. attempt-none (asked-of t start) (a .s) (a .t) 0 fit (w .left))
     (c .if1 .came)
 
 -- and where the other candidates are, the second
 missed-too : (t : ℕ) (c : choose-outcome-lts.Joined3 (outcome-claims t) (choose-outcome-at t) choose-outcome.Post)
-    → let start = c .before .before .before .before .before in attempt (told t start) (start .args .s) (start .args .t) 1 ≡ none
+    → let start = c .before .before .before .before .before in attempt (asked-of t start) (start .args .s) (start .args .t) 1 ≡ none
 missed-too t c =
     let start = c .before .before .before .before .before in
     let a = start .args in
-    let fit = fits-by (told t start) (a .s) (a .t) 1 _ (c .before .before .before .before .rule-next .ensures) (c .before .allows2 .ensures) in
+    let fit = fits-by (asked-of t start) (a .s) (a .t) 1 _ (c .before .before .before .before .rule-next .ensures) (c .before .allows2 .ensures) in
     ⊎-elim
-    (λ w. sym (attempt-next (told t start) (a .s) (w .1 .result) (a .t) 1 (start .pre .1 .0) (w .1 .ensures) fit (w .0 .taken) (w .2 .ensures .answers .completion))
+    (λ w. sym (attempt-next (asked-of t start) (a .s) (w .1 .result) (a .t) 1 (start .pre .1 .0) (w .1 .ensures) fit (w .0 .taken) (w .2 .ensures .answers .completion))
     ∙ answer-none _ (w .2 .result) (w .3 .left))
-    (λ w. attempt-none (told t start) (a .s) (a .t) 1 fit (w .left))
+    (λ w. attempt-none (asked-of t start) (a .s) (a .t) 1 fit (w .left))
     (c .if3 .came)
 
 choose-outcome-returns-2 : (t : ℕ) → choose-outcome-lts.Need-returns-2 (outcome-claims t) (choose-outcome-at t) choose-outcome.Post
@@ -177,9 +177,9 @@ choose-outcome-returns-2 t c =
     let next = c .before .before .place2 in
     let answer = c .before .choose-transaction2 in
     answered-next (a .s) (next .result) (a .t) 1 (answer .result) (next .ensures) (answer .ensures)
-    (outcome-second (told t start) (a .s) (a .t) _ (answer .result) _ (c .if4 .taken) (missed t first)
-    (attempt-next (told t start) (a .s) (next .result) (a .t) 1 (start .pre .1 .0) (next .ensures)
-    (fits-by (told t start) (a .s) (a .t) 1 _ (first .before .before .rule-next .ensures) (asked .allows2 .ensures)) (c .before .before .before .if3 .taken)
+    (outcome-second (asked-of t start) (a .s) (a .t) _ (answer .result) _ (c .if4 .taken) (missed t first)
+    (attempt-next (asked-of t start) (a .s) (next .result) (a .t) 1 (start .pre .1 .0) (next .ensures)
+    (fits-by (asked-of t start) (a .s) (a .t) 1 _ (first .before .before .rule-next .ensures) (asked .allows2 .ensures)) (c .before .before .before .if3 .taken)
     (answer .ensures .answers .completion)))
 
 choose-outcome-without-requires : (t : ℕ) → choose-outcome-lts.Need-without-requires (outcome-claims t) (choose-outcome-at t) choose-outcome.Post
@@ -190,8 +190,8 @@ choose-outcome-returns-3 t c =
     let both = c .before .before in
     let start = both .before .before .before .before .before in
     let a = start .args in
-    let rest = none-among (told t start) (a .s) (start .pre .1 .1 .1 .1 .0) (c .before .without .result) (c .if5 .taken) in
-    answered-none (whole (a .s)) ((rw (c .before .without .ensures) at rest) ∙ outcome-neither (told t start) (a .s) (a .t) (missed t (both .before .before)) (missed-too t both))
+    let rest = none-among (asked-of t start) (a .s) (start .pre .1 .1 .1 .1 .0) (c .before .without .result) (c .if5 .taken) in
+    answered-none (whole (a .s)) ((rw (c .before .without .ensures) at rest) ∙ outcome-neither (asked-of t start) (a .s) (a .t) (missed t (both .before .before)) (missed-too t both))
 
 choose-outcome-choose-transaction-requires-3 : (t : ℕ) → choose-outcome-lts.Need-choose-transaction-requires-3 (outcome-claims t) (choose-outcome-at t) choose-outcome.Post
 choose-outcome-choose-transaction-requires-3 t c κs =
@@ -209,7 +209,7 @@ choose-outcome-returns-4 t c =
     let start = both .before .before .before .before .before in
     let a = start .args in
     answered-as (whole (a .s)) (c .choose-transaction3 .result) (rw (c .before .before .without .ensures) at (c .choose-transaction3 .ensures))
-    (outcome-neither (told t start) (a .s) (a .t) (missed t (both .before .before)) (missed-too t both))
+    (outcome-neither (asked-of t start) (a .s) (a .t) (missed t (both .before .before)) (missed-too t both))
 
 choose-transaction-ends-requires : (t : ℕ) → choose-transaction-lts.Need-ends-requires (transaction-claims t) (choose-transaction-at t) choose-transaction.Post
 choose-transaction-ends-requires t c κs = c .pre .1 .0

@@ -66,13 +66,13 @@ choose-transaction-requires-2 c κs = (sound (chosen (c .before .before .before)
 returns-3 : tie.Need-returns-3
 unfolding codesOf
 returns-3 c =
-    let told = c .before .before .before .before in
-    let b = chosen told in
+    let asked-of = c .before .before .before .before in
+    let b = chosen asked-of in
     let a = b .before .args in
-    let m = told .registers-asked .result in
+    let m = asked-of .registers-asked .result in
     answered-as (a .n) (c .choose-transaction2 .result)
     (start-answers (asking (a .starts .now) (a .facts .now) m) (a .n) _ (c .choose-transaction2 .result) (b .before .pre) (all b) (c .choose-transaction2 .ensures))
-    (asked-completion (a .starts .now) (a .facts .now) m (told .registers-asked .ensures) (a .n) (b .before .pre))
+    (asked-completion (a .starts .now) (a .facts .now) m (asked-of .registers-asked .ensures) (a .n) (b .before .pre))
 
 pub find-spec : {M : Type 1} → statement M
 find-spec =

@@ -27,8 +27,8 @@ use Rattle.marking_reader.proofs.SoundLaws.{arrays-fresh}
 use Rattle.straighten.specs.Answer.{gives, afterFile}
 use Rattle.straighten.proofs.MoveLaws.{arrays-readable}
 use Rattle.straighten.proofs.StraightLaws.{moved-few}
-use Rattle.straighten.proofs.SettleLaws.{file-size, after-short, after-room, room-there}
-use Rattle.straighten.proofs.SettleLaws.{bytes-same, bytes-fit, listed-counted, settled-judged}
+use Rattle.straighten.proofs.VerdictLaws.{file-size, after-short, after-room, room-there}
+use Rattle.straighten.proofs.VerdictLaws.{bytes-same, bytes-fit, listed-counted, after-judged}
 use Rattle.straighten.proofs.straighten_log.Statement.{statement}
 use Rattle.straighten.proofs.straighten_log.Tie as tie
 
@@ -163,11 +163,11 @@ lent g = g .before .before .before
 array-share-prefix-gaps : tie.Need-array-share-prefix-gaps
 array-share-prefix-gaps c = long (c .before .before)
 
-slice-aggregate-settle : tie.Need-slice-aggregate-settle
-slice-aggregate-settle c = let j = lent c in sym (length-take-le _ (straight j) (long j))
+slice-aggregate-write-moved : tie.Need-slice-aggregate-write-moved
+slice-aggregate-write-moved c = let j = lent c in sym (length-take-le _ (straight j) (long j))
 
-settle-requires : tie.Need-settle-requires
-settle-requires c κs =
+write-moved-requires : tie.Need-write-moved-requires
+write-moved-requires c κs =
     let j = lent (c .before .before .before) in
     let e = reader j in
     let s = start (read e) in
@@ -194,8 +194,8 @@ returns-3 c =
     let h = history (read e) in
     let b = counted (owned (read e .before)) .transactions-begun .ensures in
     let y = j .judge-moved .ensures .1 in
-    t .settle .ensures
-    ∙ (settled-judged (startOf (a .starts .now)) h (marking e) _ (now (a .output)) (now (a .moved)) _ _ _
+    t .write-moved .ensures
+    ∙ (after-judged (startOf (a .starts .now)) h (marking e) _ (now (a .output)) (now (a .moved)) _ _ _
     (y .points) (j .judge-moved .ensures .0) (bytes-same (a .log .now) b (y .kept) (long j))
     (listed-counted (a .log .now) (straight j) (moves j) (long j) ∙ y .moved)
     ∙ after-room (startOf (a .starts .now)) h (length (a .log .now)) (a .file .now) (now (a .output)) (now (a .moved)) (marking e)
@@ -206,5 +206,5 @@ straighten-log-spec =
     tie.close
     (tie.spec (λ c κs. search needs) own-writes-requires read-marking-requires (λ c. search needs)
     returns (λ c. search needs) has-room-requires (λ c κs. search needs) returns-2 judge-moved-requires
-    array-share-prefix-gaps slice-aggregate-settle settle-requires (λ c. search needs)
+    array-share-prefix-gaps slice-aggregate-write-moved write-moved-requires (λ c. search needs)
     (λ c. search needs) returns-3)

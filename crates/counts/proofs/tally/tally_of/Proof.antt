@@ -19,16 +19,16 @@ abbrev μ-loop : tie.MeasureT-loop
 μ-loop log standing begun many₀ t₀ many t = begun - t
 
 -- the history, a transaction that a turn takes, and how it stands
-abbrev told : tie.At-loop Inv-loop μ-loop → tie.Start Inv-loop μ-loop
-told l = l .before .before .before
+abbrev entered : tie.At-loop Inv-loop μ-loop → tie.Start Inv-loop μ-loop
+entered l = l .before .before .before
 
-below : (c : tie.In-loop Inv-loop μ-loop) → c .before .loop .t < begins (logged (told (c .before) .args .log .now))
+below : (c : tie.In-loop Inv-loop μ-loop) → c .before .loop .t < begins (logged (entered (c .before) .args .log .now))
 below c = omega (arith, c .before .before .transactions-begun .ensures, c .loop-test .taken)
 
 low : (c : tie.In-loop Inv-loop μ-loop) → c .before .loop .t < 64
-low c = omega (arith, below c, at-most-64 _ (told (c .before) .pre))
+low c = omega (arith, below c, at-most-64 _ (entered (c .before) .pre))
 
-stood : (c : tie.After-wide Inv-loop μ-loop) → c .wide .result ≡ statusNumber (status (logged (told (c .before .before) .args .log .now)) (c .before .before .loop .t))
+stood : (c : tie.After-wide Inv-loop μ-loop) → c .wide .result ≡ statusNumber (status (logged (entered (c .before .before) .args .log .now)) (c .before .before .loop .t))
 stood c =
     let l = c .before .before in
     c .wide .ensures ∙ (l .before .before .table .ensures .holds (l .loop .t) (low (c .before)) ∙ status-table _ (l .loop .t))

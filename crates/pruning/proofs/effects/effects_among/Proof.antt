@@ -28,10 +28,10 @@ unfolding legalReads
 loop-again c =
     let at = c .before .before .before .before .loop in
     let a = c .before .before .before .before .before .args in
-    let told = c .before .before .reads-asked .ensures in (
+    let reads = c .before .before .reads-asked .ensures in (
       omega arith,
       length-set (at .effects) (at .i) (c .effect .result) ∙ at .inv .1,
-      known-on (a .facts .now) (a .asked) (at .effects) (at .i) (c .effect .result) (at .inv .1) (omega arith) (at .inv .2) (rw told at (c .effect .ensures)),
+      known-on (a .facts .now) (a .asked) (at .effects) (at .i) (c .effect .result) (at .inv .1) (omega arith) (at .inv .2) (rw reads at (c .effect .ensures)),
     )
 
 returns : tie.Need-returns Inv-loop μ-loop

@@ -17,8 +17,8 @@ use Rattle.pruning.proofs.hope.hopeful.Tie as tie
 abbrev entered : tie.After-ready-among → tie.Start
 entered r = r .before .before .before .before .before .before
 
-abbrev told : tie.After-ready-among → Constraints
-told r = let a = entered r .args in asking (a .starts .now) (a .facts .now) (a .asked)
+abbrev asked-of : tie.After-ready-among → Constraints
+asked-of r = let a = entered r .args in asking (a .starts .now) (a .facts .now) (a .asked)
 
 all : (r : tie.After-ready-among) → entered r .args .candidates ≡ entered r .args .s .unplaced
 all r = r .before .before .before .if2 .left
@@ -45,16 +45,16 @@ returns-4 : tie.Need-returns-4
 returns-4 c =
     let r = c .before .before .before .before in
     let a = entered r .args in
-    λ e. orphaned-none (told r) (a .s) (a .candidates) _ (entered r .pre .0) (all r)
-    (needs-of (told r) (a .s) _ _ (c .before .before .before-end .ensures) (λ k h. xor-member k (a .s .unplaced) (r .ready-among .result) (r .ready-among .ensures .within .isIn k) h))
+    λ e. orphaned-none (asked-of r) (a .s) (a .candidates) _ (entered r .pre .0) (all r)
+    (needs-of (asked-of r) (a .s) _ _ (c .before .before .before-end .ensures) (λ k h. xor-member k (a .s .unplaced) (r .ready-among .result) (r .ready-among .ensures .within .isIn k) h))
     (c .before .bereft .ensures (c .if4 .taken))
 
 returns-5 : tie.Need-returns-5
 returns-5 c =
     let r = c .before .before .before .before .before .before in
     let a = entered r .args in
-    hopeless (told r) (a .s) (a .candidates) _ (c .possible .result) (entered r .pre .0) (all r)
-    (needs-of (told r) (a .s) (a .candidates) _ (c .before .before-end2 .ensures) (λ k h. rw (all r) at h))
+    hopeless (asked-of r) (a .s) (a .candidates) _ (c .possible .result) (entered r .pre .0) (all r)
+    (needs-of (asked-of r) (a .s) (a .candidates) _ (c .before .before-end2 .ensures) (λ k h. rw (all r) at h))
     (c .possible .ensures)
 
 pub hopeful-spec : {M : Type 1} → statement M

@@ -46,8 +46,8 @@ abbrev whole : tie.Start → Bool
 whole s =
     pointRule (startOf (s .args .starts .now)) (logged (s .args .log .now)) (s .args .link .now) (s .args .writers .now) (s .args .place .now) (s .args .gaps .now) (s .args .rule) (s .args .i)
 
-told : (p : tie.After-wide2) {rule : Rule} → entered p .args .rule ≡ rule → {b : Bool} → b ≡ here p rule → b ≡ whole (entered p)
-told p e t =
+rule-at : (p : tie.After-wide2) {rule : Rule} → entered p .args .rule ≡ rule → {b : Bool} → b ≡ here p rule → b ≡ whole (entered p)
+rule-at p e t =
     let s = entered p in
     point-here (startOf (s .args .starts .now)) (logged (s .args .log .now)) (s .args .link .now) (s .args .writers .now) (s .args .place .now) (s .args .gaps .now) (s .args .i) (s .args .rule)
     (p .before .before .before .before .if1 .left) (p .before .before .before .event-at .ensures) (p .before .wide .ensures ∙ p .before .before .place-at .ensures) (p .wide2 .ensures)
@@ -77,19 +77,19 @@ value-at-gap-requires c κs =
     (s .pre .0 .walk, (gap-low p, register-fits p))
 
 returns-2 : tie.Need-returns-2
-returns-2 c = told (c .before .before .before) (c .before .enum-told .given .1) (c .no-writer-between .ensures)
+returns-2 c = rule-at (c .before .before .before) (c .before .enum-told .given .1) (c .no-writer-between .ensures)
 
 returns-3 : tie.Need-returns-3
-returns-3 c = told (c .before .before .before) (c .before .enum-told2 .given .1) (c .value-at-gap .ensures)
+returns-3 c = rule-at (c .before .before .before) (c .before .enum-told2 .given .1) (c .value-at-gap .ensures)
 
 returns-4 : tie.Need-returns-4
-returns-4 c = told (c .before .before) (c .enum-told3 .given .1) refl
+returns-4 c = rule-at (c .before .before) (c .enum-told3 .given .1) refl
 
 returns-5 : tie.Need-returns-5
-returns-5 c = told (c .before .before) (c .enum-told4 .given .1) refl
+returns-5 c = rule-at (c .before .before) (c .enum-told4 .given .1) refl
 
 returns-6 : tie.Need-returns-6
-returns-6 c = told (c .before .before) (c .enum-told5 .given .1) refl
+returns-6 c = rule-at (c .before .before) (c .enum-told5 .given .1) refl
 
 pub holds-at-spec : {M : Type 1} → statement M
 holds-at-spec =

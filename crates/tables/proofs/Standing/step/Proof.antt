@@ -9,11 +9,11 @@ use Rattle.tables.proofs.Standing.step.Statement.{statement}
 use Rattle.tables.proofs.Standing.step.Tie as tie
 
 -- where the outcome is noted, and before it the begin
-abbrev settled : tie.After-join2 → tie.After-note-outcome
-settled a = a .before .before .before
+abbrev outcome-noted : tie.After-join2 → tie.After-note-outcome
+outcome-noted a = a .before .before .before
 
 abbrev begun : tie.After-join2 → tie.After-note-begin
-begun a = settled a .before .before
+begun a = outcome-noted a .before .before
 
 returns : tie.Need-returns
 unfolding next
@@ -24,7 +24,7 @@ returns c =
     let a = judged .before .before .args in
     λ i. record {
       ended = (c .before .join .ensures ∙ ap (λ (b : Bool). joined (a .self .ended) b (a .e .transaction)) (c .before .before .is-end .ensures)) i;
-      facts = (settled c .note-outcome .ensures
+      facts = (outcome-noted c .note-outcome .ensures
           ∙ ap (λ (f : List (List ℕ)). allowedWith f (a .e)) (begun c .note-begin .ensures
           ∙ ap (λ (f : List (List ℕ)). afterWith (a .self .ended) f (a .e)) (written .note-write .ensures
           ∙ ap (λ (f : List (List ℕ)). writtenWith f (a .e)) (read .note-read .ensures)))) i;

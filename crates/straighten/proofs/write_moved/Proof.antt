@@ -6,17 +6,17 @@ use lib.ListN.{length}
 use Rattle.opacity.specs.declared.verdict.Verdict.{Verdict}
 use Rattle.marking_writer.specs.Whole.{bytesIn}
 use Rattle.straighten.specs.declared.Straightening.the-variants.{Straightened}
-use Rattle.straighten.specs.Answer.{Given, gives, settled}
+use Rattle.straighten.specs.Answer.{Given, gives, afterVerdict}
 use Rattle.straighten.specs.Tables.{listed}
 use borrow.Author.Needs.{needs}
-use Rattle.straighten.proofs.settle.Statement.{statement}
-use Rattle.straighten.proofs.settle.Tie as tie
+use Rattle.straighten.proofs.write_moved.Statement.{statement}
+use Rattle.straighten.proofs.write_moved.Tie as tie
 
 -- what is given, by a verdict
 abbrev by : tie.Start → Verdict → Given
 by s v =
     let a = s .args in
-    settled (bytesIn (a .order .now) (a .outcomes .now) (a .begun) (a .gaps .now)) (listed (a .moves .now) (length (a .gaps .now)))
+    afterVerdict (bytesIn (a .order .now) (a .outcomes .now) (a .begun) (a .gaps .now)) (listed (a .moves .now) (length (a .gaps .now)))
     (now (a .output)) (now (a .moved)) v
 
 -- where no rule is broken, and the function's entry
@@ -41,11 +41,11 @@ returns-2 c =
     let w = l .before .before .before .before in
     let e = unbroken w in
     let put = w .write-marking .ensures in
-    let told = l .list-moved .ensures in
-    (λ i. gives (Straightened (put .1 i) (told .1 i)) (put .0 i) (told .0 i)) ∙ sym (ap (by (entered e)) (e .enum-told .given .1))
+    let moved-so = l .list-moved .ensures in
+    (λ i. gives (Straightened (put .1 i) (moved-so .1 i)) (put .0 i) (moved-so .0 i)) ∙ sym (ap (by (entered e)) (e .enum-told .given .1))
 
-pub settle-spec : {M : Type 1} → statement M
-settle-spec =
+pub write-moved-spec : {M : Type 1} → statement M
+write-moved-spec =
     tie.close
     (tie.spec (λ c. search needs) returns (λ c. search needs) write-marking-requires
     list-moved-requires (λ c. search needs) (λ c. search needs) returns-2)

@@ -32,7 +32,7 @@ use Rattle.marking_writer.specs.Whole.{pointsIn, bytesIn}
 use Rattle.marking_writer.proofs.PointLaws.{points-are, points-same}
 use Rattle.straighten.specs.declared.Straightening.the-variants.{Refused}
 use Rattle.straighten.specs.Straight.{straightened, movedEvents}
-use Rattle.straighten.specs.Answer.{gives, settled, judged, roomy, afterFile}
+use Rattle.straighten.specs.Answer.{gives, afterVerdict, judged, roomy, afterFile}
 use Rattle.straighten.specs.Tables.{Room, listed}
 use Rattle.straighten.proofs.MoveLaws.{arrays-readable}
 
@@ -69,11 +69,11 @@ listed-counted log gaps moves room = ap (listed moves) (length-take-le (length l
 -- ---- the answer
 
 -- what was settled by the parts is what is judged
-pub settled-judged : (start : ℕ → ℕ) (h : List Event) (m m′ : Marking) (output list bytes moved : List ℕ) (v : Verdict) → m′ ≡ straightened start h m
-    → v ≡ verdict start h m′ → bytes ≡ markingBytes m′ → moved ≡ movedEvents start h m → settled bytes moved output list v ≡ judged start h m output list
+pub after-judged : (start : ℕ → ℕ) (h : List Event) (m m′ : Marking) (output list bytes moved : List ℕ) (v : Verdict) → m′ ≡ straightened start h m
+    → v ≡ verdict start h m′ → bytes ≡ markingBytes m′ → moved ≡ movedEvents start h m → afterVerdict bytes moved output list v ≡ judged start h m output list
 unfolding judged
-settled-judged start h m m′ output list bytes moved v straight says eb em =
-    λ i. settled ((eb ∙ ap markingBytes straight) i) (em i) output list ((says ∙ ap (verdict start h) straight) i)
+after-judged start h m m′ output list bytes moved v straight says eb em =
+    λ i. afterVerdict ((eb ∙ ap markingBytes straight) i) (em i) output list ((says ∙ ap (verdict start h) straight) i)
 
 -- a readable marking is as long as its head, its places and its points
 pub file-size : (h : List Event) (file : List ℕ) (m : Marking) → fileRead (known h) file ≡ content m → Bytes file → ReadableFor h m
