@@ -130,17 +130,22 @@ fn t0_t1() -> File {
     head().place(0, 1).place(1, 0)
 }
 
-// Shows the answer for a history of edition 1, in which every register starts at 0.
-fn check(
-    label: &[u8],
-    kinds: &[u16],
-    transactions: &[u16],
-    registers: &[u16],
-    values: &[u32],
+// The first events of a history, in columns of ten.
+struct History {
+    kinds: [u16; 10],
+    transactions: [u16; 10],
+    registers: [u16; 10],
+    values: [u32; 10],
     count: usize,
-    file: File,
-) {
+}
+
+// Shows the answer for a history of edition 1, in which every register starts at 0.
+fn check(label: &[u8], history: History, file: File) {
     let starts = [0u32; 32];
+    let kinds = history.kinds;
+    let transactions = history.transactions;
+    let registers = history.registers;
+    let values = history.values;
     let size = file.size();
     let bytes = file.bytes;
     show(
@@ -148,11 +153,11 @@ fn check(
         check_marking(
             1,
             &starts,
-            kinds,
-            transactions,
-            registers,
-            values,
-            count,
+            &kinds,
+            &transactions,
+            &registers,
+            &values,
+            history.count,
             &bytes[..size],
         ),
     );
@@ -160,19 +165,14 @@ fn check(
 
 // Checks a file against H0 with this value at event 9, of which the first `count` events are given.
 fn h0_with(label: &[u8], value: u32, count: usize, file: File) {
-    let kinds = [16u16, 19, 20, 16, 17, 18, 21, 22, 17, 18];
-    let transactions = [0u16, 0, 0, 1, 1, 1, 0, 0, 1, 1];
-    let registers = [0u16, 3, 0, 1, 3, 3, 0, 0, 3, 3];
-    let values = [0u32, 7, 0, 0, 0, 0, 0, 0, 0, value];
-    check(
-        label,
-        &kinds,
-        &transactions,
-        &registers,
-        &values,
+    let history = History {
+        kinds: [16, 19, 20, 16, 17, 18, 21, 22, 17, 18],
+        transactions: [0, 0, 0, 1, 1, 1, 0, 0, 1, 1],
+        registers: [0, 3, 0, 1, 3, 3, 0, 0, 3, 3],
+        values: [0, 7, 0, 0, 0, 0, 0, 0, 0, value],
         count,
-        file,
-    );
+    };
+    check(label, history, file);
 }
 
 // Checks a file against H0.
@@ -187,20 +187,26 @@ fn h7(label: &[u8], file: File) {
 
 // Checks a file against a history in which T0 commits r0 := 1, and then T1 begins and reads 0.
 fn late(label: &[u8], file: File) {
-    let kinds = [16u16, 19, 20, 21, 22, 16, 17, 18];
-    let transactions = [0u16, 0, 0, 0, 0, 1, 1, 1];
-    let registers = [0u16, 0, 0, 0, 0, 1, 0, 0];
-    let values = [0u32, 1, 0, 0, 0, 0, 0, 0];
-    check(label, &kinds, &transactions, &registers, &values, 8, file);
+    let history = History {
+        kinds: [16, 19, 20, 21, 22, 16, 17, 18, 0, 0],
+        transactions: [0, 0, 0, 0, 0, 1, 1, 1, 0, 0],
+        registers: [0, 0, 0, 0, 0, 1, 0, 0, 0, 0],
+        values: [0, 1, 0, 0, 0, 0, 0, 0, 0, 0],
+        count: 8,
+    };
+    check(label, history, file);
 }
 
 // Checks a file against a history with a read of 0 after an own write of 5.
 fn own(label: &[u8], file: File) {
-    let kinds = [16u16, 19, 20, 17, 18];
-    let transactions = [0u16, 0, 0, 0, 0];
-    let registers = [0u16, 2, 0, 2, 2];
-    let values = [0u32, 5, 0, 0, 0];
-    check(label, &kinds, &transactions, &registers, &values, 5, file);
+    let history = History {
+        kinds: [16, 19, 20, 17, 18, 0, 0, 0, 0, 0],
+        transactions: [0; 10],
+        registers: [0, 2, 0, 2, 2, 0, 0, 0, 0, 0],
+        values: [0, 5, 0, 0, 0, 0, 0, 0, 0, 0],
+        count: 5,
+    };
+    check(label, history, file);
 }
 
 // Shows the paper's markings.

@@ -17,14 +17,18 @@ inside c =
     let l : length (entered c .args .file .bytes) ≡ 64 = search needs in
     omega (arith, c .size .ensures)
 
-array-share-prefix-bytes : tie.Need-array-share-prefix-bytes
-array-share-prefix-bytes c = inside (c .before .before)
+-- where the size is known, from where the columns are lent
+abbrev sized : tie.After-values2 → tie.After-size
+sized c = c .before .before .before .before .before .before
 
-slice-aggregate-check-marking : tie.Need-slice-aggregate-check-marking
-slice-aggregate-check-marking c = sym (length-take-le _ _ (inside (c .before .before .before)))
+array-share-prefix-bytes : tie.Need-array-share-prefix-bytes
+array-share-prefix-bytes c = inside (sized c)
+
+slice-aggregate-check-marking-5 : tie.Need-slice-aggregate-check-marking-5
+slice-aggregate-check-marking-5 c = sym (length-take-le _ _ (inside (sized (c .before))))
 
 pub check-spec : {M : Type 1} → statement M
 check-spec =
     tie.close
-    (tie.spec (λ c κs. search needs) array-share-prefix-bytes slice-aggregate-check-marking
-    (λ c κs. search needs) (λ c κs. search needs) (λ c. search needs))
+    (tie.spec (λ c κs. search needs) (λ c. search needs) (λ c. search needs) (λ c. search needs) (λ c. search needs)
+    array-share-prefix-bytes slice-aggregate-check-marking-5 (λ c κs. search needs) (λ c κs. search needs) (λ c. search needs))
