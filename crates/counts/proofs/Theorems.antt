@@ -78,7 +78,15 @@ module _ (h : List Event) where
   unfolding range keep
   all-counted zero = refl
   all-counted (suc n) =
-      omega (arith, how-many-suc (hasStatus committed h) n, how-many-suc (hasStatus aborted h) n, how-many-suc (hasStatus pending h) n, how-many-suc (hasStatus live h) n, one-of-four (status h n), all-counted n)
+      omega (
+        arith,
+        how-many-suc (hasStatus committed h) n,
+        how-many-suc (hasStatus aborted h) n,
+        how-many-suc (hasStatus pending h) n,
+        how-many-suc (hasStatus live h) n,
+        one-of-four (status h n),
+        all-counted n,
+      )
 
   pub adds-up : tally h .committed + tally h .aborted + tally h .pending + tally h .live ≡ begins h
   unfolding tally standing
