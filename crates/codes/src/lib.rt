@@ -197,7 +197,8 @@ pub fn count_code(answer: Counting) -> u64
 // Joins the four numbers of a tally in one place.
 fn tally_place(tally: Tally) -> usize
     requires { ⌜ Quarters (tally .committed) (tally .aborted) (tally .pending) (tally .live) ⌝ }
-    ensures { λ r. ⌜ (r ≡ halves (pair (tally .committed) (tally .aborted)) (pair (tally .pending) (tally .live))) × (r ≤ most) ⌝ }
+    ensures { λ r. ⌜ (r ≡ halves (pair (tally .committed) (tally .aborted)) (pair (tally .pending) (tally .live))) ×
+        (r ≤ most) ⌝ }
 {
     let high = tally.committed * 256 + tally.aborted;
     let low = tally.pending * 256 + tally.live;

@@ -243,7 +243,8 @@ after-readable starts h count o e = ap (λ (y : Checked). decided y (lowestMarki
 
 -- ---- the lowest marking
 
-pub marking-some : (start : ℕ → ℕ) (h : List Event) {bytes : List ℕ} → lowestMarking start h ≡ some bytes → (J : List Place) × (lowestOf start h ≡ some J) × (bytes ≡ markingBytes (marked h J))
+pub marking-some : (start : ℕ → ℕ) (h : List Event) {bytes : List ℕ} → lowestMarking start h ≡ some bytes
+    → (J : List Place) × (lowestOf start h ≡ some J) × (bytes ≡ markingBytes (marked h J))
 unfolding lowestMarking
 marking-some start h {bytes} e = go (lowestOf start h) refl e
   where

@@ -64,7 +64,8 @@ module _ (places : List ℕ) (size : length places ≡ 10) where
       ∙ before-here (decode (take i places)) (coded code) (decode (drop (suc i) s)) (ap (λ (m : ℕ). placed m (decode (take i places))) h ∙ q) in
       sym (ap length b ∙ decode-length (take i places) ∙ length-take-le i places (omega arith))
 
-  pub not-yet : (t i code : ℕ) → i < 10 → code ≡ getD places i 0 → (code / 2 ≡ t → ⊥) → placed t (decode (take i places)) ≡ false → placed t (decode (take (i + 1) places)) ≡ false
+  pub not-yet : (t i code : ℕ) → i < 10 → code ≡ getD places i 0 → (code / 2 ≡ t → ⊥)
+      → placed t (decode (take i places)) ≡ false → placed t (decode (take (i + 1) places)) ≡ false
   not-yet t i code l c n q =
       ap (λ (m : ℕ). placed t (decode (take m places))) (add-one i) ∙ ap (λ (s : List ℕ). placed t (decode s)) (take-suc places i 0 (omega arith))
       ∙ ap (placed t) (decode-snoc (take i places) (getD places i 0)) ∙ placed-snoc t (decode (take i places)) (coded (getD places i 0))

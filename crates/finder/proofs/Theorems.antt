@@ -48,7 +48,8 @@ module _ (edition : ℕ) (starts : List ℕ) (c : Columns) (count prefix : ℕ) 
   judged-readable x = readable-take (history c count) prefix (inside x) (passed edition starts c count prefix (length output) x .readable)
 
   -- A question refuses exactly where it is the first that says no, and then the output is as it was.
-  pub refused-exactly : (r : Refusal) → (foundAnswer edition starts c count prefix output .result ≡ Finding.Refused r) ↔ (findRefusal edition starts c count prefix (length output) ≡ Checked.Refused r)
+  pub refused-exactly : (r : Refusal)
+      → (foundAnswer edition starts c count prefix output .result ≡ Finding.Refused r) ↔ (findRefusal edition starts c count prefix (length output) ≡ Checked.Refused r)
   unfolding foundAnswer
   refused-exactly r = (
     λ x. refused-e _ _ output r x .0,
