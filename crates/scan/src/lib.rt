@@ -1,9 +1,7 @@
 // The scan: the prefixes of a history, by rising length, until one has no justification.
 ghost use mathlib.Core.Path.{_≡_};
-ghost use mathlib.Core.Bool.{true, cond};
-ghost use Prim.Native.Nat.{_+_, _<_};
+ghost use mathlib.Core.Bool.{true};
 ghost use lib.ListN.{take};
-ghost use Rattle.events.specs.Events.{isBegin};
 ghost use Rattle.events.specs.Questions.{readable};
 ghost use Rattle.log.specs.Columns.{columns};
 ghost use Rattle.log.specs.Rows.{logged, Entered};
@@ -15,10 +13,10 @@ ghost use Rattle.scan.specs.Answer.{scanAnswer};
 ghost use Rattle.scan.specs.Logs.{scanOf, scanAfter};
 use events::event::Event;
 use events::event::is_abort;
-use events::event::is_begin;
 use events::event::is_commit;
 use events::event::is_read;
 use events::refusal::Refusal;
+use events::state::begun_after;
 use log::admit::Checked;
 use log::admit::admit;
 use log::rows::Row;
@@ -33,17 +31,6 @@ const SEARCHED: usize = 10;
 pub enum Scanning {
     Scanned(Scanned),
     Refused(Refusal),
-}
-
-// How many transactions have begun, with one event more.
-fn counted(begun: usize, e: Event) -> usize
-    requires { ⌜ begun < 100 ⌝ }
-    ensures { λ r. ⌜ r ≡ cond (isBegin e) (begun + 1) begun ⌝ }
-{
-    if is_begin(e) {
-        return begun + 1;
-    }
-    begun
 }
 
 // The cause: 1 read returned, 2 committed, 3 aborted, 4 any other.
@@ -88,7 +75,7 @@ fn scan_prefixes(starts: &[u32; 32], log: &[Row]) -> Scanned
         let e = event_at(log, i);
         let kept = witness::carry(starts, &facts, order, n, e);
         s = s.step(&mut facts, e);
-        n = counted(n, e);
+        n = begun_after(n, e);
         order = kept;
         if kept == 0 {
             order = lowest::complete(starts, s, &facts, n);
