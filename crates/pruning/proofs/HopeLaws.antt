@@ -25,7 +25,7 @@ use Rattle.pruning.specs.Runs.{holds, Awaited, Hope, Ready, Renewed, oth
 use Rattle.lists.proofs.BitLaws.{member-lt, member-off, member-kept, and-member, lowest-in}
 use Rattle.places.proofs.SetLaws.{not-gone, member-passes, members-pass}
 use Rattle.places.proofs.LookupLaws.{decode-snoc}
-use Rattle.pruning.proofs.RunLaws.{Step, step-of, run-ends, none-runs}
+use Rattle.pruning.proofs.RunLaws.{RunStep, step-of, run-ends, none-runs}
 
 -- ---- what the registers hold
 
@@ -99,7 +99,7 @@ not-other rule o x two low f h = go (eqb rule o) refl h
     go false e g = ap not (ne-eqb rule x (λ q. omega (arith, eqb-true rule 2 g)))
 
 module _ (D : Constraints) (s : Search) (need u : ℕ) (p l : List ℕ) (t : ℕ) where
-  step : (o : ℕ) → o < 2 → Awaited D s need u p ((t * 2 + o) ∷ l) → Step D p u t o l
+  step : (o : ℕ) → o < 2 → Awaited D s need u p ((t * 2 + o) ∷ l) → RunStep D p u t o l
   step o two a = step-of D p u t o l two (a .run)
 
   fits : (o : ℕ) → o < 2 → Awaited D s need u p ((t * 2 + o) ∷ l) → Fits D p u t o

@@ -19,7 +19,7 @@ use Rattle.pruning.specs.Runs.{runs, holds, Awaited, NoSource, Orphaned}
 use Rattle.lists.proofs.BitLaws.{member-off, member-kept}
 use Rattle.places.proofs.SetLaws.{member-passes}
 use Rattle.pruning.proofs.EffectLaws.{writes-nothing, reads-nothing, spoils}
-use Rattle.pruning.proofs.RunLaws.{Step, step-of, run-ends}
+use Rattle.pruning.proofs.RunLaws.{RunStep, step-of, run-ends}
 use Rattle.pruning.proofs.HopeLaws.{Fits, fits-parts, not-other, aborted-place, Needs, hopeless}
 
 module _ (D : Constraints) (t r set : ℕ) (low : r < 32) (isRead : bitAt r (readsAsked (D .facts) (D .asked) t) ≡ 1)
@@ -54,7 +54,7 @@ module _ (D : Constraints) (t r set : ℕ) (low : r < 32) (isRead : bitAt r (rea
       let s = step-of D p u (c / 2) (c % 2) l (omega arith) (rw e at run) in
       go (c / 2) (c % 2) (omega arith) s (fits-parts D p u (c / 2) (c % 2) (omega arith) (s .fits)) (eqb (c / 2) t) refl (lost-run l)
     where
-      go : (y z : ℕ) → z < 2 → Step D p u y z l → Fits D p u y z → (d : Bool) → eqb y t ≡ d
+      go : (y z : ℕ) → z < 2 → RunStep D p u y z l → Fits D p u y z → (d : Bool) → eqb y t ≡ d
           → ((q : ℕ) (k : List ℕ) → q < 1024 → bitAt t q ≡ 1 → ((j : ℕ) → bitAt j q ≡ 1 → bitAt j set ≡ 1) → (legal-after k ≡ true → ⊥)
           → runs D k q l ≡ true → ⊥)
           → ⊥

@@ -22,12 +22,12 @@ use Rattle.places.proofs.SetLaws.{members-remove, members-pass}
 -- ---- one place of a run
 
 -- t with outcome o comes next, and then the run l
-pub record Step (D : Constraints) (p : List ℕ) (u t o : ℕ) (l : List ℕ) : Type 0 where
+pub record RunStep (D : Constraints) (p : List ℕ) (u t o : ℕ) (l : List ℕ) : Type 0 where
   pub isIn : bitAt t u ≡ 1
   pub fits : fitsAt D p (members u) t o ≡ true
   pub rest : runs D (p ++ ((t * 2 + o) ∷ [])) (u - 2 ^ t) l ≡ true
 
-pub step-of : (D : Constraints) (p : List ℕ) (u t o : ℕ) (l : List ℕ) → o < 2 → runs D p u ((t * 2 + o) ∷ l) ≡ true → Step D p u t o l
+pub step-of : (D : Constraints) (p : List ℕ) (u t o : ℕ) (l : List ℕ) → o < 2 → runs D p u ((t * 2 + o) ∷ l) ≡ true → RunStep D p u t o l
 unfolding runs
 step-of D p u t o l two h =
     let a : (t * 2 + o) / 2 ≡ t = omega arith in
@@ -35,7 +35,7 @@ step-of D p u t o l two h =
     let g = rw (a, b) at h in
     record { isIn = eqb-true (bitAt t u) 1 (and-l _ _ g); fits = and-l _ _ (and-r _ _ g); rest = and-r _ _ (and-r _ _ g) }
 
-pub of-step : (D : Constraints) (p : List ℕ) (u t o : ℕ) (l : List ℕ) → o < 2 → Step D p u t o l → runs D p u ((t * 2 + o) ∷ l) ≡ true
+pub of-step : (D : Constraints) (p : List ℕ) (u t o : ℕ) (l : List ℕ) → o < 2 → RunStep D p u t o l → runs D p u ((t * 2 + o) ∷ l) ≡ true
 unfolding runs
 of-step D p u t o l two s =
     let a : (t * 2 + o) / 2 ≡ t = omega arith in

@@ -121,6 +121,6 @@ unfoldable pub otherThan : List (List ℕ) → ℕ → ℕ → ℕ → Bool
 otherThan f need t o = cond (noneIn (afterOf f t) (members need)) (not (eqb (allowedOf f t) o)) false
 
 -- r is what is needed still of need, when all of it that is ready and may be aborted is passed over
-pub record Settled (f : List (List ℕ)) (ready need r : ℕ) : Type 0 where
+pub record StillNeeded (f : List (List ℕ)) (ready need r : ℕ) : Type 0 where
   pub within : Within need r
   pub stuck : (k : ℕ) → bitAt k r ≡ 1 → bitAt k ready ≡ 1 → otherThan f r k 1 ≡ false

@@ -11,7 +11,7 @@ ghost use Rattle.places.specs.Facts.{endRow, afterOf};
 ghost use Rattle.places.specs.State.{placedOf, Sound, Placeable, Keeps};
 ghost use Rattle.places.specs.Tree.{asking, legalReads};
 ghost use Rattle.places.specs.Choice.{among};
-ghost use Rattle.pruning.specs.Runs.{Hope, HopeBy, Ready, Renewed, Stays, Effects, Orphaned, otherThan, Settled};
+ghost use Rattle.pruning.specs.Runs.{Hope, HopeBy, Ready, Renewed, Stays, Effects, Orphaned, otherThan, StillNeeded};
 use crate::effects::HELPED;
 use crate::effects::orphaned;
 use places::facts::ABORTED;
@@ -129,15 +129,15 @@ fn other_than(facts: &[Facts; 11], need: u64, t: usize, outcome: u64) -> bool
 }
 
 // What is needed still when each that is ready and may be aborted has been passed over.
-fn settle(facts: &[Facts; 11], need: u64, ready: u64) -> u64
+fn still_needed(facts: &[Facts; 11], need: u64, ready: u64) -> u64
     requires { ⌜ ready < 1024 ⌝ }
-    ensures { λ r. ⌜ Settled (now (facts .entry)) ready need r ⌝ }
+    ensures { λ r. ⌜ StillNeeded (now (facts .entry)) ready need r ⌝ }
 {
     let mut left = need & ready;
     while left != 0 {
         let t = sets::lowest(left);
         if other_than(facts, need, t, COMMITTED) {
-            return settle(facts, sets::without(need, t), ready);
+            return still_needed(facts, sets::without(need, t), ready);
         }
         left = sets::without(left, t);
     }
@@ -159,7 +159,7 @@ fn possible(
     requires { ⌜ Effects (now facts) asked (now effects) ⌝ }
     ensures { λ r. ⌜ Hope (asking (now (starts .entry)) (now (facts .entry)) asked) s need r ⌝ }
 {
-    let rest = settle(facts, need, ready);
+    let rest = still_needed(facts, need, ready);
     if rest == 0 {
         return true;
     }

@@ -62,14 +62,14 @@ step-requires c κs =
     let s = entered (turn a) in
     tabled (given s) (s .pre) (turn a .loop .i) (inside a) (a .event-at .result) (a .event-at .ensures)
 
-counted-requires : tie.Need-counted-requires Inv-loop μ-loop
-counted-requires c κs =
+begun-after-requires : tie.Need-begun-after-requires Inv-loop μ-loop
+begun-after-requires c κs =
     let a = event-read (carried c) in
     let l = turn a in
     let s = entered l in
     let few =
     few-before (s .args .starts .now) (given s) (s .pre) (l .loop .i) (inside a) (a .event-at .result) (a .event-at .ensures) (tables-at l) (l .loop .n) (l .loop .order) (l .loop .inv) in
-    omega arith
+    λ b. omega arith
 
 complete-requires : tie.Need-complete-requires Inv-loop μ-loop
 complete-requires c κs =
@@ -78,9 +78,9 @@ complete-requires c κs =
     let l = turn a in
     let s = entered l in (
       few-begun (s .args .starts .now) (given s) (s .pre) (l .loop .i) (inside a) (a .event-at .result) (a .event-at .ensures) (tables-at l) (l .loop .n) (l .loop .order) (l .loop .inv)
-          _ (n .counted .result) (n .before .step .ensures) (n .counted .ensures),
+          _ (n .begun-after .result) (n .before .step .ensures) (n .begun-after .ensures),
       end-asked (s .args .starts .now) (given s) (s .pre) (l .loop .i) (inside a) (a .event-at .result) (a .event-at .ensures) (tables-at l) (l .loop .n) (l .loop .order) (l .loop .inv)
-          _ (n .counted .result) (n .before .step .ensures) (n .counted .ensures),
+          _ (n .begun-after .result) (n .before .step .ensures) (n .begun-after .ensures),
     )
 
 returns : tie.Need-returns Inv-loop μ-loop
@@ -93,7 +93,7 @@ returns c =
     let s = entered l in
     c .faulted .ensures
     ∙ scanning-fault (s .args .starts .now) (given s) (s .pre) (l .loop .i) (inside a) (a .event-at .result) (a .event-at .ensures) (tables-at l) (l .loop .n) (l .loop .order) (l .loop .inv)
-    _ (n .counted .result) (n .before .step .ensures) (n .counted .ensures) (k .carry .result) (q .if1 .order) (k .carry .ensures)
+    _ (n .begun-after .result) (n .before .step .ensures) (n .begun-after .ensures) (k .carry .result) (q .if1 .order) (k .carry .ensures)
     (⊎-elim (λ w. judged-anew _ _ _ _ _ (w .0 .taken) (w .3) (w .2 .ensures)) (λ w. judged-kept _ _ _ _ (w .0 .left) (w .1)) (q .if1 .came)) (c .before .if2 .taken)
 
 loop-again : tie.Need-loop-again Inv-loop μ-loop
@@ -105,7 +105,7 @@ loop-again c =
     let l = turn a in
     let s = entered l in
     scanning-more (s .args .starts .now) (given s) (s .pre) (l .loop .i) (inside a) (a .event-at .result) (a .event-at .ensures) (tables-at l) (l .loop .n) (l .loop .order) (l .loop .inv)
-    _ (n .counted .result) (n .before .step .ensures) (n .counted .ensures) (k .carry .result) (q .if1 .order) (k .carry .ensures)
+    _ (n .begun-after .result) (n .before .step .ensures) (n .begun-after .ensures) (k .carry .result) (q .if1 .order) (k .carry .ensures)
     (⊎-elim (λ w. judged-anew _ _ _ _ _ (w .0 .taken) (w .3) (w .2 .ensures)) (λ w. judged-kept _ _ _ _ (w .0 .left) (w .1)) (q .if1 .came)) (c .if2 .left)
 
 returns-2 : tie.Need-returns-2 Inv-loop μ-loop
@@ -118,5 +118,5 @@ pub scan-prefixes-spec : {M : Type 1} → statement M
 scan-prefixes-spec =
     tie.close
     (tie.spec Inv-loop μ-loop (λ c κs. search needs) loop-holds (λ c κs. search needs)
-    carry-requires step-requires counted-requires complete-requires (λ c κs. search needs) returns
+    carry-requires step-requires begun-after-requires complete-requires (λ c κs. search needs) returns
     (λ c. search needs) (λ c. search needs) loop-again returns-2)

@@ -28,7 +28,7 @@ use Rattle.pruning.proofs.hope.+leads+possible.Lts-possible as possible
 use Rattle.pruning.proofs.hope.other_than.Reads as other-than-reads
 use Rattle.pruning.proofs.effects.orphaned.Reads as orphaned-reads
 use Rattle.pruning.proofs.hope.ready_after.Reads as ready-after-reads
-use Rattle.pruning.proofs.hope.settle.Reads as settle-reads
+use Rattle.pruning.proofs.hope.still_needed.Reads as still-needed-reads
 use Rattle.places.proofs.sets.lowest.Reads as lowest-reads
 use Rattle.places.proofs.sets.without.Reads as without-reads
 use Rattle.places.proofs.state.Search.place.Reads as place-reads
@@ -71,8 +71,8 @@ leads-claims t = (
 
 abbrev possible-claims : ℕ → possible-lts.Claims
 possible-claims t = (
-  settle-reads.Asked,
-  settle-reads.Learnt,
+  still-needed-reads.Asked,
+  still-needed-reads.Learnt,
   lowest-reads.Asked,
   lowest-reads.Learnt,
   leads-below t,
@@ -153,8 +153,8 @@ asked t a =
     let at = a .before .before .loop in
     lowest-member _ (at .left) (omega (arith, at .inv .0 .few, a .before .before .before .before .before .pre .1 .0 .few)) (a .before .loop-test .taken) (a .lowest .ensures)
 
-possible-settle-requires : (t : ℕ) → possible-lts.Need-settle-requires (possible-claims t) (possible-at t) possible.Post possible-Inv-loop possible-μ-loop
-possible-settle-requires t c κs =
+possible-still-needed-requires : (t : ℕ) → possible-lts.Need-still-needed-requires (possible-claims t) (possible-at t) possible.Post possible-Inv-loop possible-μ-loop
+possible-still-needed-requires t c κs =
     omega (arith, c .pre .1 .1 .0 .within .few, c .pre .1 .0 .few)
 
 possible-returns : (t : ℕ) → possible-lts.Need-returns (possible-claims t) (possible-at t) possible.Post possible-Inv-loop possible-μ-loop
@@ -166,7 +166,7 @@ possible-loop-holds t c =
     let start = c .before .before in
     let D = asking (start .args .starts .now) (start .args .facts .now) (start .args .asked) in
     let known = start .pre .1 .1 .0 in
-    (known .within, λ k out u p l a. out (next-ready D (start .args .s) (c .before .settle .result) u p l k (start .args .ready) 1 (omega arith) known a))
+    (known .within, λ k out u p l a. out (next-ready D (start .args .s) (c .before .still-needed .result) u p l k (start .args .ready) 1 (omega arith) known a))
 
 possible-lowest-requires : (t : ℕ) → possible-lts.Need-lowest-requires (possible-claims t) (possible-at t) possible.Post possible-Inv-loop possible-μ-loop
 possible-lowest-requires t c κs =
@@ -208,7 +208,7 @@ possible-loop-again t c =
     let D = asking (start .args .starts .now) (start .args .facts .now) (start .args .asked) in
     let rest = c .without .result in (
       within-rest (start .args .s .unplaced) (at .left) t′ rest (at .inv .0) isIn (c .without .ensures),
-      passed-one (Missed D (start .args .s) (turn .before .before .before .before .settle .result)) t′ (at .left) rest isIn (c .without .ensures)
+      passed-one (Missed D (start .args .s) (turn .before .before .before .before .still-needed .result)) t′ (at .left) rest isIn (c .without .ensures)
           (λ u p l a. clash (c .before .before .leads .ensures u p l a) (c .before .if2 .left)) (at .inv .1),
     )
 
@@ -217,7 +217,7 @@ possible-returns-3 t c =
     let start = c .before .before .before .before in
     let at = c .before .loop in
     let D = asking (start .args .starts .now) (start .args .facts .now) (start .args .asked) in
-    let needed = c .before .before .before .settle in
+    let needed = c .before .before .before .still-needed in
     let known = start .pre .1 .1 .0 in
     λ u p l a. absurd (no-run D (start .args .s) (needed .result) (start .args .ready) (omega (arith, needed .ensures .within .few, start .fits .need .fits)) (c .before .before .if1 .left)
     known (needed .ensures .stuck) (λ k. at .inv .1 k (no-member k (at .left) (c .loop-test .left))) l u p
@@ -240,7 +240,7 @@ pub +leads+possible-spec : {M : Type 1} → statement M
     possible.Post
     possible-Inv-loop
     possible-μ-loop
-    (possible-settle-requires t)
+    (possible-still-needed-requires t)
     (possible-returns t)
     (possible-loop-holds t)
     (possible-lowest-requires t)

@@ -1,4 +1,4 @@
--- The proof of the cycle of calls {settle}. The measure is the set of what is needed: each call has one member less.
+-- The proof of the cycle of calls {still_needed}. The measure is the set of what is needed: each call has one member less.
 -- Assumes nothing.
 use mathlib.Core.Path.{_≡_, sym, subst, _∙_}
 use mathlib.Core.Bool.{false}
@@ -13,26 +13,26 @@ use Rattle.lists.proofs.BitLaws.{member-le, member-lt, no-member, member-and}
 use Rattle.places.proofs.SetLaws.{lowest-member, within-self, within-trans, within-rest, within-and-l, within-and-r, passed-one}
 use borrow.Fn.Kinds.{In}
 use borrow.Fn.PlainCycle.{Measures, is, falls, and}
-use Rattle.pruning.proofs.hope.settle.Reads as settle
-use Rattle.pruning.proofs.hope.settle.Kinds as settle-kinds
-use Rattle.pruning.proofs.hope.+settle.Lts-settle as settle-lts
+use Rattle.pruning.proofs.hope.still_needed.Reads as still-needed
+use Rattle.pruning.proofs.hope.still_needed.Kinds as still-needed-kinds
+use Rattle.pruning.proofs.hope.+still_needed.Lts-still_needed as still-needed-lts
 use Rattle.pruning.proofs.hope.other_than.Reads as other-than-reads
 use Rattle.places.proofs.sets.lowest.Reads as lowest-reads
 use Rattle.places.proofs.sets.without.Reads as without-reads
-use Rattle.pruning.proofs.hope.+settle.{statement}
-use Rattle.pruning.proofs.hope.+settle.Tie.{close}
+use Rattle.pruning.proofs.hope.+still_needed.{statement}
+use Rattle.pruning.proofs.hope.+still_needed.Tie.{close}
 
-abbrev μ-settle : Measures 1 settle-kinds.ps ℕ
-μ-settle κs a = a .1 .0
+abbrev μ-still-needed : Measures 1 still-needed-kinds.ps ℕ
+μ-still-needed κs a = a .1 .0
 
-abbrev settle-at : ℕ → In 1 settle-kinds.ps
-settle-at t = and 1 settle-kinds.ps (is 1 settle-kinds.ps μ-settle t) settle.Pre
+abbrev still-needed-at : ℕ → In 1 still-needed-kinds.ps
+still-needed-at t = and 1 still-needed-kinds.ps (is 1 still-needed-kinds.ps μ-still-needed t) still-needed.Pre
 
-abbrev settle-below : ℕ → In 1 settle-kinds.ps
-settle-below t = and 1 settle-kinds.ps (falls 1 settle-kinds.ps _<_ μ-settle t) settle.Pre
+abbrev still-needed-below : ℕ → In 1 still-needed-kinds.ps
+still-needed-below t = and 1 still-needed-kinds.ps (falls 1 still-needed-kinds.ps _<_ μ-still-needed t) still-needed.Pre
 
 -- what it is handed of the functions that it calls
-abbrev claims : ℕ → settle-lts.Claims
+abbrev claims : ℕ → still-needed-lts.Claims
 claims t = (
   lowest-reads.Asked,
   lowest-reads.Learnt,
@@ -40,54 +40,54 @@ claims t = (
   other-than-reads.Learnt,
   without-reads.Asked,
   without-reads.Learnt,
-  settle-below t,
-  settle.Post,
+  still-needed-below t,
+  still-needed.Post,
 )
 
 -- k may not be passed over
 abbrev Stays : List (List ℕ) → ℕ → ℕ → ℕ → Type 0
 Stays facts need ready k = bitAt k need ≡ 1 → bitAt k ready ≡ 1 → otherThan facts need k 1 ≡ false
 
-abbrev settle-Inv-loop : settle-lts.InvT-loop
-settle-Inv-loop facts need ready left₀ left =
+abbrev still-needed-Inv-loop : still-needed-lts.InvT-loop
+still-needed-Inv-loop facts need ready left₀ left =
     Within need left × Within ready left × ((k : ℕ) → (bitAt k left ≡ 1 → ⊥) → Stays facts need ready k)
 
-abbrev settle-μ-loop : settle-lts.MeasureT-loop
-settle-μ-loop facts need ready left₀ left = left
+abbrev still-needed-μ-loop : still-needed-lts.MeasureT-loop
+still-needed-μ-loop facts need ready left₀ left = left
 
 -- the transaction of a turn is one of those left
-asked : (t : ℕ) (a : settle-lts.After-lowest (claims t) (settle-at t) settle.Post settle-Inv-loop settle-μ-loop) → bitAt (a .lowest .result) (a .before .before .loop .left) ≡ 1
+asked : (t : ℕ) (a : still-needed-lts.After-lowest (claims t) (still-needed-at t) still-needed.Post still-needed-Inv-loop still-needed-μ-loop) → bitAt (a .lowest .result) (a .before .before .loop .left) ≡ 1
 asked t a =
     let at = a .before .before .loop in
     lowest-member _ (at .left) (omega (arith, at .inv .0 .few, a .before .before .before .fits .need .fits)) (a .before .loop-test .taken) (a .lowest .ensures)
 
-settle-loop-holds : (t : ℕ) → settle-lts.Need-loop-holds (claims t) (settle-at t) settle.Post settle-Inv-loop settle-μ-loop
-settle-loop-holds t c =
+still-needed-loop-holds : (t : ℕ) → still-needed-lts.Need-loop-holds (claims t) (still-needed-at t) still-needed.Post still-needed-Inv-loop still-needed-μ-loop
+still-needed-loop-holds t c =
     let a = c .args in
     (within-and-l (a .need) (a .ready), within-and-r (a .need) (a .ready), λ k out g h. absurd (out (member-and k (a .need) (a .ready) g h)))
 
-settle-lowest-requires : (t : ℕ) → settle-lts.Need-lowest-requires (claims t) (settle-at t) settle.Post settle-Inv-loop settle-μ-loop
-settle-lowest-requires t c κs =
+still-needed-lowest-requires : (t : ℕ) → still-needed-lts.Need-lowest-requires (claims t) (still-needed-at t) still-needed.Post still-needed-Inv-loop still-needed-μ-loop
+still-needed-lowest-requires t c κs =
     tt
 
-settle-other-than-requires : (t : ℕ) → settle-lts.Need-other-than-requires (claims t) (settle-at t) settle.Post settle-Inv-loop settle-μ-loop
-settle-other-than-requires t c κs =
+still-needed-other-than-requires : (t : ℕ) → still-needed-lts.Need-other-than-requires (claims t) (still-needed-at t) still-needed.Post still-needed-Inv-loop still-needed-μ-loop
+still-needed-other-than-requires t c κs =
     let start = c .before .before .before in
     let at = c .before .before .loop in
     let t′ = c .lowest .result in
     let isIn = asked t c in
     member-lt t′ (start .args .ready) 10 (at .inv .1 .isIn t′ isIn) (start .pre .1)
 
-settle-without-requires : (t : ℕ) → settle-lts.Need-without-requires (claims t) (settle-at t) settle.Post settle-Inv-loop settle-μ-loop
-settle-without-requires t c κs =
+still-needed-without-requires : (t : ℕ) → still-needed-lts.Need-without-requires (claims t) (still-needed-at t) still-needed.Post still-needed-Inv-loop still-needed-μ-loop
+still-needed-without-requires t c κs =
     let start = c .before .before .before .before .before in
     let at = c .before .before .before .before .loop in
     let t′ = c .before .before .lowest .result in
     let isIn = asked t (c .before .before) in
     at .inv .0 .isIn t′ isIn
 
-settle-settle-requires : (t : ℕ) → settle-lts.Need-settle-requires (claims t) (settle-at t) settle.Post settle-Inv-loop settle-μ-loop
-settle-settle-requires t c κs =
+still-needed-still-needed-requires : (t : ℕ) → still-needed-lts.Need-still-needed-requires (claims t) (still-needed-at t) still-needed.Post still-needed-Inv-loop still-needed-μ-loop
+still-needed-still-needed-requires t c κs =
     let start = c .before .before .before .before .before .before in
     let at = c .before .before .before .before .before .loop in
     let t′ = c .before .before .before .lowest .result in
@@ -96,26 +96,26 @@ settle-settle-requires t c κs =
     let positive = pow-pos t′ in
     (subst (λ (n : ℕ). c .without .result < n) (start .pre .0) (omega (arith, c .without .ensures)), start .pre .1)
 
-settle-returns : (t : ℕ) → settle-lts.Need-returns (claims t) (settle-at t) settle.Post settle-Inv-loop settle-μ-loop
-settle-returns t c =
+still-needed-returns : (t : ℕ) → still-needed-lts.Need-returns (claims t) (still-needed-at t) still-needed.Post still-needed-Inv-loop still-needed-μ-loop
+still-needed-returns t c =
     let start = c .before .before .before .before .before .before .before in
     let at = c .before .before .before .before .before .before .loop in
     let t′ = c .before .before .before .before .lowest .result in
     let isIn = asked t (c .before .before .before .before) in
     let need = start .args .need in
     let one = within-rest need need t′ (c .before .without .result) (within-self need) (at .inv .0 .isIn t′ isIn) (c .before .without .ensures) in
-    record { within = within-trans need (c .before .without .result) (c .settle .result) one (c .settle .ensures .within); stuck = c .settle .ensures .stuck }
+    record { within = within-trans need (c .before .without .result) (c .still-needed .result) one (c .still-needed .ensures .within); stuck = c .still-needed .ensures .stuck }
 
-settle-without-requires-2 : (t : ℕ) → settle-lts.Need-without-requires-2 (claims t) (settle-at t) settle.Post settle-Inv-loop settle-μ-loop
-settle-without-requires-2 t c κs =
+still-needed-without-requires-2 : (t : ℕ) → still-needed-lts.Need-without-requires-2 (claims t) (still-needed-at t) still-needed.Post still-needed-Inv-loop still-needed-μ-loop
+still-needed-without-requires-2 t c κs =
     let start = c .before .before .before .before .before in
     let at = c .before .before .before .before .loop in
     let t′ = c .before .before .lowest .result in
     let isIn = asked t (c .before .before) in
     isIn
 
-settle-loop-less : (t : ℕ) → settle-lts.Need-loop-less (claims t) (settle-at t) settle.Post settle-Inv-loop settle-μ-loop
-settle-loop-less t c =
+still-needed-loop-less : (t : ℕ) → still-needed-lts.Need-loop-less (claims t) (still-needed-at t) still-needed.Post still-needed-Inv-loop still-needed-μ-loop
+still-needed-loop-less t c =
     let start = c .before .before .before .before .before .before in
     let at = c .before .before .before .before .before .loop in
     let t′ = c .before .before .before .lowest .result in
@@ -124,8 +124,8 @@ settle-loop-less t c =
     let positive = pow-pos t′ in
     omega (arith, c .without2 .ensures)
 
-settle-loop-again : (t : ℕ) → settle-lts.Need-loop-again (claims t) (settle-at t) settle.Post settle-Inv-loop settle-μ-loop
-settle-loop-again t c =
+still-needed-loop-again : (t : ℕ) → still-needed-lts.Need-loop-again (claims t) (still-needed-at t) still-needed.Post still-needed-Inv-loop still-needed-μ-loop
+still-needed-loop-again t c =
     let start = c .before .before .before .before .before .before in
     let at = c .before .before .before .before .before .loop in
     let t′ = c .before .before .before .lowest .result in
@@ -138,24 +138,24 @@ settle-loop-again t c =
           (λ g h. sym (c .before .before .other-than .ensures) ∙ c .before .if1 .left) (at .inv .2),
     )
 
-settle-returns-2 : (t : ℕ) → settle-lts.Need-returns-2 (claims t) (settle-at t) settle.Post settle-Inv-loop settle-μ-loop
-settle-returns-2 t c =
+still-needed-returns-2 : (t : ℕ) → still-needed-lts.Need-returns-2 (claims t) (still-needed-at t) still-needed.Post still-needed-Inv-loop still-needed-μ-loop
+still-needed-returns-2 t c =
     let at = c .before .loop in
     record { within = within-self (c .before .before .args .need); stuck = λ k. at .inv .2 k (no-member k (at .left) (c .loop-test .left)) }
 
-pub +settle-spec : {M : Type 1} → statement M
-+settle-spec = close μ-settle λ t. settle-lts.spec (claims t)
-    (settle-at t)
-    settle.Post
-    settle-Inv-loop
-    settle-μ-loop
-    (settle-loop-holds t)
-    (settle-lowest-requires t)
-    (settle-other-than-requires t)
-    (settle-without-requires t)
-    (settle-settle-requires t)
-    (settle-returns t)
-    (settle-without-requires-2 t)
-    (settle-loop-less t)
-    (settle-loop-again t)
-    (settle-returns-2 t)
+pub +still-needed-spec : {M : Type 1} → statement M
++still-needed-spec = close μ-still-needed λ t. still-needed-lts.spec (claims t)
+    (still-needed-at t)
+    still-needed.Post
+    still-needed-Inv-loop
+    still-needed-μ-loop
+    (still-needed-loop-holds t)
+    (still-needed-lowest-requires t)
+    (still-needed-other-than-requires t)
+    (still-needed-without-requires t)
+    (still-needed-still-needed-requires t)
+    (still-needed-returns t)
+    (still-needed-without-requires-2 t)
+    (still-needed-loop-less t)
+    (still-needed-loop-again t)
+    (still-needed-returns-2 t)
