@@ -17,7 +17,7 @@ use Rattle.reader.specs.declared.HistoryRead.{HistoryRead}
 use Rattle.reader.specs.Reading.{Log, Outcome, readable, refused, historyOf, historyRead, notRead, answered as filledIn, filled, readAnswer}
 use Rattle.writer.specs.declared.Writing.{Writing}
 use Rattle.writer.specs.declared.Writing.the-variants.{Written, Refused as Unwritten}
-use Rattle.writer.specs.Writing.{fileOf, answered, written, writtenAnswer}
+use Rattle.writer.specs.Writing.{fileOf, answered, writtenAfter, writtenAnswer}
 use Rattle.marking.specs.Answer.{verdictAnswer}
 use Rattle.counts.specs.Answer.{transactionsAnswer, storeReadsAnswer, tallyAnswer}
 
@@ -69,7 +69,7 @@ module _ (c d : Columns) (count : ℕ) (same-room : hold c count ≡ hold d coun
       by-room f o true = refl
       by-room f o false = refl
 
-      said : (f o : List ℕ) (v : Checked) → written f count o v .result ≡ roomFor (length o) f v
+      said : (f o : List ℕ) (v : Checked) → writtenAfter f count o v .result ≡ roomFor (length o) f v
       said f o Readable = by-room f o (leb (length f) (length o))
       said f o (Refuses r) = refl
 

@@ -20,7 +20,7 @@ use Rattle.log.specs.Answer.{columnsAnswer, historyAnswer}
 use Rattle.reader.specs.declared.Reading.{Reading}
 use Rattle.reader.specs.Reading.{Log, Outcome, readable as isRead, refused as unread, historyOf, historyRead, notRead, answered as answers, filled, readAnswer}
 use Rattle.writer.specs.declared.Writing.{Writing}
-use Rattle.writer.specs.Writing.{fileOf, written, answered, writtenAnswer}
+use Rattle.writer.specs.Writing.{fileOf, writtenAfter, answered, writtenAnswer}
 use Rattle.finder.specs.Answer.{prefixRefusal, callRefusal, findRefusal}
 use Rattle.scan.specs.declared.Scanning.{Scanning}
 use Rattle.scan.specs.Answer.{sizeRefusal, scanRefusal, scanAnswer}
@@ -77,7 +77,7 @@ write-refusal edition starts c count output r x = go (historyAnswer edition star
     room true k = let z : _≡_ {A = ℕ} 0 1 = cc in absurd (omega arith)
     room false k = let e : refuse 15 count ≡ r = cc in short-refusal count r e
 
-    go : (v : Checked) → historyAnswer edition starts c count ≡ v → written file count output v .result ≡ Writing.Refused r → Asked 3 17 count r
+    go : (v : Checked) → historyAnswer edition starts c count ≡ v → writtenAfter file count output v .result ≡ Writing.Refused r → Asked 3 17 count r
     go Checked.Readable w k = room (leb (length file) (length output)) k
     go (Checked.Refused p) w k = let e : p ≡ r = cc in call-number edition starts c count r (w ∙ ap Checked.Refused e)
 
