@@ -26,7 +26,7 @@ use Rattle.opacity.specs.Verdicts.{RuleD, FirstBroken}
 use Rattle.opacity.specs.Scan.{scan, AllJustified, FaultsAt}
 use Rattle.opacity.specs.Counts.{counts}
 use Rattle.opacity.proofs.Theorems.{opaque-iff, faulted-iff, accepted-iff-justified, broken-iff-first}
-use Rattle.counts.specs.Tally.{standing, tally, times}
+use Rattle.counts.specs.Tally.{ofStatus, tally, times}
 use Rattle.counts.proofs.Theorems.{adds-up, counted-once, counted-iff}
 use Rattle.marking_reader.specs.File.{known, FileRead, content, refused as unread, fileRead}
 use Rattle.marking_reader.proofs.ContentLaws.{content-readable}
@@ -74,12 +74,12 @@ module _ (s : List ℕ) (by : Bytes s) (l : Log) (file : historyOf s ≡ readabl
 
   -- each of them is counted there in exactly one of the four,
   pub tally-counts-once : (t : ℕ) → t < countsOf h .transactions
-      → times t (standing committed h) + times t (standing aborted h) + times t (standing pending h) + times t (standing live h) ≡ 1
+      → times t (ofStatus committed h) + times t (ofStatus aborted h) + times t (ofStatus pending h) + times t (ofStatus live h) ≡ 1
   unfolding countsOf counts
   tally-counts-once t k = counted-once h t k
 
   -- that which its events say
-  pub tally-counts-as : (s : Status) (t : ℕ) → (times t (standing s h) ≡ 1) ↔ ((t < countsOf h .transactions) × HasStatus s h t)
+  pub tally-counts-as : (s : Status) (t : ℕ) → (times t (ofStatus s h) ≡ 1) ↔ ((t < countsOf h .transactions) × HasStatus s h t)
   unfolding countsOf counts
   tally-counts-as s t = counted-iff h is-readable s t
 

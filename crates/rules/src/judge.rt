@@ -14,7 +14,7 @@ ghost use Rattle.reads.specs.Own.{OwnWrites};
 ghost use Rattle.links.specs.Tables.{slot};
 ghost use Rattle.rules.specs.Orders.{broken};
 ghost use Rattle.rules.specs.Walks.{Pointable};
-ghost use Rattle.rules.specs.Judge.{content, Given, placesVerdict, readsVerdict};
+ghost use Rattle.rules.specs.Judge.{content, Judgeable, placesVerdict, readsVerdict};
 use crate::order::rule_a;
 use crate::order::rule_b;
 use crate::places::Writer;
@@ -129,8 +129,8 @@ fn judge_places(
     requires { ⌜ ((t : ℕ) → getD (now place) t 0 < 64) ⌝ }
     ensures { λ v. ⌜ v ≡ placesVerdict (logged (now (log .entry))) tables (now (place .entry)) (now (outcomes .entry)) begun ⌝ }
 {
-    let standing = tables.standing;
-    let t = rule_a(&standing, place, outcomes, begun);
+    let ranks = tables.ranks;
+    let t = rule_a(&ranks, place, outcomes, begun);
     if t < begun {
         return broken_by(Rule::A, log, Fact::LastEvent, t);
     }
@@ -155,7 +155,7 @@ pub fn judge(
     gaps: &[u16; 2048],
 ) -> Verdict
     requires { ⌜ OwnWrites (logged (now log)) (now own) ⌝ }
-    requires { ⌜ Given (logged (now log)) (now link) (now order) (now outcomes) (now gaps) ⌝ }
+    requires { ⌜ Judgeable (logged (now log)) (now link) (now order) (now outcomes) (now gaps) ⌝ }
     ensures { λ v. ⌜ v ≡ verdict (startOf (now (starts .entry))) (logged (now (log .entry)))
         (content (logged (now (log .entry))) (now (order .entry)) (now (outcomes .entry)) (now (gaps .entry))) ⌝ }
 {

@@ -9,7 +9,7 @@ ghost use Rattle.events.specs.Questions.{readable};
 ghost use Rattle.log.specs.Rows.{logged};
 ghost use Rattle.log.specs.Starts.{startOf};
 ghost use Rattle.rules.specs.Walks.{Pointable, pointRule};
-ghost use Rattle.rules.specs.Judge.{Given};
+ghost use Rattle.rules.specs.Judge.{Judgeable};
 ghost use Rattle.straighten.specs.Tables.{breaksBy, gapBy, Moved};
 use links::tables::tables_of;
 use log::rows::Row;
@@ -107,7 +107,7 @@ pub fn straight_of(
     gaps: &mut [u16; 2048],
     moves: &mut [bool; 2048],
 )
-    requires { ⌜ Given (logged (now log)) (now link) (now order) (now outcomes) (now gaps) ⌝ }
+    requires { ⌜ Judgeable (logged (now log)) (now link) (now order) (now outcomes) (now gaps) ⌝ }
     requires { ⌜ begun ≡ begins (logged (now log)) ⌝ }
     requires { ⌜ (length (now gaps) ≡ 2048) × (length (now moves) ≡ 2048) ⌝ }
     ensures { λ _. ⌜ Moved (startOf (now (starts .entry))) (logged (now (log .entry))) (now (order .entry)) (now (outcomes .entry))

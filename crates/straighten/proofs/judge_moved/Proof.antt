@@ -2,7 +2,7 @@
 -- Assumes nothing.
 use Prim.Native.Nat.{ℕ}
 use lib.ListN.{length-replicate}
-use Rattle.marking.proofs.CheckLaws.{given}
+use Rattle.marking.proofs.CheckLaws.{judgeable}
 use Rattle.straighten.proofs.judge_moved.Statement.{statement}
 use Rattle.straighten.proofs.judge_moved.Tie as tie
 
@@ -20,14 +20,14 @@ straight-of-requires : tie.Need-straight-of-requires
 straight-of-requires c κs =
     let l = linked c in
     let s = entered l in
-    (given (s .pre .0 .readable) (l .links .ensures) (s .pre .1 .0), (s .pre .0 .count, s .pre .1 .1))
+    (judgeable (s .pre .0 .readable) (l .links .ensures) (s .pre .1 .0), (s .pre .0 .count, s .pre .1 .1))
 
 judge-requires : tie.Need-judge-requires
 judge-requires c κs =
     let m = c .before .before in
     let l = linked (m .before) in
     let s = entered l in
-    (s .pre .0 .owned, given (s .pre .0 .readable) (l .links .ensures) (m .straight-of .ensures .kept))
+    (s .pre .0 .owned, judgeable (s .pre .0 .readable) (l .links .ensures) (m .straight-of .ensures .kept))
 
 returns : tie.Need-returns
 returns c = (c .judge .ensures, c .before .before .before .straight-of .ensures)
