@@ -215,12 +215,9 @@ module _ {h : List Event} {link order outcomes gaps : List ℕ} (y : Judgeable h
             go none e (some x) f = rw (sym agrees-a ∙ e, sym agrees-b ∙ f) (ap (λ (n : ℕ). Broken B n x) (first-begin h x))
             go none e none f = rw (sym agrees-a ∙ e, sym agrees-b ∙ f)
 
-        pub verdict-broken : {r : Rule} {i x : ℕ} → placesVerdict h t place outcomes k ≡ Broken r i x → Broken r i x ≡ verdict start h (content h order outcomes gaps)
-        verdict-broken e = ap (λ (d : Verdict). andThen d (readsIn start h m)) (sym e) ∙ parts
-
-        pub verdict-reads : placesVerdict h t place outcomes k ≡ Accepted → {writers : List (List ℕ)} → Writers order outcomes (t .written) (t .registers) k writers
-            → readsVerdict start h link writers place gaps ≡ verdict start h (content h order outcomes gaps)
-        verdict-reads e table = reads-same (tabled .writes) (tabled .sets) table start ∙ (ap (λ (d : Verdict). andThen d (readsIn start h m)) (sym e) ∙ parts)
+        pub verdict-parts : {writers : List (List ℕ)} → Writers order outcomes (t .written) (t .registers) k writers
+            → andThen (placesVerdict h t place outcomes k) (readsVerdict start h link writers place gaps) ≡ verdict start h m
+        verdict-parts table = ap (andThen (placesVerdict h t place outcomes k)) (reads-same (tabled .writes) (tabled .sets) table start) ∙ parts
 
 -- rules A and B with what the searches for their first breaches said
 module _ (h : List Event) (tables : Tables) (place outcomes : List ℕ) (b : ℕ) {t : ℕ} (et : t ≡ broken (outcomeBy (tables .ranks) place outcomes) b) where
