@@ -1,34 +1,20 @@
--- Laws of the report: what the checker answers of a log and the reader of a file is what the report says of the events.
+-- Laws of the report: what the reader answers of a file is what the report says of it.
 -- Assumes nothing.
 use Prim.Native.Nat.{ℕ}
 use native.Mathlib.Omega.{arith}
-use mathlib.Core.Path.{_≡_, refl, sym, ap, _∙_}
+use mathlib.Core.Path.{_≡_, sym, ap, _∙_}
 use mathlib.Core.List.{List}
 use lib.ListN.{length}
 use Rattle.events.specs.declared.event.Event.{Event}
 use Rattle.events.specs.declared.refusal.Refusal.{Refusal}
 use Rattle.events.specs.Said.{refuse}
 use Rattle.log.specs.Starts.{startOf}
-use Rattle.marking.specs.declared.check.Ruling.{Ruling}
-use Rattle.marking_reader.specs.File.{FileRead, content, refused as unread}
-use Rattle.marking.specs.Answer.{ruling}
 use Rattle.reader.specs.declared.HistoryRead.{HistoryRead}
 use Rattle.reader.specs.declared.Reading.{Reading}
 use Rattle.reader.specs.Reading.{Log, Outcome, readable, refused, historyOf, eventsOf, eventsIn, validated}
-use Rattle.capture.specs.declared.Marking.{Marking}
 use Rattle.capture.specs.declared.Report.{Report}
-use Rattle.capture.specs.Report.{judged, saidOf, reportOn, markingBy}
+use Rattle.capture.specs.Report.{judged, saidOf, reportOn}
 
--- the line on the marking, by what was checked
-abbrev pub lineOf : Ruling → Marking
-lineOf (Ruling.Ruled v) = Marking.Ruled v
-lineOf (Ruling.Refused r) = Marking.Refused r
-
-pub ruled-line : (start : ℕ → ℕ) (h : List Event) (x : FileRead) → lineOf (ruling start h x) ≡ markingBy start h x
-ruled-line start h (content m) = refl
-ruled-line start h (unread q byte) = refl
-
--- the whole, by what the reader answered
 module _ (s : List ℕ) (r : HistoryRead) (marking : List ℕ) where
   pub report-read : {n : ℕ} (h : List Event) → r ≡ validated (historyOf s) → h ≡ eventsIn s → r .reading ≡ Reading.Read n
       → judged (startOf (r .starts)) h marking ≡ reportOn s marking

@@ -21,15 +21,17 @@ use Rattle.opacity.specs.declared.verdict.Verdict.{Verdict}
 use Rattle.opacity.specs.Transactions.{Status, committed, aborted, pending, live, HasStatus}
 use Rattle.opacity.specs.Justification.{Justified}
 use Rattle.opacity.specs.declared.verdict.Rule.{Rule}
-use Rattle.opacity.specs.Marking.{Marking as Content, verdict, namedEvent, namedTransaction}
+use Rattle.opacity.specs.Marking.{Marking, verdict, namedEvent, namedTransaction}
 use Rattle.opacity.specs.Verdicts.{RuleD, FirstBroken}
 use Rattle.opacity.specs.Scan.{scan, AllJustified, FaultsAt}
 use Rattle.opacity.specs.Counts.{counts}
 use Rattle.opacity.proofs.Theorems.{opaque-iff, faulted-iff, accepted-iff-justified, broken-iff-first}
-use Rattle.counts.specs.Tally.{standing, tally, times}
+use Rattle.counts.specs.Tally.{ofStatus, tally, times}
 use Rattle.counts.proofs.Theorems.{adds-up, counted-once, counted-iff}
 use Rattle.marking_reader.specs.File.{known, FileRead, content, refused as unread, fileRead}
 use Rattle.marking_reader.proofs.ContentLaws.{content-readable}
+use Rattle.marking.specs.declared.check.Ruling.{Ruling}
+use Rattle.marking.specs.Answer.{ruling}
 use Rattle.reader.specs.Reading.{Log, Outcome, readable, refused, historyOf}
 use Rattle.reader.specs.FirstEdition.{FirstOutcome, events, refuses, firstHistory}
 use Rattle.reader.proofs.FirstEdition.{either, same-history}
@@ -37,10 +39,9 @@ use Rattle.writer.proofs.WriteBack.{write-back}
 use Rattle.scan.specs.declared.Scanning.{Scanning}
 use Rattle.scan.specs.Answer.{sizeRefusal, decided}
 use Rattle.scan.proofs.AnswerLaws.{decided-refused, decided-scanned, scanned-e, refused-31, passes-31, passes-31-e}
-use Rattle.capture.specs.declared.Marking.{Marking}
 use Rattle.capture.specs.declared.Report.{Report}
 use Rattle.capture.specs.Words.{Justifying, Breaks}
-use Rattle.capture.specs.Report.{countsOf, markingBy, markingOf, opacityOf, judged, saidOf, reportOn, firstSaid, firstReport}
+use Rattle.capture.specs.Report.{countsOf, markingOf, opacityOf, judged, saidOf, reportOn, firstSaid, firstReport}
 
 -- A history is refused exactly where one of its questions says no, with that question's byte,
 pub history-refused : (s marking : List ℕ) (q byte : ℕ) → (reportOn s marking ≡ Report.Refused (refuse q byte)) ↔ (historyOf s ≡ refused q byte)
@@ -74,12 +75,12 @@ module _ (s : List ℕ) (by : Bytes s) (l : Log) (file : historyOf s ≡ readabl
 
   -- each of them is counted there in exactly one of the four,
   pub tally-counts-once : (t : ℕ) → t < countsOf h .transactions
-      → times t (standing committed h) + times t (standing aborted h) + times t (standing pending h) + times t (standing live h) ≡ 1
+      → times t (ofStatus committed h) + times t (ofStatus aborted h) + times t (ofStatus pending h) + times t (ofStatus live h) ≡ 1
   unfolding countsOf counts
   tally-counts-once t k = counted-once h t k
 
   -- that which its events say
-  pub tally-counts-as : (s : Status) (t : ℕ) → (times t (standing s h) ≡ 1) ↔ ((t < countsOf h .transactions) × HasStatus s h t)
+  pub tally-counts-as : (s : Status) (t : ℕ) → (times t (ofStatus s h) ≡ 1) ↔ ((t < countsOf h .transactions) × HasStatus s h t)
   unfolding countsOf counts
   tally-counts-as s t = counted-iff h is-readable s t
 
@@ -120,47 +121,47 @@ module _ (s : List ℕ) (by : Bytes s) (l : Log) (file : historyOf s ≡ readabl
 
   -- and "marking accepted" exactly where the marking's outcomes and order are a justification and no other committed writer of the register
   -- stands between a read's point and its reader.
-  pub says-accepted : (markingOf start h marking ≡ Marking.Ruled Verdict.Accepted) ↔ Justifying start h marking
+  pub says-accepted : (markingOf start h marking ≡ Ruling.Ruled Verdict.Accepted) ↔ Justifying start h marking
   unfolding markingOf
   says-accepted = (go (fileRead (known h) marking) refl, back)
     where
-      by-rules : (m : Content) → fileRead (known h) marking ≡ content m → (verdict start h m ≡ Verdict.Accepted) ↔ (Justified start h (m .places) × RuleD h m)
+      by-rules : (m : Marking) → fileRead (known h) marking ≡ content m → (verdict start h m ≡ Verdict.Accepted) ↔ (Justified start h (m .places) × RuleD h m)
       by-rules m e = accepted-iff-justified start h is-readable m (content-readable h marking m is-readable e)
 
-      go : (x : FileRead) → fileRead (known h) marking ≡ x → markingBy start h x ≡ Marking.Ruled Verdict.Accepted → Justifying start h marking
+      go : (x : FileRead) → fileRead (known h) marking ≡ x → ruling start h x ≡ Ruling.Ruled Verdict.Accepted → Justifying start h marking
       go (content m) e d =
           let a = by-rules m e .0 cc in
           record { marked = m; holds = e; justified = a .0; ruleD = a .1 }
       go (unread q byte) e d = absurd (let z : _≡_ {A = ℕ} 0 1 = cc in omega arith)
 
-      back : Justifying start h marking → markingBy start h (fileRead (known h) marking) ≡ Marking.Ruled Verdict.Accepted
-      back j = ap (markingBy start h) (j .holds) ∙ ap Marking.Ruled (by-rules (j .marked) (j .holds) .1 (j .justified, j .ruleD))
+      back : Justifying start h marking → ruling start h (fileRead (known h) marking) ≡ Ruling.Ruled Verdict.Accepted
+      back j = ap (ruling start h) (j .holds) ∙ ap Ruling.Ruled (by-rules (j .marked) (j .holds) .1 (j .justified, j .ruleD))
 
   -- "marking refused N byte B" exactly where question N of the marking says no at byte B,
-  pub says-refused : (q byte : ℕ) → (markingOf start h marking ≡ Marking.Refused (refuse q byte)) ↔ (fileRead (known h) marking ≡ unread q byte)
+  pub says-refused : (q byte : ℕ) → (markingOf start h marking ≡ Ruling.Refused (refuse q byte)) ↔ (fileRead (known h) marking ≡ unread q byte)
   unfolding markingOf
-  says-refused q byte = (go (fileRead (known h) marking), λ e. ap (markingBy start h) e)
+  says-refused q byte = (go (fileRead (known h) marking), λ e. ap (ruling start h) e)
     where
-      go : (x : FileRead) → markingBy start h x ≡ Marking.Refused (refuse q byte) → x ≡ unread q byte
+      go : (x : FileRead) → ruling start h x ≡ Ruling.Refused (refuse q byte) → x ≡ unread q byte
       go (content m) d = absurd (let z : _≡_ {A = ℕ} 0 1 = cc in omega arith)
       go (unread a b) d = let e : refuse a b ≡ refuse q byte = cc in λ i. unread (e i .question) (e i .at)
 
   -- and "marking rule R event E transaction T" exactly where the marking is readable and R is the first rule that it breaks.
-  pub says-broken : (r : Rule) (e t : ℕ) → (markingOf start h marking ≡ Marking.Ruled (Verdict.Broken r e t)) ↔ Breaks start h marking r e t
+  pub says-broken : (r : Rule) (e t : ℕ) → (markingOf start h marking ≡ Ruling.Ruled (Verdict.Broken r e t)) ↔ Breaks start h marking r e t
   unfolding markingOf
   says-broken r e t = (go (fileRead (known h) marking) refl, back)
     where
-      go : (x : FileRead) → fileRead (known h) marking ≡ x → markingBy start h x ≡ Marking.Ruled (Verdict.Broken r e t) → Breaks start h marking r e t
+      go : (x : FileRead) → fileRead (known h) marking ≡ x → ruling start h x ≡ Ruling.Ruled (Verdict.Broken r e t) → Breaks start h marking r e t
       go (content m) f d =
           let v : verdict start h m ≡ Verdict.Broken r e t = cc in
           let w = broken-iff-first start h is-readable m r e t .0 v in
           record { marked = m; holds = f; at = w .0; first = w .1; event = w .2; transaction = w .3 }
       go (unread q byte) f d = absurd (let z : _≡_ {A = ℕ} 0 1 = cc in omega arith)
 
-      back : Breaks start h marking r e t → markingBy start h (fileRead (known h) marking) ≡ Marking.Ruled (Verdict.Broken r e t)
+      back : Breaks start h marking r e t → ruling start h (fileRead (known h) marking) ≡ Ruling.Ruled (Verdict.Broken r e t)
       back b =
-          ap (markingBy start h) (b .holds)
-          ∙ ap Marking.Ruled (broken-iff-first start h is-readable (b .marked) r e t .1 (b .at, b .first, b .event, b .transaction))
+          ap (ruling start h) (b .holds)
+          ∙ ap Ruling.Ruled (broken-iff-first start h is-readable (b .marked) r e t .1 (b .at, b .first, b .event, b .transaction))
 
 -- The report on a history file of edition 1, or on any other that is not of edition 2, is the one that it was before there were start
 -- values.

@@ -9,16 +9,16 @@ use Rattle.events.specs.Said.{refuse}
 use Rattle.log.specs.Starts.{startOf}
 use Rattle.opacity.specs.Justification.{zeros}
 use Rattle.opacity.specs.Counts.{counts}
-use Rattle.opacity.specs.Marking.{verdict}
 use Rattle.opacity.specs.Scan.{scan}
 use Rattle.counts.specs.Tally.{tally}
 use Rattle.reader.specs.Reading.{Outcome, readable, refused, historyOf}
 use Rattle.reader.specs.FirstEdition.{FirstOutcome, events, refuses, firstHistory}
 use Rattle.scan.specs.declared.Scanning.{Scanning}
 use Rattle.scan.specs.Answer.{sizeRefusal, decided}
-use Rattle.marking_reader.specs.File.{known, FileRead, content, refused as unread, fileRead}
+use Rattle.marking_reader.specs.File.{known, fileRead}
+use Rattle.marking.specs.declared.check.Ruling.{Ruling}
+use Rattle.marking.specs.Answer.{ruling}
 use Rattle.capture.specs.declared.Counts.{Counts}
-use Rattle.capture.specs.declared.Marking.{Marking}
 use Rattle.capture.specs.declared.Report.{Report}
 
 -- "events" counts the events, "transactions" those begun, "reads" the store reads
@@ -26,12 +26,8 @@ unfoldable pub countsOf : List Event → Counts
 countsOf h = record { events = counts h .events; transactions = counts h .transactions; reads = counts h .reads }
 
 -- the marking's questions, and then the rules
-abbrev pub markingBy : (ℕ → ℕ) → List Event → FileRead → Marking
-markingBy start h (content m) = Marking.Ruled (verdict start h m)
-markingBy start h (unread q byte) = Marking.Refused (refuse q byte)
-
-unfoldable pub markingOf : (ℕ → ℕ) → List Event → List ℕ → Marking
-markingOf start h file = markingBy start h (fileRead (known h) file)
+unfoldable pub markingOf : (ℕ → ℕ) → List Event → List ℕ → Ruling
+markingOf start h file = ruling start h (fileRead (known h) file)
 
 -- 31, and then the prefixes
 unfoldable pub opacityOf : (ℕ → ℕ) → List Event → Scanning

@@ -11,7 +11,7 @@ ghost use Rattle.events.specs.Questions.{readable};
 ghost use Rattle.log.specs.Rows.{logged};
 ghost use Rattle.log.specs.Starts.{startOf};
 ghost use Rattle.reader.specs.Reading.{RowsFor};
-ghost use Rattle.capture.specs.Report.{countsOf, markingOf, judged, reportOn};
+ghost use Rattle.capture.specs.Report.{countsOf, judged, reportOn};
 use counts::tally::Tally;
 use counts::tally::tally_of;
 use events::refusal::Refusal;
@@ -19,7 +19,6 @@ use log::rows::Row;
 use log::rows::transactions_begun;
 use marking::check::Ruling;
 use marking::check::check_log;
-use opacity::verdict::Verdict;
 use reader::Reading;
 use reader::SHORT_FILE;
 use reader::read_log;
@@ -34,20 +33,14 @@ pub struct Counts {
     pub reads: usize,
 }
 
-// The line on the marking: the verdict, or the question that says no with its byte.
-pub enum Marking {
-    Ruled(Verdict),
-    Refused(Refusal),
-}
-
-// The report: the history is refused with its byte and nothing more is said; or the four lines, the last
-// of which is the scan's answer.
+// The report: the history is refused with its byte and nothing more is said; or the four lines, the third
+// of which is the checker's ruling and the last the scan's answer.
 pub enum Report {
     Refused(Refusal),
     Judged {
         counts: Counts,
         tally: Tally,
-        marking: Marking,
+        marking: Ruling,
         opacity: Scanning,
     },
 }
@@ -66,18 +59,6 @@ fn counts_of(log: &[Row]) -> Counts
     }
 }
 
-// Checks the marking against a log, for its line.
-fn marking_of(starts: &[u32; 32], log: &[Row], file: &[u8]) -> Marking
-    requires { ⌜ readable (logged (now log)) ≡ true ⌝ }
-    ensures { λ r. ⌜ r ≡ markingOf (startOf (now (starts .entry))) (logged (now (log .entry))) (now (file .entry)) ⌝ }
-{
-    let ruling = check_log(starts, log, file);
-    match ruling {
-        Ruling::Ruled(verdict) => Marking::Ruled(verdict),
-        Ruling::Refused(refusal) => Marking::Refused(refusal),
-    }
-}
-
 // Judges a log and a marking file, for the four lines.
 fn judge_log(starts: &[u32; 32], log: &[Row], file: &[u8]) -> Report
     requires { ⌜ readable (logged (now log)) ≡ true ⌝ }
@@ -85,7 +66,7 @@ fn judge_log(starts: &[u32; 32], log: &[Row], file: &[u8]) -> Report
 {
     let counts = counts_of(log);
     let tally = tally_of(log);
-    let marking = marking_of(starts, log, file);
+    let marking = check_log(starts, log, file);
     let opacity = scan_log(starts, log);
     Report::Judged {
         counts,

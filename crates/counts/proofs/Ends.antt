@@ -22,7 +22,7 @@ use Rattle.opacity.specs.Counts.{one}
 use Rattle.opacity.proofs.HowMany.{kept-snoc, howMany, how-many-none, how-many-same, how-many-moved}
 use Rattle.opacity.proofs.Bounds.{transaction-known}
 use Rattle.opacity.proofs.Statuses.{ended-by, no-second, status-iff}
-use Rattle.counts.specs.Tally.{hasStatus, standing, tally}
+use Rattle.counts.specs.Tally.{hasStatus, ofStatus, tally}
 use Rattle.counts.proofs.Theorems.{has-status, status-has}
 
 -- events of a kind that ends a transaction, and the status of those that have one
@@ -74,8 +74,8 @@ module _ (h : List Event) (r : readable h ≡ true) (p : Event → Bool) (s : St
           let after : one (flag (suc n) T) ≡ 1 = ap one (flag-more n l T ∙ or-r _ _ (and-i _ _ (eqb-self T) e)) in
           omega (arith, ih, more)
 
-  ends-counted : length (standing s h) ≡ length (keep p h)
-  unfolding standing
+  ends-counted : length (ofStatus s h) ≡ length (keep p h)
+  unfolding ofStatus
   ends-counted =
       let whole : take (length h) h ≡ h = take-all (length h) h (le-refl (length h)) in
       how-many-same (hasStatus s h) (λ t. has p t h) (begins h) (λ t m. both-ways _ _ (λ e. means t .0 (status-has s h t e)) (λ e. has-status s h t (means t .1 e)))

@@ -18,13 +18,13 @@ use Rattle.opacity.specs.Transactions.{Status, committed, aborted, pending, liv
 use Rattle.opacity.specs.Counts.{one}
 use Rattle.opacity.proofs.HowMany.{howMany, how-many-more, how-many-low}
 use Rattle.counts.specs.declared.tally.Tally.{Tally}
-use Rattle.counts.specs.Tally.{standing, tally}
+use Rattle.counts.specs.Tally.{ofStatus, tally}
 
-pub standing-low : (s : Status) → statusNumber s < 4
-standing-low committed = le-refl 4
-standing-low aborted = omega arith
-standing-low pending = omega arith
-standing-low live = omega arith
+pub status-low : (s : Status) → statusNumber s < 4
+status-low committed = le-refl 4
+status-low aborted = omega arith
+status-low pending = omega arith
+status-low live = omega arith
 
 -- the transaction u stands as k
 abbrev statusIs : List Event → ℕ → ℕ → Bool
@@ -43,7 +43,7 @@ module _ (h : List Event) where
 
   module _ (many : List ℕ) (t s : ℕ) (l : t < begins h) (w : Counted h many t) (same : s ≡ statusNumber (status h t)) where
     pub number-low : s < 4
-    number-low = omega (arith, same, standing-low (status h t))
+    number-low = omega (arith, same, status-low (status h t))
 
     pub counts-few : getD many s 0 ≤ t
     counts-few = omega (arith, w .holds s number-low, how-many-low (statusIs h s) t)
@@ -70,11 +70,11 @@ module _ (h : List Event) where
 
   -- the counts after the last transaction
   module _ (many : List ℕ) (t : ℕ) (l : begins h ≤ t) (w : Counted h many t) where
-    has-status : (s : Status) → getD many (statusNumber s) 0 ≡ length (standing s h)
-    unfolding standing
+    has-status : (s : Status) → getD many (statusNumber s) 0 ≡ length (ofStatus s h)
+    unfolding ofStatus
     has-status s =
         let e : t ≡ begins h = omega (arith, w .inside) in
-        w .holds (statusNumber s) (standing-low s) ∙ ap (howMany (statusIs h (statusNumber s))) e
+        w .holds (statusNumber s) (status-low s) ∙ ap (howMany (statusIs h (statusNumber s))) e
 
     pub counted-all : _≡_ {A = Tally} record { committed = getD many 3 0; aborted = getD many 2 0; pending = getD many 1 0; live = getD many 0 0 } (tally h)
     unfolding tally

@@ -26,7 +26,7 @@ use Rattle.opacity.proofs.Statuses.{status-iff}
 use Rattle.counts.specs.declared.Counting.{Counting}
 use Rattle.counts.specs.declared.Tallying.{Tallying}
 use Rattle.counts.specs.declared.tally.Tally.{Tally}
-use Rattle.counts.specs.Tally.{hasStatus, standing, tally, times}
+use Rattle.counts.specs.Tally.{hasStatus, ofStatus, tally, times}
 use Rattle.counts.specs.Answer.{counted, transactionsAnswer, tallied, tallyAnswer}
 
 -- a status is one of the four
@@ -89,21 +89,21 @@ module _ (h : List Event) where
       )
 
   pub adds-up : tally h .committed + tally h .aborted + tally h .pending + tally h .live ≡ begins h
-  unfolding tally standing
+  unfolding tally ofStatus
   adds-up = all-counted (begins h)
 
   -- a transaction is counted once as what it is
-  counted-as : (s : Status) (t : ℕ) → t < begins h → times t (standing s h) ≡ one (hasStatus s h t)
-  unfolding standing
+  counted-as : (s : Status) (t : ℕ) → t < begins h → times t (ofStatus s h) ≡ one (hasStatus s h t)
+  unfolding ofStatus
   counted-as s t l = times-below (hasStatus s h) t (begins h) l
 
   pub counted-once : (t : ℕ) → t < begins h
-      → times t (standing committed h) + times t (standing aborted h) + times t (standing pending h) + times t (standing live h) ≡ 1
+      → times t (ofStatus committed h) + times t (ofStatus aborted h) + times t (ofStatus pending h) + times t (ofStatus live h) ≡ 1
   counted-once t l = rw (counted-as committed t l, counted-as aborted t l, counted-as pending t l, counted-as live t l) (one-of-four (status h t))
 
   -- and in which of the four, in a readable history: in the one that its events say
-  pub counted-iff : readable h ≡ true → (s : Status) (t : ℕ) → (times t (standing s h) ≡ 1) ↔ ((t < begins h) × HasStatus s h t)
-  unfolding standing
+  pub counted-iff : readable h ≡ true → (s : Status) (t : ℕ) → (times t (ofStatus s h) ≡ 1) ↔ ((t < begins h) × HasStatus s h t)
+  unfolding ofStatus
   counted-iff r s t = (
     λ e.
         elim (decLt t (begins h)) [

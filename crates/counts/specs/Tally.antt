@@ -17,15 +17,15 @@ abbrev pub hasStatus : Status → List Event → ℕ → Bool
 hasStatus s h t = eqb (statusNumber (status h t)) (statusNumber s)
 
 -- the transactions of a history that have it, rising
-unfoldable pub standing : Status → List Event → List ℕ
-standing s h = keep (hasStatus s h) (range (begins h))
+unfoldable pub ofStatus : Status → List Event → List ℕ
+ofStatus s h = keep (hasStatus s h) (range (begins h))
 
 unfoldable pub tally : List Event → Tally
 tally h = record {
-  committed = length (standing committed h);
-  aborted = length (standing aborted h);
-  pending = length (standing pending h);
-  live = length (standing live h);
+  committed = length (ofStatus committed h);
+  aborted = length (ofStatus aborted h);
+  pending = length (ofStatus pending h);
+  live = length (ofStatus live h);
 }
 
 -- how often a number stands in a list

@@ -25,12 +25,12 @@ pub fn tally_of(log: &[Row]) -> Tally
     requires { ⌜ readable (logged (now log)) ≡ true ⌝ }
     ensures { λ r. ⌜ r ≡ tally (logged (now (log .entry))) ⌝ }
 {
-    let standing = table(log, Fact::Standing);
+    let ranks = table(log, Fact::Rank);
     let begun = transactions_begun(log);
     let mut many = [0usize; 4];
     let mut t: usize = 0;
     while t < begun {
-        let s = wide(standing[t]);
+        let s = wide(ranks[t]);
         many[s] += 1;
         t += 1;
     }

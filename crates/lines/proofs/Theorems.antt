@@ -17,7 +17,7 @@ use Rattle.opacity.specs.declared.verdict.Scanned.{Scanned}
 use Rattle.opacity.specs.Scan.{AllJustified}
 use Rattle.counts.specs.Tally.{tally}
 use Rattle.reader.specs.Reading.{Log, readable, historyOf}
-use Rattle.capture.specs.declared.Marking.{Marking}
+use Rattle.marking.specs.declared.check.Ruling.{Ruling}
 use Rattle.scan.specs.declared.Scanning.{Scanning}
 use Rattle.capture.specs.declared.Report.{Report}
 use Rattle.capture.specs.Report.{countsOf, markingOf, opacityOf, reportOn}
@@ -53,17 +53,17 @@ unfolding countsLine tallyLine refusedLine brokenLine faultedLine unscannedLine 
 as-in-the-paper = refl
 
 -- No other answer has the text of an accepted marking: the byte after "marking " is another,
-accepted-text : (m : Marking) → (markingLine m ≡ text "marking accepted\n") ↔ (m ≡ Marking.Ruled Verdict.Accepted)
+accepted-text : (m : Ruling) → (markingLine m ≡ text "marking accepted\n") ↔ (m ≡ Ruling.Ruled Verdict.Accepted)
 unfolding refusedLine brokenLine
 accepted-text m = (go m, ap markingLine)
   where
     other : (l : List ℕ) → getD l 8 0 ≡ 114 → l ≡ text "marking accepted\n" → ⊥
     other l e f = omega (arith, ap (λ (x : List ℕ). getD x 8 0) f)
 
-    go : (m : Marking) → markingLine m ≡ text "marking accepted\n" → m ≡ Marking.Ruled Verdict.Accepted
-    go (Marking.Ruled Verdict.Accepted) e = refl
-    go (Marking.Ruled (Verdict.Broken rule event transaction)) e = absurd (other _ refl e)
-    go (Marking.Refused r) e = absurd (other _ refl e)
+    go : (m : Ruling) → markingLine m ≡ text "marking accepted\n" → m ≡ Ruling.Ruled Verdict.Accepted
+    go (Ruling.Ruled Verdict.Accepted) e = refl
+    go (Ruling.Ruled (Verdict.Broken rule event transaction)) e = absurd (other _ refl e)
+    go (Ruling.Refused r) e = absurd (other _ refl e)
 
 -- nor that of an opaque history.
 opaque-text : (o : Scanning) → (opacityLine o ≡ text "opaque yes\n") ↔ (o ≡ Scanning.Scanned Scanned.Opaque)

@@ -8,8 +8,8 @@ use Rattle.opacity.specs.declared.verdict.Verdict.{Verdict}
 use Rattle.opacity.specs.declared.verdict.Scanned.{Scanned}
 use Rattle.counts.specs.declared.tally.Tally.{Tally}
 use Rattle.scan.specs.declared.Scanning.{Scanning}
+use Rattle.marking.specs.declared.check.Ruling.{Ruling}
 use Rattle.capture.specs.declared.Counts.{Counts}
-use Rattle.capture.specs.declared.Marking.{Marking}
 use Rattle.capture.specs.declared.Report.{Report}
 use Rattle.lines.specs.Text.{text, field}
 
@@ -41,9 +41,9 @@ abbrev pub verdictLine : Verdict → List ℕ
 verdictLine Verdict.Accepted = text "marking accepted\n"
 verdictLine (Verdict.Broken rule event transaction) = brokenLine rule event transaction
 
-abbrev pub markingLine : Marking → List ℕ
-markingLine (Marking.Ruled verdict) = verdictLine verdict
-markingLine (Marking.Refused r) = refusedLine (text "marking") (r .question) (r .at)
+abbrev pub markingLine : Ruling → List ℕ
+markingLine (Ruling.Ruled verdict) = verdictLine verdict
+markingLine (Ruling.Refused r) = refusedLine (text "marking") (r .question) (r .at)
 
 unfoldable pub faultedLine : ℕ → ℕ → List ℕ
 faultedLine event cause = field "opaque no event " event ++ field " cause " cause ++ text "\n"

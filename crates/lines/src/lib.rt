@@ -11,10 +11,10 @@ ghost use Rattle.lines.specs.Text.{text, decimal, Put};
 ghost use Rattle.lines.specs.Lines.{countsLine, tallyLine, refusedLine, letter, brokenLine, verdictLine, markingLine};
 ghost use Rattle.lines.specs.Lines.{faultedLine, unscannedLine, scannedLine, opacityLine, lines};
 use capture::Counts;
-use capture::Marking;
 use capture::Report;
 use capture::report_on;
 use counts::tally::Tally;
+use marking::check::Ruling;
 use opacity::verdict::Rule;
 use opacity::verdict::Scanned;
 use opacity::verdict::Verdict;
@@ -149,13 +149,13 @@ fn put_verdict(out: &mut [u8], at: usize, verdict: Verdict) -> usize
 }
 
 // Puts the line on the marking.
-fn put_marking(out: &mut [u8], at: usize, marking: Marking) -> usize
+fn put_marking(out: &mut [u8], at: usize, marking: Ruling) -> usize
     requires { ⌜ at + 75 ≤ length (now out) ⌝ }
     ensures { λ r. ⌜ Put 75 (now (out .entry)) (now (out .exit)) at (markingLine marking) r ⌝ }
 {
     match marking {
-        Marking::Ruled(verdict) => put_verdict(out, at, verdict),
-        Marking::Refused(refusal) => put_refused(
+        Ruling::Ruled(verdict) => put_verdict(out, at, verdict),
+        Ruling::Refused(refusal) => put_refused(
             out,
             at,
             b"marking",
@@ -192,7 +192,7 @@ fn put_judged(
     out: &mut [u8],
     counts: Counts,
     tally: Tally,
-    marking: Marking,
+    marking: Ruling,
     opacity: Scanning,
 ) -> usize
     requires { ⌜ 343 ≤ length (now out) ⌝ }

@@ -21,8 +21,8 @@ use Rattle.opacity.specs.Transactions.{committed, aborted, pending, live, statu
 use Rattle.opacity.specs.Marking.{lastEvent, beginOf}
 use Rattle.opacity.proofs.Snoc.{precedes-more}
 use Rattle.links.specs.declared.tables.Fact.{Fact}
-use Rattle.links.specs.declared.tables.Fact.the-variants.{LastEvent, LastBegin, FirstBegin, FirstEnd, Standing}
-use Rattle.links.specs.Tables.{lastOne, firstOne, rank, standing, slotAt, noted, slot, Slots, earlier}
+use Rattle.links.specs.declared.tables.Fact.the-variants.{LastEvent, LastBegin, FirstBegin, FirstEnd, Rank}
+use Rattle.links.specs.Tables.{lastOne, firstOne, rank, rankOf, slotAt, noted, slot, Slots, earlier}
 
 -- ---- filling
 
@@ -213,7 +213,7 @@ module _ (h : List Event) where
   pub precedes-table : (t u : ℕ) → precedes h t u ≡ earlier (slot FirstEnd h t (length h)) (slot LastBegin h u (length h))
   precedes-table t u = ap (λ (g : List Event). precedes g t u) (sym (take-length h)) ∙ precedes-slots t u (length h) (le-refl _)
 
--- standing
+-- ranks
 
 rank-max : (a b c x y z : Bool) → rank (a or x) (b or y) (c or z) ≡ max (rank a b c) (rank x y z)
 unfolding rank _or_
@@ -247,18 +247,18 @@ rank-status false false true = refl
 rank-status false false false = refl
 
 module _ (h : List Event) (t : ℕ) where
-  ranks : (m : ℕ) → m ≤ length h → slot Standing h t m ≡ rank (has isCommit t (take m h)) (has isAbort t (take m h)) (has asksCommit t (take m h))
-  unfolding slot standing has any rank by
-  ranks zero l = refl
-  ranks (suc m) l =
-      ap (λ (x : ℕ). cond (eqb (eventAt h m .transaction) t) (max x (standing (eventAt h m))) x) (ranks m (omega arith))
+  ranked : (m : ℕ) → m ≤ length h → slot Rank h t m ≡ rank (has isCommit t (take m h)) (has isAbort t (take m h)) (has asksCommit t (take m h))
+  unfolding slot rankOf has any rank by
+  ranked zero l = refl
+  ranked (suc m) l =
+      ap (λ (x : ℕ). cond (eqb (eventAt h m .transaction) t) (max x (rankOf (eventAt h m))) x) (ranked m (omega arith))
       ∙ sym (rw (take-suc h m noEvent l) (rw (has-snoc isCommit (take m h) (eventAt h m) t, has-snoc isAbort (take m h) (eventAt h m) t, has-snoc asksCommit (take m h) (eventAt h m) t)
       (rank-more (has isCommit t (take m h)) (has isAbort t (take m h)) (has asksCommit t (take m h))
       (isCommit (eventAt h m)) (isAbort (eventAt h m)) (asksCommit (eventAt h m)) (eqb (eventAt h m .transaction) t))))
 
-  pub status-slot : (m : ℕ) → m ≤ length h → slot Standing h t m ≡ statusNumber (status (take m h) t)
+  pub status-slot : (m : ℕ) → m ≤ length h → slot Rank h t m ≡ statusNumber (status (take m h) t)
   unfolding status
-  status-slot m l = ranks m l ∙ sym (rank-status (has isCommit t (take m h)) (has isAbort t (take m h)) (has asksCommit t (take m h)))
+  status-slot m l = ranked m l ∙ sym (rank-status (has isCommit t (take m h)) (has isAbort t (take m h)) (has asksCommit t (take m h)))
 
-  pub status-table : slot Standing h t (length h) ≡ statusNumber (status h t)
+  pub status-table : slot Rank h t (length h) ≡ statusNumber (status h t)
   status-table = status-slot (length h) (le-refl _) ∙ ap (λ (g : List Event). statusNumber (status g t)) (take-length h)

@@ -13,7 +13,7 @@ use Rattle.events.specs.declared.event.Event.{Event}
 use Rattle.events.specs.Events.{isWrite}
 use Rattle.opacity.specs.Transactions.{lastWrite}
 use Rattle.links.specs.declared.tables.Tables.{Tables}
-use Rattle.links.specs.declared.tables.Fact.the-variants.{LastWrite, LastBegin, FirstEnd, Standing}
+use Rattle.links.specs.declared.tables.Fact.the-variants.{LastWrite, LastBegin, FirstEnd, Rank}
 use Rattle.links.specs.Tables.{Slots}
 
 -- a set of registers after an event of the transaction that writes them
@@ -30,8 +30,8 @@ pub record Sets (h : List Event) (n : ℕ) (table : List ℕ) : Type 0 where
   pub unwritten : (t r : ℕ) → t < 64 → (bitAt r (getD table t 0) ≡ 1 → ⊥) → lastWrite (take n h) t r ≡ none
 
 -- the tables after n events
-pub record Passed (h : List Event) (n : ℕ) (standing ended began written registers : List ℕ) : Type 0 where
-  pub stood : Slots Standing h n standing
+pub record Passed (h : List Event) (n : ℕ) (ranks ended began written registers : List ℕ) : Type 0 where
+  pub ranked : Slots Rank h n ranks
   pub ends : Slots FirstEnd h n ended
   pub begins : Slots LastBegin h n began
   pub writes : Slots LastWrite h n written
@@ -39,4 +39,4 @@ pub record Passed (h : List Event) (n : ℕ) (standing ended began written regis
 
 -- the tables of a whole history
 abbrev pub AllTabled : List Event → Tables → Type 0
-AllTabled h t = Passed h (length h) (t .standing) (t .ended) (t .began) (t .written) (t .registers)
+AllTabled h t = Passed h (length h) (t .ranks) (t .ended) (t .began) (t .written) (t .registers)

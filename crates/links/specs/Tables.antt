@@ -10,7 +10,7 @@ use lib.ListN.{length, getD, set}
 use Rattle.events.specs.declared.event.Event.{Event}
 use Rattle.events.specs.Events.{eventAt, isBegin, isWrite, isEnd, isCommit, isAbort, asksCommit}
 use Rattle.links.specs.declared.tables.Fact.{Fact}
-use Rattle.links.specs.declared.tables.Fact.the-variants.{LastEvent, LastWrite, LastBegin, FirstBegin, FirstEnd, Standing}
+use Rattle.links.specs.declared.tables.Fact.the-variants.{LastEvent, LastWrite, LastBegin, FirstBegin, FirstEnd, Rank}
 
 -- what stands after event i, where x stood before: one past the last event that passes, one past the first one, 0 for none
 unfoldable pub lastOne : Bool → ℕ → ℕ → ℕ
@@ -23,8 +23,8 @@ firstOne b i x = cond (eqb x 0) (cond b (i + 1) 0) x
 unfoldable pub rank : Bool → Bool → Bool → ℕ
 rank commits aborts calls = cond commits 3 (cond aborts 2 (cond calls 1 0))
 
-unfoldable pub standing : Event → ℕ
-standing e = rank (isCommit e) (isAbort e) (asksCommit e)
+unfoldable pub rankOf : Event → ℕ
+rankOf e = rank (isCommit e) (isAbort e) (asksCommit e)
 
 -- what event i makes of the x that stood at its transaction
 abbrev pub slotAt : Fact → Event → ℕ → ℕ → ℕ
@@ -33,7 +33,7 @@ slotAt LastWrite e i x = lastOne (isWrite e) i x
 slotAt LastBegin e i x = lastOne (isBegin e) i x
 slotAt FirstBegin e i x = firstOne (isBegin e) i x
 slotAt FirstEnd e i x = firstOne (isEnd e) i x
-slotAt Standing e i x = max x (standing e)
+slotAt Rank e i x = max x (rankOf e)
 
 -- and of the table of all transactions
 abbrev pub noted : Fact → Event → ℕ → List ℕ → List ℕ

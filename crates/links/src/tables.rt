@@ -4,7 +4,7 @@ ghost use mathlib.Core.Bool.{true};
 ghost use Prim.Native.Nat.{_<_, max};
 ghost use Rattle.events.specs.Questions.{readable};
 ghost use Rattle.log.specs.Rows.{logged};
-ghost use Rattle.links.specs.Tables.{lastOne, firstOne, standing, slotAt, noted, Tabled};
+ghost use Rattle.links.specs.Tables.{lastOne, firstOne, rankOf, slotAt, noted, Tabled};
 ghost use Rattle.links.specs.Registers.{withWritten, registered, AllTabled};
 use events::event::Event;
 use events::event::asks_commit;
@@ -24,7 +24,7 @@ pub enum Fact {
     LastBegin,
     FirstBegin,
     FirstEnd,
-    Standing,
+    Rank,
 }
 
 pub fn wide(x: u16) -> usize
@@ -57,8 +57,8 @@ fn first_one(passes: bool, i: usize, x: u16) -> u16
 }
 
 // How far an event brings its transaction: 3 committed, 2 aborted, 1 commit called.
-fn standing_of(e: Event) -> u16
-    ensures { λ r. ⌜ r ≡ standing e ⌝ }
+fn rank_of(e: Event) -> u16
+    ensures { λ r. ⌜ r ≡ rankOf e ⌝ }
 {
     if is_commit(e) {
         return 3;
@@ -89,7 +89,7 @@ pub fn slot_at(fact: Fact, e: Event, i: usize, x: u16) -> u16
         Fact::LastBegin => last_one(is_begin(e), i, x),
         Fact::FirstBegin => first_one(is_begin(e), i, x),
         Fact::FirstEnd => first_one(is_end(e), i, x),
-        Fact::Standing => most(x, standing_of(e)),
+        Fact::Rank => most(x, rank_of(e)),
     }
 }
 
@@ -141,7 +141,7 @@ fn note_register(registers: &mut [u32; 64], e: Event)
 
 // The tables of several facts, and for each transaction the set of the registers that it writes.
 pub struct Tables {
-    pub standing: [u16; 64],
+    pub ranks: [u16; 64],
     pub ended: [u16; 64],
     pub began: [u16; 64],
     pub written: [u16; 64],
@@ -153,7 +153,7 @@ pub fn tables_of(log: &[Row]) -> Tables
     requires { ⌜ readable (logged (now log)) ≡ true ⌝ }
     ensures { λ r. ⌜ AllTabled (logged (now (log .entry))) r ⌝ }
 {
-    let mut standing = [0u16; 64];
+    let mut ranks = [0u16; 64];
     let mut ended = [0u16; 64];
     let mut began = [0u16; 64];
     let mut written = [0u16; 64];
@@ -161,7 +161,7 @@ pub fn tables_of(log: &[Row]) -> Tables
     let mut i: usize = 0;
     while i < log.len() {
         let e = event_at(log, i);
-        note(&mut standing, Fact::Standing, e, i);
+        note(&mut ranks, Fact::Rank, e, i);
         note(&mut ended, Fact::FirstEnd, e, i);
         note(&mut began, Fact::LastBegin, e, i);
         note(&mut written, Fact::LastWrite, e, i);
@@ -169,7 +169,7 @@ pub fn tables_of(log: &[Row]) -> Tables
         i += 1;
     }
     Tables {
-        standing,
+        ranks,
         ended,
         began,
         written,

@@ -7,12 +7,12 @@ use mathlib.Core.List.{List}
 use Rattle.events.specs.declared.event.Event.{Event}
 use Rattle.events.specs.Questions.{readable}
 use Rattle.links.specs.Writes.{Linked}
-use Rattle.rules.specs.Judge.{Given}
+use Rattle.rules.specs.Judge.{Judgeable}
 use Rattle.marking_reader.specs.State.{Kept}
 
-pub given : {h : List Event} {link order outcomes gaps : List ℕ} → readable h ≡ true → Linked h link → Kept h order outcomes gaps
-    → Given h link order outcomes gaps
-given y links kept =
+pub judgeable : {h : List Event} {link order outcomes gaps : List ℕ} → readable h ≡ true → Linked h link → Kept h order outcomes gaps
+    → Judgeable h link order outcomes gaps
+judgeable y links kept =
     record {
       readable = y;
       linked = links;

@@ -16,8 +16,8 @@ use Rattle.opacity.specs.Transactions.{isStoreRead, storeReads}
 use Rattle.opacity.specs.Marking.{Marking, ReadableFor}
 use Rattle.opacity.proofs.Finder.{events-of}
 use Rattle.opacity.proofs.Bounds.{at-most-64}
-use Rattle.marking_reader.specs.declared.step.Step.{Step}
-use Rattle.marking_reader.specs.declared.step.Step.the-variants.{Placed, Pointed, Refused, Unfinished, Finished}
+use Rattle.marking_reader.specs.declared.step.MarkingStep.{MarkingStep}
+use Rattle.marking_reader.specs.declared.step.MarkingStep.the-variants.{Placed, Pointed, Refused, Unfinished, Finished}
 use Rattle.marking_reader.specs.File.{known, Asked, asked, everyPointed, stepAt, continued, walk}
 use Rattle.marking_reader.specs.File.{content, refused, opening, afterOpening, fileRead}
 use Rattle.marking_reader.specs.State.{pointBy, askedBy, soFar, Sound, Kept}
@@ -60,7 +60,7 @@ module _ (h : List Event) (s : List ℕ) (m′ : Marking) where
       pointed : Bool
       pointed = every (pointBy h gaps) (length h)
 
-      go : (x : Step) → stepAt asks pointed s at ≡ x → continued (walk (known h) left s) s at M x ≡ content m′ → Going left → Arrays h m′
+      go : (x : MarkingStep) → stepAt asks pointed s at ≡ x → continued (walk (known h) left s) s at M x ≡ content m′ → Going left → Arrays h m′
       go (Placed t o end) q d ih =
           let w = placed-means asks s at pointed t o end q in
           ih end (set order filled t) (set outcomes filled o) (set used t true) (filled + 1) gaps next (place-sound y t o (w .fine))

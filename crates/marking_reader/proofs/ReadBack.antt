@@ -26,7 +26,7 @@ use Rattle.opacity.specs.Marking.{Marking, Point, ReadableFor, markingHead, out
 use Rattle.opacity.proofs.Bounds.{at-most-64, reads-low}
 use Rattle.opacity.proofs.MarkingBytes.{marking-length, readable-length}
 use Rattle.opacity.proofs.Orders.{distinct-at}
-use Rattle.marking_reader.specs.declared.step.Step.the-variants.{Placed, Pointed, Finished}
+use Rattle.marking_reader.specs.declared.step.MarkingStep.the-variants.{Placed, Pointed, Finished}
 use Rattle.marking_reader.specs.File.{Known, known, asked, transactionIn, outcomeIn, eventIn, gapIn, nextEvent, everyPlaced, hasPoint}
 use Rattle.marking_reader.specs.File.{everyPointed, headQuestions, endQuestions, bodyStep, endStep, stepOn, stepAt, continued, walk}
 use Rattle.marking_reader.specs.File.{FileRead, content, opening, nothingRead, afterOpening, fileRead}

@@ -15,8 +15,8 @@ use Rattle.log.specs.declared.admit.Checked.the-variants.{Readable}
 use Rattle.opacity.specs.Transactions.{isStoreRead, storeReads}
 use Rattle.opacity.specs.Marking.{Marking}
 use Rattle.rules.specs.Judge.{content as inArrays}
-use Rattle.marking_reader.specs.declared.step.Step.{Step}
-use Rattle.marking_reader.specs.declared.step.Step.the-variants.{Placed, Pointed, Refused, Unfinished, Finished}
+use Rattle.marking_reader.specs.declared.step.MarkingStep.{MarkingStep}
+use Rattle.marking_reader.specs.declared.step.MarkingStep.the-variants.{Placed, Pointed, Refused, Unfinished, Finished}
 use Rattle.marking_reader.specs.File.{known, Asked, stepAt, content, refused, continued, walk, fileRead}
 use Rattle.marking_reader.specs.State.{pointBy, askedBy, pointsOf, soFar, Sound, Kept, readAs}
 use Rattle.marking_reader.proofs.StepLaws.{placed-means, pointed-means, finished-means}
@@ -55,7 +55,7 @@ module _ {h : List Event} {order outcomes : List ℕ} {used : List Bool} {filled
   abbrev read : Marking
   read = soFar order outcomes filled gaps next
 
-  on : (x : Step) → stepAt asks pointed s at ≡ x → fileRead (known h) s ≡ continued (walk (known h) (g .left) s) s at read x
+  on : (x : MarkingStep) → stepAt asks pointed s at ≡ x → fileRead (known h) s ≡ continued (walk (known h) (g .left) s) s at read x
   on x q = on-step (known h) s at read g x (sym (step-same y s at) ∙ q)
 
   reached : (m m′ : Marking) (end : ℕ) → (at < end) × (end ≤ length s) → m′ ≡ m → fileRead (known h) s ≡ walk (known h) (g .left) s end m

@@ -16,8 +16,8 @@ use Rattle.records.specs.Bytes.{u16At}
 use Rattle.lists.specs.Lists.{_and_, _or_, _implies_}
 use Rattle.events.specs.Questions.{Question, ask, refusal, numbered}
 use Rattle.records.specs.Records.{recordAt, bodyOf}
-use Rattle.marking_reader.specs.declared.step.Step.{Step}
-use Rattle.marking_reader.specs.declared.step.Step.the-variants.{Placed, Pointed, Refused, Unfinished, Finished}
+use Rattle.marking_reader.specs.declared.step.MarkingStep.{MarkingStep}
+use Rattle.marking_reader.specs.declared.step.MarkingStep.the-variants.{Placed, Pointed, Refused, Unfinished, Finished}
 use Rattle.marking_reader.specs.File.{Asked, isPlace, isPoint, transactionIn, outcomeIn, eventIn, gapIn, taken, unless}
 use Rattle.marking_reader.specs.File.{headQuestions, recordQuestions, endQuestions, headed, opening}
 use Rattle.marking_reader.specs.File.{bodyStep, endStep, stepOn, stepAt}
@@ -25,7 +25,7 @@ use Rattle.marking_reader.specs.State.{placeQuestions, pointQuestions, p
 
 -- ---- by kind
 
-sized : (b : Bool) (o : Option ℕ) (x : Step) → unless (cond b o (some 23)) Refused x ≡ cond b (unless o Refused x) (Refused 23)
+sized : (b : Bool) (o : Option ℕ) (x : MarkingStep) → unless (cond b o (some 23)) Refused x ≡ cond b (unless o Refused x) (Refused 23)
 sized true o x = refl
 sized false o x = refl
 
@@ -39,10 +39,10 @@ module _ (a : Asked) where
   pointAsked body =
       refusal (pointQuestions (a .transactions) (a .nextEvent) (a .everyPlaced) (a .storeRead (eventIn body)) (eventIn body) (gapIn body))
 
-  abbrev pub placeBody : List ℕ → ℕ → Step
+  abbrev pub placeBody : List ℕ → ℕ → MarkingStep
   placeBody body end = placeStep (a .transactions) (a .nextEvent) (a .placed) body end
 
-  abbrev pub pointBody : List ℕ → ℕ → Step
+  abbrev pub pointBody : List ℕ → ℕ → MarkingStep
   pointBody body end = pointStep (a .transactions) (a .nextEvent) (a .everyPlaced) (a .storeRead) body end
 
   pub body-place : (kind : ℕ) (body : List ℕ) (end : ℕ) → isPlace kind ≡ true → bodyStep a kind body end ≡ placeBody body end
@@ -64,10 +64,10 @@ module _ (a : Asked) where
 
 -- ---- numbers of questions
 
-pub unless-none : (o : Option ℕ) (f : ℕ → Step) (x : Step) → o ≡ none → x ≡ unless o f x
+pub unless-none : (o : Option ℕ) (f : ℕ → MarkingStep) (x : MarkingStep) → o ≡ none → x ≡ unless o f x
 unless-none o f x e = rw e
 
-pub unless-some : (o : Option ℕ) (f : ℕ → Step) (x : Step) (q : ℕ) → (q ≡ 0 → ⊥) → q ≡ numbered o → f q ≡ unless o f x
+pub unless-some : (o : Option ℕ) (f : ℕ → MarkingStep) (x : MarkingStep) (q : ℕ) → (q ≡ 0 → ⊥) → q ≡ numbered o → f q ≡ unless o f x
 unless-some none f x q z e = absurd (z e)
 unless-some (some k) f x q z e = ap f e
 
@@ -104,7 +104,7 @@ placed≢pointed : (x y w t o e : ℕ) → Placed x y w ≡ Pointed t o e → �
 placed≢pointed x y w t o e d = let z : _≡_ {A = ℕ} 0 1 = cc in omega arith
 
 -- a body that is answered with something other than a refusal has its size, and no question says no
-body-given : (b : Bool) (o : Option ℕ) (x y : Step) → ((q : ℕ) → Refused q ≡ y → ⊥) → cond b (unless o Refused x) (Refused 23) ≡ y
+body-given : (b : Bool) (o : Option ℕ) (x y : MarkingStep) → ((q : ℕ) → Refused q ≡ y → ⊥) → cond b (unless o Refused x) (Refused 23) ≡ y
     → (b ≡ true) × (o ≡ none) × (x ≡ y)
 body-given true none x y n d = (refl, refl, d)
 body-given true (some q) x y n d = absurd (n q d)
@@ -139,10 +139,10 @@ module _ (a : Asked) (s : List ℕ) (at : ℕ) where
   abbrev ends : Record → ℕ
   ends r = r .start + r .size
 
-  abbrev placeGiven : Record → Step
+  abbrev placeGiven : Record → MarkingStep
   placeGiven r = Placed (transactionIn (body r)) (outcomeIn (body r)) (ends r)
 
-  abbrev pointGiven : Record → Step
+  abbrev pointGiven : Record → MarkingStep
   pointGiven r = Pointed (eventIn (body r)) (gapIn (body r)) (ends r)
 
   placed-means-body : (r : Record) (t o end : ℕ) → recordAt s at ≡ Whole r → isPlace (r .kind) ≡ true

@@ -8,7 +8,7 @@ use mathlib.Core.Option.{none, some}
 use lib.ListN.{length}
 use Rattle.records.proofs.RecordLaws.{whole-in}
 use Rattle.opacity.specs.Marking.{Marking}
-use Rattle.marking_reader.specs.declared.step.Step.{Step}
+use Rattle.marking_reader.specs.declared.step.MarkingStep.{MarkingStep}
 use Rattle.marking_reader.specs.File.{Known, Asked, asked, everyPointed, stepAt, refused, continued, walk, opening, nothingRead, fileRead}
 use Rattle.marking_reader.proofs.StepLaws.{PlaceRead, PointRead}
 
@@ -39,7 +39,7 @@ unfolding fileRead
 opening-refused k s q e = rw e
 
 module _ (k : Known) (s : List ℕ) (at : ℕ) (m : Marking) (g : Reached k s at m) where
-  pub on-step : (x : Step) → stepAt (asked k m) (everyPointed k m) s at ≡ x → fileRead k s ≡ continued (walk k (g .left) s) s at m x
+  pub on-step : (x : MarkingStep) → stepAt (asked k m) (everyPointed k m) s at ≡ x → fileRead k s ≡ continued (walk k (g .left) s) s at m x
   unfolding walk
   on-step x e = g .same ∙ ap (continued (walk k (g .left) s) s at m) e
 

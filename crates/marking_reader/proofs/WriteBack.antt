@@ -22,8 +22,8 @@ use Rattle.records.proofs.RecordLaws.{there, end-past}
 use Rattle.opacity.specs.Justification.{Place}
 use Rattle.opacity.specs.Marking.{Marking, Point, markingHead, outcomeNumber, placeBytes, pointBytes, flat, markingBytes}
 use Rattle.opacity.proofs.MarkingBytes.{outcome-back, flat-append}
-use Rattle.marking_reader.specs.declared.step.Step.{Step}
-use Rattle.marking_reader.specs.declared.step.Step.the-variants.{Placed, Pointed, Refused, Unfinished, Finished}
+use Rattle.marking_reader.specs.declared.step.MarkingStep.{MarkingStep}
+use Rattle.marking_reader.specs.declared.step.MarkingStep.the-variants.{Placed, Pointed, Refused, Unfinished, Finished}
 use Rattle.marking_reader.specs.File.{Known, Asked, asked, outcomeIn, nextEvent, everyPointed, headQuestions, stepAt, continued, walk}
 use Rattle.marking_reader.specs.File.{content, refused, withPlace, withPoint, headed, opening, nothingRead, afterOpening, fileRead}
 use Rattle.marking_reader.specs.State.{placeQuestions}
@@ -121,7 +121,7 @@ module _ (k : Known) (s : List ℕ) (by : Bytes s) (m′ : Marking) where
   walk-forth zero at m f e = absurd (refused≢content 0 at m′ e)
   walk-forth (suc left) at m f e = go (stepAt (asked k m) (everyPointed k m) s at) refl e (λ a x. walk-forth left a x)
     where
-      go : (x : Step) → stepAt (asked k m) (everyPointed k m) s at ≡ x → continued (walk k left s) s at m x ≡ content m′
+      go : (x : MarkingStep) → stepAt (asked k m) (everyPointed k m) s at ≡ x → continued (walk k left s) s at m x ≡ content m′
           → ((a : ℕ) (x : Marking) → Forth s a x → walk k left s a x ≡ content m′ → s ≡ markingBytes m′) → s ≡ markingBytes m′
       go (Placed t o end) q d ih =
           ih end (withPlace m t o) (forth-place at m t o end f (placed-means (asked k m) s at (everyPointed k m) t o end q)) d

@@ -18,8 +18,8 @@ use Rattle.records.specs.Records.{recordAt, bodyOf}
 use Rattle.opacity.specs.Transactions.{isStoreRead}
 use Rattle.opacity.specs.Justification.{placed}
 use Rattle.opacity.specs.Marking.{Marking, Point}
-use Rattle.marking_reader.specs.declared.step.Step.{Step}
-use Rattle.marking_reader.specs.declared.step.Step.the-variants.{Placed, Pointed, Refused, Unfinished, Finished}
+use Rattle.marking_reader.specs.declared.step.MarkingStep.{MarkingStep}
+use Rattle.marking_reader.specs.declared.step.MarkingStep.the-variants.{Placed, Pointed, Refused, Unfinished, Finished}
 
 -- What the questions ask of the history: how many transactions and events it has, and whether an event is a store read.
 pub record Known : Type 0 where
@@ -100,26 +100,26 @@ unfoldable pub endQuestions : Bool → Bool → List Question
 endQuestions placed pointed = ask 28 placed ∷ ask 29 pointed ∷ []
 
 -- what a record that no question refuses gives: a place or a point, and the byte where it ends
-abbrev pub taken : ℕ → List ℕ → ℕ → Step
+abbrev pub taken : ℕ → List ℕ → ℕ → MarkingStep
 taken kind body end = cond (isPlace kind) (Placed (transactionIn body) (outcomeIn body) end) (Pointed (eventIn body) (gapIn body) end)
 
-abbrev pub unless : Option ℕ → (ℕ → Step) → Step → Step
+abbrev pub unless : Option ℕ → (ℕ → MarkingStep) → MarkingStep → MarkingStep
 unless none refuse x = x
 unless (some q) refuse x = refuse q
 
-unfoldable pub bodyStep : Asked → ℕ → List ℕ → ℕ → Step
+unfoldable pub bodyStep : Asked → ℕ → List ℕ → ℕ → MarkingStep
 bodyStep a kind body end = unless (refusal (recordQuestions a kind body)) Refused (taken kind body end)
 
-unfoldable pub endStep : Bool → Bool → Step
+unfoldable pub endStep : Bool → Bool → MarkingStep
 endStep placed pointed = unless (refusal (endQuestions placed pointed)) Unfinished Finished
 
-abbrev pub stepOn : Asked → Bool → List ℕ → Found → Step
+abbrev pub stepOn : Asked → Bool → List ℕ → Found → MarkingStep
 stepOn a pointed s (Whole r) = bodyStep a (r .kind) (bodyOf s r) (r .start + r .size)
 stepOn a pointed s Short = Refused 2
 stepOn a pointed s End = endStep (a .everyPlaced) pointed
 
 -- what stands at a byte answers: 2 and 22 to 29
-unfoldable pub stepAt : Asked → Bool → List ℕ → ℕ → Step
+unfoldable pub stepAt : Asked → Bool → List ℕ → ℕ → MarkingStep
 stepAt a pointed s at = stepOn a pointed s (recordAt s at)
 
 -- the content of a file, or the question that says no with its byte
@@ -134,7 +134,7 @@ abbrev pub withPoint : Marking → ℕ → ℕ → Marking
 withPoint m e g = record { places = m .places; points = m .points ++ (record { event = e; gap = g } ∷ []) }
 
 -- the byte is the record's, or the file's length at the end
-abbrev pub continued : (ℕ → Marking → FileRead) → List ℕ → ℕ → Marking → Step → FileRead
+abbrev pub continued : (ℕ → Marking → FileRead) → List ℕ → ℕ → Marking → MarkingStep → FileRead
 continued rest s at m (Placed t o end) = rest end (withPlace m t o)
 continued rest s at m (Pointed e g end) = rest end (withPoint m e g)
 continued rest s at m (Refused q) = refused q at

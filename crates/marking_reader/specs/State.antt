@@ -20,8 +20,8 @@ use Rattle.opacity.specs.Marking.{Marking, Point}
 use Rattle.reads.specs.Own.{OwnWrites}
 use Rattle.opacity.specs.Arrays.{placesOf}
 use Rattle.rules.specs.Judge.{content as inArrays}
-use Rattle.marking_reader.specs.declared.step.Step.{Step}
-use Rattle.marking_reader.specs.declared.step.Step.the-variants.{Placed, Pointed}
+use Rattle.marking_reader.specs.declared.step.MarkingStep.{MarkingStep}
+use Rattle.marking_reader.specs.declared.step.MarkingStep.the-variants.{Placed, Pointed}
 use Rattle.marking_reader.specs.File.{Asked, transactionIn, outcomeIn, eventIn, gapIn, unless, nextEvent, FileRead, content, refused}
 
 -- what a marking is read for: a readable history in a log, its own writes, and how many transactions it has
@@ -60,19 +60,19 @@ unfoldable pub pointQuestions : ℕ → ℕ → Bool → Bool → ℕ → ℕ �
 pointQuestions b next placed read e g = ask 28 (eqb next 0 implies placed) ∷ ask 26 (leb next e and read) ∷ ask 27 (leb g b) ∷ []
 
 -- 23 to 25 of a place, and 23, 28, 26 and 27 of a point
-unfoldable pub placeStep : ℕ → ℕ → (ℕ → Bool) → List ℕ → ℕ → Step
+unfoldable pub placeStep : ℕ → ℕ → (ℕ → Bool) → List ℕ → ℕ → MarkingStep
 placeStep b next used body end =
     cond (eqb (length body) 4)
-    (unless (refusal (placeQuestions b next (used (transactionIn body)) (transactionIn body) (outcomeIn body))) Step.Refused
+    (unless (refusal (placeQuestions b next (used (transactionIn body)) (transactionIn body) (outcomeIn body))) MarkingStep.Refused
     (Placed (transactionIn body) (outcomeIn body) end))
-    (Step.Refused 23)
+    (MarkingStep.Refused 23)
 
-unfoldable pub pointStep : ℕ → ℕ → Bool → (ℕ → Bool) → List ℕ → ℕ → Step
+unfoldable pub pointStep : ℕ → ℕ → Bool → (ℕ → Bool) → List ℕ → ℕ → MarkingStep
 pointStep b next placed reads body end =
     cond (eqb (length body) 6)
-    (unless (refusal (pointQuestions b next placed (reads (eventIn body)) (eventIn body) (gapIn body))) Step.Refused
+    (unless (refusal (pointQuestions b next placed (reads (eventIn body)) (eventIn body) (gapIn body))) MarkingStep.Refused
     (Pointed (eventIn body) (gapIn body) end))
-    (Step.Refused 23)
+    (MarkingStep.Refused 23)
 
 -- the points that a table of gaps holds at the first k events
 abbrev pub pointIn : List ℕ → ℕ → List Point

@@ -8,8 +8,8 @@ ghost use Rattle.log.specs.declared.admit.Checked.the-variants.{Readable, Refus
 ghost use Rattle.log.specs.Rows.{logged};
 ghost use Rattle.marking_reader.specs.File.{known, headQuestions, opening, fileRead};
 ghost use Rattle.marking_reader.specs.State.{Asking, Fresh, readAs, Kept};
+use crate::step::MarkingStep;
 use crate::step::Progress;
-use crate::step::Step;
 use crate::step::step_at;
 use events::refusal::Refusal;
 use log::admit::Checked;
@@ -98,7 +98,7 @@ pub fn read_marking(
             Progress { filled, next, at },
         );
         match step {
-            Step::Placed(t, o, end) => {
+            MarkingStep::Placed(t, o, end) => {
                 let i = t as usize;
                 order[filled] = t;
                 outcomes[filled] = o as u8;
@@ -106,14 +106,14 @@ pub fn read_marking(
                 filled += 1;
                 at = end;
             }
-            Step::Pointed(e, g, end) => {
+            MarkingStep::Pointed(e, g, end) => {
                 gaps[e] = g;
                 next = e + 1;
                 at = end;
             }
-            Step::Refused(q) => return refused(q, at),
-            Step::Unfinished(q) => return refused(q, file.len()),
-            Step::Finished => return Checked::Readable,
+            MarkingStep::Refused(q) => return refused(q, at),
+            MarkingStep::Unfinished(q) => return refused(q, file.len()),
+            MarkingStep::Finished => return Checked::Readable,
         }
     }
 }

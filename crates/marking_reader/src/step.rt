@@ -23,7 +23,7 @@ use records::record::record_at;
 
 // A place or a point with the byte where its record ends; the question that says no, at a record or
 // at the end of the file; or the end, where none says no.
-pub enum Step {
+pub enum MarkingStep {
     Placed(u16, u16, usize),
     Pointed(usize, u16, usize),
     Refused(u8),
@@ -102,20 +102,20 @@ fn point_asked(
 }
 
 // 23 to 25 of a place.
-fn place_step(begun: usize, used: &[bool; 64], next: usize, body: &[u8], end: usize) -> Step
+fn place_step(begun: usize, used: &[bool; 64], next: usize, body: &[u8], end: usize) -> MarkingStep
     requires { ⌜ begun ≤ 64 ⌝ }
     ensures { λ x. ⌜ x ≡ placeStep begun next (λ t. getD (now (used .entry)) t false) (now (body .entry)) end ⌝ }
 {
     if body.len() != Record::PLACE_SIZE {
-        return Step::Refused(23);
+        return MarkingStep::Refused(23);
     }
     let t = u16_at(body, 0);
     let o = u16_at(body, 2);
     let q = place_asked(begun, used, next, t, o);
     if q == 0 {
-        return Step::Placed(t, o, end);
+        return MarkingStep::Placed(t, o, end);
     }
-    Step::Refused(q)
+    MarkingStep::Refused(q)
 }
 
 // 23, 28, 26 and 27 of a point.
@@ -126,21 +126,21 @@ fn point_step(
     progress: Progress,
     body: &[u8],
     end: usize,
-) -> Step
+) -> MarkingStep
     requires { ⌜ Asking (now log) (now own) begun ⌝ }
     ensures { λ x. ⌜ x ≡ pointStep begun (progress .next) (eqb (progress .filled) begun)
         (isStoreRead (logged (now (log .entry)))) (now (body .entry)) end ⌝ }
 {
     if body.len() != Record::POINT_SIZE {
-        return Step::Refused(23);
+        return MarkingStep::Refused(23);
     }
     let e = u32_at(body, 0) as usize;
     let g = u16_at(body, 4);
     let q = point_asked(log, own, begun, progress, e, g);
     if q == 0 {
-        return Step::Pointed(e, g, end);
+        return MarkingStep::Pointed(e, g, end);
     }
-    Step::Refused(q)
+    MarkingStep::Refused(q)
 }
 
 // 22 to 28 of a record's body.
@@ -153,7 +153,7 @@ fn body_step(
     kind: u16,
     body: &[u8],
     end: usize,
-) -> Step
+) -> MarkingStep
     requires { ⌜ Asking (now log) (now own) begun ⌝ }
     ensures { λ x. ⌜ x ≡ bodyStep (askedBy (logged (now (log .entry))) begun (now (used .entry)) (progress .filled) (progress .next))
         kind (now (body .entry)) end ⌝ }
@@ -164,7 +164,7 @@ fn body_step(
     if kind == Record::POINT {
         return point_step(log, own, begun, progress, body, end);
     }
-    Step::Refused(22)
+    MarkingStep::Refused(22)
 }
 
 // The body of a whole record, a part of the file, goes to the reader of its fields.
@@ -176,7 +176,7 @@ fn record_step(
     progress: Progress,
     file: &[u8],
     r: Record,
-) -> Step
+) -> MarkingStep
     requires { ⌜ Asking (now log) (now own) begun ⌝ }
     requires { ⌜ r .start + r .size ≤ length (now file) ⌝ }
     ensures { λ x. ⌜ x ≡ bodyStep (askedBy (logged (now (log .entry))) begun (now (used .entry)) (progress .filled) (progress .next))
@@ -225,18 +225,24 @@ fn every_pointed(log: &[Row], own: &[u16; 2048], gaps: &[u16; 2048]) -> bool
 }
 
 // 28 and 29, at the end.
-fn end_step(log: &[Row], own: &[u16; 2048], begun: usize, filled: usize, gaps: &[u16; 2048]) -> Step
+fn end_step(
+    log: &[Row],
+    own: &[u16; 2048],
+    begun: usize,
+    filled: usize,
+    gaps: &[u16; 2048],
+) -> MarkingStep
     requires { ⌜ Asking (now log) (now own) begun ⌝ }
     ensures { λ x. ⌜ x ≡ endStep (eqb filled begun)
         (every (pointBy (logged (now (log .entry))) (now (gaps .entry))) (length (logged (now (log .entry))))) ⌝ }
 {
     if filled != begun {
-        return Step::Unfinished(28);
+        return MarkingStep::Unfinished(28);
     }
     if !every_pointed(log, own, gaps) {
-        return Step::Unfinished(29);
+        return MarkingStep::Unfinished(29);
     }
-    Step::Finished
+    MarkingStep::Finished
 }
 
 // What stands at the next record's byte answers.
@@ -248,7 +254,7 @@ pub fn step_at(
     gaps: &[u16; 2048],
     file: &[u8],
     progress: Progress,
-) -> Step
+) -> MarkingStep
     requires { ⌜ Asking (now log) (now own) begun ⌝ }
     ensures { λ x. ⌜ x ≡ stepAt (askedBy (logged (now (log .entry))) begun (now (used .entry)) (progress .filled) (progress .next))
         (every (pointBy (logged (now (log .entry))) (now (gaps .entry))) (length (logged (now (log .entry)))))
@@ -257,7 +263,7 @@ pub fn step_at(
     let found = record_at(file, progress.at);
     match found {
         Found::Whole(r) => record_step(log, own, begun, used, progress, file, r),
-        Found::Short => Step::Refused(2),
+        Found::Short => MarkingStep::Refused(2),
         Found::End => end_step(log, own, begun, progress.filled, gaps),
     }
 }

@@ -21,7 +21,7 @@ use Rattle.opacity.specs.Justification.{Place, placed, before, written, outcome
 use Rattle.opacity.specs.Marking.{Marking, gapOf, placeOf, others, between, noWriterBetween, valueAtGap, ruleHolds, broke, tries, verdict}
 use Rattle.opacity.proofs.Bounds.{at-most-64, transaction-known}
 use Rattle.opacity.proofs.Finder.{gap-marked, before-le}
-use Rattle.links.specs.declared.tables.Fact.the-variants.{LastEvent, LastWrite, LastBegin, FirstBegin, FirstEnd, Standing}
+use Rattle.links.specs.declared.tables.Fact.the-variants.{LastEvent, LastWrite, LastBegin, FirstBegin, FirstEnd, Rank}
 use Rattle.links.specs.Tables.{Tabled, slot, earlier}
 use Rattle.links.specs.declared.tables.Tables.{Tables}
 use Rattle.links.specs.Registers.{Sets, AllTabled}
@@ -31,7 +31,7 @@ use Rattle.opacity.specs.Arrays.{placesOf}
 use Rattle.opacity.proofs.Arrays.{places-length}
 use Rattle.rules.specs.Orders.{Inverse, Apart, writer, lastOf, writerAt, Writers, broken, allowsBy, outcomeBy, pairBy, realTimeBy}
 use Rattle.rules.specs.Walks.{Pointable, noWriter, rightValue, pointRule}
-use Rattle.rules.specs.Judge.{content, Given, placesVerdict, andThen, tried, readsVerdict}
+use Rattle.rules.specs.Judge.{content, Judgeable, placesVerdict, andThen, tried, readsVerdict}
 use Rattle.rules.proofs.Numbers.{none-of, some-of, every-ext, first-ext}
 use Rattle.rules.proofs.OrderLaws.{before-lower, outcome-of, inverse-place, order-low, order-apart}
 use Rattle.rules.proofs.WalkLaws.{row-last, found-between, found-before}
@@ -40,12 +40,12 @@ use Rattle.rules.proofs.WalkLaws.{row-last, found-between, found-before
 abbrev pub orderIn : List Event → List ℕ → List ℕ → List Place
 orderIn h order outcomes = placesOf order outcomes (begins h)
 
-allows-standing : (s : Status) (c : Bool) → allowsBy (statusNumber s) c ≡ allows s c
+allows-rank : (s : Status) (c : Bool) → allowsBy (statusNumber s) c ≡ allows s c
 unfolding allowsBy allows
-allows-standing committed c = refl
-allows-standing aborted c = refl
-allows-standing pending c = refl
-allows-standing live c = refl
+allows-rank committed c = refl
+allows-rank aborted c = refl
+allows-rank pending c = refl
+allows-rank live c = refl
 
 pub place-le : (t : ℕ) (order outcomes : List ℕ) (b : ℕ) → placeOf t (placesOf order outcomes b) ≤ b
 unfolding placeOf
@@ -59,7 +59,7 @@ own-same start h m = refl
 abbrev readsIn : (ℕ → ℕ) → List Event → Marking → Verdict
 readsIn start h m = tries start h m C (tries start h m D (tries start h m E Accepted))
 
-module _ {h : List Event} {link order outcomes gaps : List ℕ} (y : Given h link order outcomes gaps) where
+module _ {h : List Event} {link order outcomes gaps : List ℕ} (y : Judgeable h link order outcomes gaps) where
   pub few-begun : begins h ≤ 64
   few-begun = at-most-64 h (y .readable)
 
@@ -76,15 +76,15 @@ module _ {h : List Event} {link order outcomes gaps : List ℕ} (y : Given h lin
   gap-same i l s = gap-marked h (λ k. getD gaps k 0) i l s
 
   -- rule A
-  outcome-same : (standing place : List ℕ) → Tabled Standing h standing → Inverse order (begins h) place
-      → (t : ℕ) → t < begins h → outcomeBy standing place outcomes t ≡ outcomeKept h (orderIn h order outcomes) t
+  outcome-same : (ranks place : List ℕ) → Tabled Rank h ranks → Inverse order (begins h) place
+      → (t : ℕ) → t < begins h → outcomeBy ranks place outcomes t ≡ outcomeKept h (orderIn h order outcomes) t
   unfolding outcomeBy outcomeKept
-  outcome-same standing place a v t l =
+  outcome-same ranks place a v t l =
       let few = few-begun in
-      let s : getD standing t 0 ≡ statusNumber (status h t) = a .holds t (omega arith) ∙ status-table h t in
+      let s : getD ranks t 0 ≡ statusNumber (status h t) = a .holds t (omega arith) ∙ status-table h t in
       let p = inverse-place order outcomes (begins h) (y .ordered) place v t l in
       ap (λ (x : ℕ). allowsBy x (eqb (getD outcomes (getD place t 0) 0) 1)) s
-      ∙ (allows-standing (status h t) (eqb (getD outcomes (getD place t 0) 0) 1)
+      ∙ (allows-rank (status h t) (eqb (getD outcomes (getD place t 0) 0) 1)
       ∙ ap (allows (status h t)) (ap (λ (k : ℕ). eqb (getD outcomes k 0) 1) p ∙ sym (outcome-of order outcomes (begins h) (y .ordered) t l)))
 
   -- rule B
@@ -190,10 +190,10 @@ module _ {h : List Event} {link order outcomes gaps : List ℕ} (y : Given h lin
         abbrev m : Marking
         m = content h order outcomes gaps
 
-        agrees-a : first (λ k. not (outcomeBy (t .standing) place outcomes k)) (begins h) ≡ first (λ k. not (outcomeKept h (orderIn h order outcomes) k)) (begins h)
+        agrees-a : first (λ k. not (outcomeBy (t .ranks) place outcomes k)) (begins h) ≡ first (λ k. not (outcomeKept h (orderIn h order outcomes) k)) (begins h)
         agrees-a =
-            first-ext (outcomeBy (t .standing) place outcomes) (outcomeKept h (orderIn h order outcomes)) (begins h)
-            (outcome-same (t .standing) place (tabled .stood) v)
+            first-ext (outcomeBy (t .ranks) place outcomes) (outcomeKept h (orderIn h order outcomes)) (begins h)
+            (outcome-same (t .ranks) place (tabled .ranked) v)
 
         agrees-b : first (λ k. not (realTimeBy (t .ended) (t .began) place (begins h) k)) (begins h) ≡ first (λ k. not (realTimeKept h (orderIn h order outcomes) k)) (begins h)
         agrees-b =
@@ -204,10 +204,10 @@ module _ {h : List Event} {link order outcomes gaps : List ℕ} (y : Given h lin
         unfolding placesVerdict verdict tries ruleHolds content broke
         parts =
             ap (λ (x : ℕ). andThen (placesVerdict h t place outcomes x) (readsIn start h m)) ek
-            ∙ go (first (λ k. not (outcomeBy (t .standing) place outcomes k)) (begins h)) refl
+            ∙ go (first (λ k. not (outcomeBy (t .ranks) place outcomes k)) (begins h)) refl
             (first (λ k. not (realTimeBy (t .ended) (t .began) place (begins h) k)) (begins h)) refl
           where
-            go : (a : Option ℕ) → first (λ k. not (outcomeBy (t .standing) place outcomes k)) (begins h) ≡ a
+            go : (a : Option ℕ) → first (λ k. not (outcomeBy (t .ranks) place outcomes k)) (begins h) ≡ a
                 → (b : Option ℕ) → first (λ k. not (realTimeBy (t .ended) (t .began) place (begins h) k)) (begins h) ≡ b
                 → andThen (broke a (λ x. Broken A (slot LastEvent h x (length h) - 1) x) (broke b (λ x. Broken B (slot FirstBegin h x (length h) - 1) x) Accepted)) (readsIn start h m)
                 ≡ verdict start h m
@@ -215,22 +215,19 @@ module _ {h : List Event} {link order outcomes gaps : List ℕ} (y : Given h lin
             go none e (some x) f = rw (sym agrees-a ∙ e, sym agrees-b ∙ f) (ap (λ (n : ℕ). Broken B n x) (first-begin h x))
             go none e none f = rw (sym agrees-a ∙ e, sym agrees-b ∙ f)
 
-        pub verdict-broken : {r : Rule} {i x : ℕ} → placesVerdict h t place outcomes k ≡ Broken r i x → Broken r i x ≡ verdict start h (content h order outcomes gaps)
-        verdict-broken e = ap (λ (d : Verdict). andThen d (readsIn start h m)) (sym e) ∙ parts
-
-        pub verdict-reads : placesVerdict h t place outcomes k ≡ Accepted → {writers : List (List ℕ)} → Writers order outcomes (t .written) (t .registers) k writers
-            → readsVerdict start h link writers place gaps ≡ verdict start h (content h order outcomes gaps)
-        verdict-reads e table = reads-same (tabled .writes) (tabled .sets) table start ∙ (ap (λ (d : Verdict). andThen d (readsIn start h m)) (sym e) ∙ parts)
+        pub verdict-parts : {writers : List (List ℕ)} → Writers order outcomes (t .written) (t .registers) k writers
+            → andThen (placesVerdict h t place outcomes k) (readsVerdict start h link writers place gaps) ≡ verdict start h m
+        verdict-parts table = ap (andThen (placesVerdict h t place outcomes k)) (reads-same (tabled .writes) (tabled .sets) table start) ∙ parts
 
 -- rules A and B with what the searches for their first breaches said
-module _ (h : List Event) (tables : Tables) (place outcomes : List ℕ) (b : ℕ) {t : ℕ} (et : t ≡ broken (outcomeBy (tables .standing) place outcomes) b) where
+module _ (h : List Event) (tables : Tables) (place outcomes : List ℕ) (b : ℕ) {t : ℕ} (et : t ≡ broken (outcomeBy (tables .ranks) place outcomes) b) where
   pub breaks-a : t < b → placesVerdict h tables place outcomes b ≡ Broken A (slot LastEvent h t (length h) - 1) t
   unfolding placesVerdict broke
-  breaks-a l = rw (some-of (outcomeBy (tables .standing) place outcomes) b t et l)
+  breaks-a l = rw (some-of (outcomeBy (tables .ranks) place outcomes) b t et l)
 
   module _ (lt : b ≤ t) {u : ℕ} (eu : u ≡ broken (realTimeBy (tables .ended) (tables .began) place b) b) where
-    none-a : first (λ k. not (outcomeBy (tables .standing) place outcomes k)) b ≡ none
-    none-a = none-of (outcomeBy (tables .standing) place outcomes) b t et lt
+    none-a : first (λ k. not (outcomeBy (tables .ranks) place outcomes k)) b ≡ none
+    none-a = none-of (outcomeBy (tables .ranks) place outcomes) b t et lt
 
     pub breaks-b : u < b → placesVerdict h tables place outcomes b ≡ Broken B (slot FirstBegin h u (length h) - 1) u
     unfolding placesVerdict broke

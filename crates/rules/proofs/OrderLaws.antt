@@ -97,14 +97,14 @@ module _ (order outcomes : List ℕ) (b : ℕ) (o : isOrder b (placesOf order ou
       ∙ outcome-here (placesOf order outcomes k) (placeAt order outcomes k) (drop (suc k) (placesOf order outcomes b)) (alone k l .0) (alone k l .1)
 
   -- a transaction has a place
-  pub record Found (t : ℕ) : Type 0 where
+  pub record HasPlace (t : ℕ) : Type 0 where
     pub at : ℕ
     pub inside : at < b
     pub there : getD order at 0 ≡ t
 
-  pub found : (t : ℕ) → t < b → Found t
+  pub has-place : (t : ℕ) → t < b → HasPlace t
   unfolding isOrder placed
-  found t l =
+  has-place t l =
       let w = any-index (isOf t) (placesOf order outcomes b) noPlace (every-e _ _ (and-r _ _ (and-r _ _ o)) t l) in
       let m : w .0 < b = rw (places-length order outcomes b) at (w .1) in
       record { at = w .0; inside = m; there = eqb-true _ _ (ap (isOf t) (sym (places-at order outcomes b (w .0) m)) ∙ w .2) }
@@ -114,7 +114,7 @@ module _ (order outcomes : List ℕ) (b : ℕ) (o : isOrder b (placesOf order ou
 
   pub outcome-of : (t : ℕ) → t < b → outcome t (placesOf order outcomes b) ≡ eqb (getD outcomes (placeOf t (placesOf order outcomes b)) 0) 1
   outcome-of t l =
-      let f = found t l in
+      let f = has-place t l in
       ap (λ (x : ℕ). outcome x (placesOf order outcomes b)) (sym (f .there))
       ∙ (outcome-at (f .at) (f .inside) ∙ ap (λ (k : ℕ). eqb (getD outcomes k 0) 1) (sym (place-of t (f .at) (f .inside) (f .there))))
 
@@ -131,7 +131,7 @@ module _ (order outcomes : List ℕ) (b : ℕ) (o : isOrder b (placesOf order ou
   -- the table of places
   pub inverse-place : (place : List ℕ) → Inverse order b place → (t : ℕ) → t < b → getD place t 0 ≡ placeOf t (placesOf order outcomes b)
   inverse-place place v t l =
-      let f = found t l in
+      let f = has-place t l in
       ap (λ (x : ℕ). getD place x 0) (sym (f .there)) ∙ (v .holds (f .at) (f .inside) ∙ sym (place-of t (f .at) (f .inside) (f .there)))
 
   -- the transaction at place k is t exactly if k is the place of t
@@ -141,7 +141,7 @@ module _ (order outcomes : List ℕ) (b : ℕ) (o : isOrder b (placesOf order ou
       go : (x : Bool) → eqb (getD order k 0) t ≡ x → x ≡ eqb k (placeOf t (placesOf order outcomes b))
       go true e = sym (eq-eqb _ _ (sym (place-of t k m (eqb-true _ _ e))))
       go false e =
-          sym (ne-eqb _ _ (λ q. let f = found t l in
+          sym (ne-eqb _ _ (λ q. let f = has-place t l in
           eqb-false _ _ e (ap (λ (x : ℕ). getD order x 0) (q ∙ place-of t (f .at) (f .inside) (f .there)) ∙ f .there)))
 
 -- a table of zeros

@@ -34,7 +34,7 @@ content h order outcomes gaps =
     }
 
 -- a readable history with its writes linked, and a readable marking: the events with a point are the store reads
-pub record Given (h : List Event) (link order outcomes gaps : List ℕ) : Type 0 where
+pub record Judgeable (h : List Event) (link order outcomes gaps : List ℕ) : Type 0 where
   pub readable : readable h ≡ true
   pub linked : Linked h link
   pub ordered : isOrder (begins h) (placesOf order outcomes (begins h)) ≡ true
@@ -44,7 +44,7 @@ pub record Given (h : List Event) (link order outcomes gaps : List ℕ) : Type 0
 -- rules A and B, by tables; b transactions have begun
 unfoldable pub placesVerdict : List Event → Tables → List ℕ → List ℕ → ℕ → Verdict
 placesVerdict h t place outcomes b =
-    broke (first (λ k. not (outcomeBy (t .standing) place outcomes k)) b) (λ k. Broken A (slot LastEvent h k (length h) - 1) k)
+    broke (first (λ k. not (outcomeBy (t .ranks) place outcomes k)) b) (λ k. Broken A (slot LastEvent h k (length h) - 1) k)
     (broke (first (λ k. not (realTimeBy (t .ended) (t .began) place b k)) b) (λ k. Broken B (slot FirstBegin h k (length h) - 1) k)
     Accepted)
 

@@ -48,13 +48,13 @@ Writers order outcomes written registers b table = Filled 64 (writer 0 0) (write
 unfoldable pub broken : (ℕ → Bool) → ℕ → ℕ
 broken p n = Option·getD (first (λ i. not (p i)) n) n
 
--- does the standing allow the outcome
+-- does the rank allow the outcome
 unfoldable pub allowsBy : ℕ → Bool → Bool
 allowsBy s c = cond (eqb s 3) c (cond (eqb s 1) true (not c))
 
 -- rule A at t
 unfoldable pub outcomeBy : List ℕ → List ℕ → List ℕ → ℕ → Bool
-outcomeBy standing place outcomes t = allowsBy (getD standing t 0) (eqb (getD outcomes (getD place t 0) 0) 1)
+outcomeBy ranks place outcomes t = allowsBy (getD ranks t 0) (eqb (getD outcomes (getD place t 0) 0) 1)
 
 -- t, if it ended before u began, is placed before u
 unfoldable pub pairBy : List ℕ → List ℕ → List ℕ → ℕ → ℕ → Bool

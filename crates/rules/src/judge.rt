@@ -14,7 +14,7 @@ ghost use Rattle.reads.specs.Own.{OwnWrites};
 ghost use Rattle.links.specs.Tables.{slot};
 ghost use Rattle.rules.specs.Orders.{broken};
 ghost use Rattle.rules.specs.Walks.{Pointable};
-ghost use Rattle.rules.specs.Judge.{content, Given, placesVerdict, readsVerdict};
+ghost use Rattle.rules.specs.Judge.{content, Judgeable, placesVerdict, andThen, readsVerdict};
 use crate::order::rule_a;
 use crate::order::rule_b;
 use crate::places::Writer;
@@ -117,7 +117,7 @@ fn judge_reads(
 }
 
 // Rules A and B.
-fn judge_places(
+pub fn judge_places(
     log: &[Row],
     tables: Tables,
     place: &[u16; 64],
@@ -129,8 +129,8 @@ fn judge_places(
     requires { ⌜ ((t : ℕ) → getD (now place) t 0 < 64) ⌝ }
     ensures { λ v. ⌜ v ≡ placesVerdict (logged (now (log .entry))) tables (now (place .entry)) (now (outcomes .entry)) begun ⌝ }
 {
-    let standing = tables.standing;
-    let t = rule_a(&standing, place, outcomes, begun);
+    let ranks = tables.ranks;
+    let t = rule_a(&ranks, place, outcomes, begun);
     if t < begun {
         return broken_by(Rule::A, log, Fact::LastEvent, t);
     }
@@ -141,6 +141,36 @@ fn judge_places(
         return broken_by(Rule::B, log, Fact::FirstBegin, u);
     }
     Verdict::Accepted
+}
+
+// What rules A and B say, or else what C to E say.
+pub fn judge_after(
+    placed: Verdict,
+    starts: &[u32; 32],
+    log: &[Row],
+    own: &[u16; 2048],
+    link: &[u16; 2048],
+    writers: &[Writer; 64],
+    place: &[u16; 64],
+    gaps: &[u16; 2048],
+) -> Verdict
+    requires { ⌜ OwnWrites (logged (now log)) (now own) ⌝ }
+    requires { ⌜ Pointable (logged (now log)) (now link) (now writers) (now place) (now gaps) ⌝ }
+    ensures { λ v. ⌜ v ≡ andThen placed (readsVerdict (startOf (now (starts .entry))) (logged (now (log .entry)))
+        (now (link .entry)) (now (writers .entry)) (now (place .entry)) (now (gaps .entry))) ⌝ }
+{
+    if let Verdict::Broken {
+        rule,
+        event,
+        transaction,
+    } = placed {
+        return Verdict::Broken {
+            rule,
+            event,
+            transaction,
+        };
+    }
+    judge_reads(starts, log, own, link, writers, place, gaps)
 }
 
 // The verdict on a readable marking of a readable history, whose own writes are found and whose
@@ -155,27 +185,14 @@ pub fn judge(
     gaps: &[u16; 2048],
 ) -> Verdict
     requires { ⌜ OwnWrites (logged (now log)) (now own) ⌝ }
-    requires { ⌜ Given (logged (now log)) (now link) (now order) (now outcomes) (now gaps) ⌝ }
+    requires { ⌜ Judgeable (logged (now log)) (now link) (now order) (now outcomes) (now gaps) ⌝ }
     ensures { λ v. ⌜ v ≡ verdict (startOf (now (starts .entry))) (logged (now (log .entry)))
         (content (logged (now (log .entry))) (now (order .entry)) (now (outcomes .entry)) (now (gaps .entry))) ⌝ }
 {
     let begun = transactions_begun(log);
     let place = places_of(order, begun);
     let tables = tables_of(log);
+    let writers = writers_of(order, outcomes, tables, begun);
     let placed = judge_places(log, tables, &place, outcomes, begun);
-    if let Verdict::Broken {
-        rule,
-        event,
-        transaction,
-    } = placed {
-        return Verdict::Broken {
-            rule,
-            event,
-            transaction,
-        };
-    }
-    let written = tables.written;
-    let registers = tables.registers;
-    let writers = writers_of(order, outcomes, &written, &registers, begun);
-    judge_reads(starts, log, own, link, &writers, &place, gaps)
+    judge_after(placed, starts, log, own, link, &writers, &place, gaps)
 }

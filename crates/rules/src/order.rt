@@ -6,38 +6,38 @@ ghost use lib.Dec.{eqb};
 ghost use Rattle.rules.specs.Orders.{broken, allowsBy, outcomeBy, pairBy, realTimeBy};
 use links::tables::wide;
 
-// Does the standing of a transaction allow the outcome?
-fn allowed(standing: u16, outcome: u8) -> bool
-    ensures { λ r. ⌜ r ≡ allowsBy standing (eqb outcome 1) ⌝ }
+// Does the rank of a transaction allow the outcome?
+fn allowed(rank: u16, outcome: u8) -> bool
+    ensures { λ r. ⌜ r ≡ allowsBy rank (eqb outcome 1) ⌝ }
 {
-    if standing == 3 {
+    if rank == 3 {
         return outcome == 1;
     }
-    if standing == 1 {
+    if rank == 1 {
         return true;
     }
     outcome != 1
 }
 
 // Rule A at t: its outcome is allowed.
-fn outcome_kept(standing: &[u16; 64], place: &[u16; 64], outcomes: &[u8; 64], t: usize) -> bool
+fn outcome_kept(ranks: &[u16; 64], place: &[u16; 64], outcomes: &[u8; 64], t: usize) -> bool
     requires { ⌜ t < 64 ⌝ }
     requires { ⌜ getD (now place) t 0 < 64 ⌝ }
-    ensures { λ r. ⌜ r ≡ outcomeBy (now (standing .entry)) (now (place .entry)) (now (outcomes .entry)) t ⌝ }
+    ensures { λ r. ⌜ r ≡ outcomeBy (now (ranks .entry)) (now (place .entry)) (now (outcomes .entry)) t ⌝ }
 {
     let p = wide(place[t]);
-    allowed(standing[t], outcomes[p])
+    allowed(ranks[t], outcomes[p])
 }
 
 // The first transaction that breaks rule A, or their number.
-pub fn rule_a(standing: &[u16; 64], place: &[u16; 64], outcomes: &[u8; 64], begun: usize) -> usize
+pub fn rule_a(ranks: &[u16; 64], place: &[u16; 64], outcomes: &[u8; 64], begun: usize) -> usize
     requires { ⌜ begun ≤ 64 ⌝ }
     requires { ⌜ ((t : ℕ) → getD (now place) t 0 < 64) ⌝ }
-    ensures { λ r. ⌜ r ≡ broken (outcomeBy (now (standing .entry)) (now (place .entry)) (now (outcomes .entry))) begun ⌝ }
+    ensures { λ r. ⌜ r ≡ broken (outcomeBy (now (ranks .entry)) (now (place .entry)) (now (outcomes .entry))) begun ⌝ }
 {
     let mut t: usize = 0;
     while t < begun {
-        if !outcome_kept(standing, place, outcomes, t) {
+        if !outcome_kept(ranks, place, outcomes, t) {
             return t;
         }
         t += 1;

@@ -3,6 +3,7 @@ ghost use mathlib.Core.Path.{_≡_};
 ghost use Prim.Native.Nat.{_<_};
 ghost use lib.ListN.{getD};
 ghost use Rattle.rules.specs.Orders.{Apart, Inverse, writerAt, Writers};
+use links::tables::Tables;
 use links::tables::wide;
 
 // The place of each transaction.
@@ -61,21 +62,22 @@ fn writer_at(
     [as_field(written[t]), registers[t]]
 }
 
-// The same of each place.
+// The same of each place, by the tables of the log.
 pub fn writers_of(
     order: &[u16; 64],
     outcomes: &[u8; 64],
-    written: &[u16; 64],
-    registers: &[u32; 64],
+    tables: Tables,
     begun: usize,
 ) -> [Writer; 64]
     requires { ⌜ Apart (now order) begun ⌝ }
-    ensures { λ r. ⌜ Writers (now (order .entry)) (now (outcomes .entry)) (now (written .entry)) (now (registers .entry)) begun r ⌝ }
+    ensures { λ r. ⌜ Writers (now (order .entry)) (now (outcomes .entry)) (tables .written) (tables .registers) begun r ⌝ }
 {
+    let written = tables.written;
+    let registers = tables.registers;
     let mut writers = [[0u32; 2]; 64];
     let mut k: usize = 0;
     while k < begun {
-        writers[k] = writer_at(order, outcomes, written, registers, k);
+        writers[k] = writer_at(order, outcomes, &written, &registers, k);
         k += 1;
     }
     writers

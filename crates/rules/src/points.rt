@@ -15,9 +15,7 @@ use links::writes::stored;
 use log::rows::Row;
 use log::rows::event_at;
 use opacity::verdict::Rule;
-
-// What stands for no point, in a table of gaps by event.
-pub const NO_POINT: u16 = 65535;
+use reads::NO_POINT;
 
 fn least(a: usize, b: usize) -> usize
     ensures { λ r. ⌜ r ≡ min a b ⌝ }

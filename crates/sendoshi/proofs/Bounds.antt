@@ -59,7 +59,7 @@ use Rattle.marking_reader.proofs.ContentLaws.{content-readable}
 use Rattle.counts.specs.declared.Counting.{Counting}
 use Rattle.counts.specs.declared.Tallying.{Tallying}
 use Rattle.counts.specs.declared.tally.Tally.{Tally}
-use Rattle.counts.specs.Tally.{hasStatus, standing, tally}
+use Rattle.counts.specs.Tally.{hasStatus, ofStatus, tally}
 use Rattle.counts.specs.Answer.{counted, transactionsAnswer, storeReadsAnswer, tallied, tallyAnswer, countSaid, tallySaid}
 use Rattle.straighten.specs.declared.Straightening.{Straightening}
 use Rattle.straighten.specs.Straight.{straightened}
@@ -302,19 +302,19 @@ module _ (c : Columns) (count : ℕ) (small : count ≤ most) where
   store-reads-decodable = count-decodable (length (storeReads (history c count))) (λ r. omega (arith, reads-low (history c count) r))
 
   -- no more transactions stand so than begin
-  standing-few : readable (history c count) ≡ true → (s : Status) → length (standing s (history c count)) ≤ 64
-  unfolding standing
-  standing-few r s = omega (arith, how-many-low (hasStatus s (history c count)) (begins (history c count)), at-most-64 (history c count) r)
+  status-few : readable (history c count) ≡ true → (s : Status) → length (ofStatus s (history c count)) ≤ 64
+  unfolding ofStatus
+  status-few r s = omega (arith, how-many-low (hasStatus s (history c count)) (begins (history c count)), at-most-64 (history c count) r)
 
   tally-quarters : readable (history c count) ≡ true
       → Quarters (tally (history c count) .committed) (tally (history c count) .aborted) (tally (history c count) .pending) (tally (history c count) .live)
   unfolding tally
   tally-quarters r =
       record {
-        first = omega (arith, standing-few r committed);
-        second = omega (arith, standing-few r aborted);
-        third = omega (arith, standing-few r pending);
-        fourth = omega (arith, standing-few r live);
+        first = omega (arith, status-few r committed);
+        second = omega (arith, status-few r aborted);
+        third = omega (arith, status-few r pending);
+        fourth = omega (arith, status-few r live);
       }
 
   pub tally-decodable : Decodable fourValues never (tallySaid (tallyAnswer c count))

@@ -27,7 +27,7 @@ use Rattle.reader.specs.Reading.{isEdition, opening, Log, readable, refused, co
 use Rattle.reader.proofs.OpeningLaws.{opens, head-long, head-known}
 use Rattle.reader.proofs.WalkLaws.{event-in, readable≢}
 use Rattle.opacity.specs.Marking.{Marking}
-use Rattle.marking_reader.specs.declared.step.Step.{Step as MarkingStep}
+use Rattle.marking_reader.specs.declared.step.MarkingStep.{MarkingStep}
 use Rattle.marking_reader.specs.File.{Known, Asked, asked as askedOf, everyPointed, isPlace, headQuestions, recordQuestions as markingQuestions, endQuestions, taken}
 use Rattle.marking_reader.specs.File.{unless as unlessBy, bodyStep, endStep, stepOn as markingStepOn, stepAt as markingStepAt}
 use Rattle.marking_reader.specs.File.{refused as refusedFile, continued as continuedMarking, walk as walkMarking, headed, opening as openingMarking, nothingRead, afterOpening, fileRead}

@@ -24,7 +24,7 @@ use Rattle.links.specs.Registers.{Sets}
 use Rattle.links.specs.declared.tables.Fact.the-variants.{LastWrite}
 use Rattle.rules.specs.Orders.{Inverse, Writers}
 use Rattle.rules.specs.Walks.{hasPoint, pointRule}
-use Rattle.rules.specs.Judge.{content, Given}
+use Rattle.rules.specs.Judge.{content, Judgeable}
 use Rattle.rules.proofs.JudgeLaws.{place-le, gap-same, reader-same, d-same, e-same}
 use Rattle.marking_reader.specs.State.{Kept}
 use Rattle.marking_reader.proofs.PointLaws.{beyond-history}
@@ -57,7 +57,7 @@ arrays-readable {h} {gaps = gaps} y =
     low [] a = refl
     low (x ∷ xs) a = and-i _ _ (le-leb _ _ (y .gaps-fit x (read-inside h x (and-l _ _ a)) (and-l _ _ a))) (low xs (and-r _ _ a))
 
-module _ {h : List Event} {link order outcomes gaps : List ℕ} (y : Given h link order outcomes gaps) where
+module _ {h : List Event} {link order outcomes gaps : List ℕ} (y : Judgeable h link order outcomes gaps) where
   abbrev m : Marking
   m = content h order outcomes gaps
 

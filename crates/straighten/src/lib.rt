@@ -27,8 +27,10 @@ mod list;
 mod moves;
 
 use crate::list::list_moved;
-use crate::moves::straight_of;
+use crate::moves::move_points;
+use crate::moves::moves_of;
 use events::refusal::Refusal;
+use links::tables::tables_of;
 use links::writes::links;
 use log::admit::Checked;
 use log::admit::admit;
@@ -41,7 +43,10 @@ use opacity::verdict::Verdict;
 use reads::NO_POINT;
 use reads::own_writes;
 use records::record::Record;
-use rules::judge::judge;
+use rules::judge::judge_after;
+use rules::judge::judge_places;
+use rules::places::places_of;
+use rules::places::writers_of;
 
 // The answer: the length of the marking written and the number of events moved; the rule that is
 // broken wherever the points are; the question that refuses the history or a lent buffer, with its
@@ -98,7 +103,8 @@ fn write_moved(
     }
 }
 
-// Moves the points of a marking that was read, and judges what comes out.
+// Moves the points of a marking that was read, and judges what comes out, both by the same tables: a
+// point that breaks D or E goes to its reader's place.
 fn judge_moved(
     starts: &[u32; 32],
     log: &[Row],
@@ -119,8 +125,13 @@ fn judge_moved(
 {
     let mut link = [0u16; 2048];
     links(log, &mut link);
-    straight_of(starts, log, begun, &link, order, outcomes, gaps, moves);
-    judge(starts, log, own, &link, order, outcomes, gaps)
+    let place = places_of(order, begun);
+    let tables = tables_of(log);
+    let writers = writers_of(order, outcomes, tables, begun);
+    moves_of(starts, log, &link, &writers, &place, gaps, moves);
+    move_points(log, &place, moves, gaps);
+    let placed = judge_places(log, tables, &place, outcomes, begun);
+    judge_after(placed, starts, log, own, &link, &writers, &place, gaps)
 }
 
 // Question 15, of a readable marking's length: is the output as long, and has the list an entry for every

@@ -4,20 +4,15 @@ ghost use mathlib.Core.Bool.{true, false};
 ghost use Prim.Native.Nat.{_<_};
 ghost use lib.ListN.{length};
 ghost use Rattle.lists.specs.Filled.{Front};
-ghost use Rattle.events.specs.Events.{begins};
 ghost use Rattle.events.specs.Questions.{readable};
 ghost use Rattle.log.specs.Rows.{logged};
 ghost use Rattle.log.specs.Starts.{startOf};
 ghost use Rattle.rules.specs.Walks.{Pointable, pointRule};
-ghost use Rattle.rules.specs.Judge.{Given};
-ghost use Rattle.straighten.specs.Tables.{breaksBy, gapBy, Moved};
-use links::tables::tables_of;
+ghost use Rattle.straighten.specs.Tables.{breaksBy, gapBy};
 use log::rows::Row;
 use log::rows::event_at;
 use opacity::verdict::Rule;
 use rules::places::Writer;
-use rules::places::places_of;
-use rules::places::writers_of;
 use rules::points::holds_at;
 use rules::points::place_at;
 
@@ -44,7 +39,7 @@ fn breaks(
 }
 
 // The events whose points break D or E.
-fn moves_of(
+pub fn moves_of(
     starts: &[u32; 32],
     log: &[Row],
     link: &[u16; 2048],
@@ -81,7 +76,7 @@ fn gap_at(log: &[Row], place: &[u16; 64], moves: &[bool; 2048], gaps: &[u16; 204
 }
 
 // Moves the points of the events that the table says.
-fn move_points(log: &[Row], place: &[u16; 64], moves: &[bool; 2048], gaps: &mut [u16; 2048])
+pub fn move_points(log: &[Row], place: &[u16; 64], moves: &[bool; 2048], gaps: &mut [u16; 2048])
     requires { ⌜ readable (logged (now log)) ≡ true ⌝ }
     requires { ⌜ length (now gaps) ≡ 2048 ⌝ }
     ensures { λ _. ⌜ Front 0 (gapBy (logged (now (log .entry))) (now (place .entry)) (now (moves .entry)) (now (gaps .entry)))
@@ -93,31 +88,4 @@ fn move_points(log: &[Row], place: &[u16; 64], moves: &[bool; 2048], gaps: &mut 
         gaps[i] = gap_at(log, place, moves, gaps, i);
         i += 1;
     }
-}
-
-// Moves the points of a readable marking that break D or E to their readers' places, and notes which
-// they are.
-pub fn straight_of(
-    starts: &[u32; 32],
-    log: &[Row],
-    begun: usize,
-    link: &[u16; 2048],
-    order: &[u16; 64],
-    outcomes: &[u8; 64],
-    gaps: &mut [u16; 2048],
-    moves: &mut [bool; 2048],
-)
-    requires { ⌜ Given (logged (now log)) (now link) (now order) (now outcomes) (now gaps) ⌝ }
-    requires { ⌜ begun ≡ begins (logged (now log)) ⌝ }
-    requires { ⌜ (length (now gaps) ≡ 2048) × (length (now moves) ≡ 2048) ⌝ }
-    ensures { λ _. ⌜ Moved (startOf (now (starts .entry))) (logged (now (log .entry))) (now (order .entry)) (now (outcomes .entry))
-        (now (gaps .entry)) (now (gaps .exit)) (now (moves .exit)) ⌝ }
-{
-    let place = places_of(order, begun);
-    let tables = tables_of(log);
-    let written = tables.written;
-    let registers = tables.registers;
-    let writers = writers_of(order, outcomes, &written, &registers, begun);
-    moves_of(starts, log, link, &writers, &place, gaps, moves);
-    move_points(log, &place, moves, gaps);
 }

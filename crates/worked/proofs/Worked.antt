@@ -17,7 +17,7 @@ use Rattle.opacity.specs.Scan.{cause, scan}
 use Rattle.opacity.specs.Store.{put}
 use Rattle.opacity.specs.Serial.{does, eventsOf, run, readsRight, after, runsRight}
 use Rattle.opacity.specs.Counts.{counts}
-use Rattle.counts.specs.Tally.{standing, tally}
+use Rattle.counts.specs.Tally.{ofStatus, tally}
 use Rattle.marking_reader.specs.File.{nextEvent, everyPlaced, hasPoint, everyPointed, headQuestions, recordQuestions, endQuestions, bodyStep, endStep, stepAt, walk as walkMarking, opening, fileRead}
 use Rattle.marking.specs.Answer.{verdictAnswer, said as checkSaid}
 use Rattle.straighten.specs.Straight.{staysPut, straightPoint, straightened, movedEvents}
@@ -34,7 +34,7 @@ unfolding
     fits lowestPlace continued lowestOf
     flat markingBytes gapOf placeOf marked others between noWriterBetween valueAtGap lastEvent beginOf ruleHolds broke
     tries verdict cause scan put does eventsOf run readsRight after runsRight counts
-    standing tally
+    ofStatus tally
     nextEvent everyPlaced hasPoint everyPointed headQuestions recordQuestions endQuestions bodyStep endStep stepAt
     walkMarking opening fileRead verdictAnswer checkSaid
     staysPut straightPoint straightened movedEvents

@@ -1,4 +1,4 @@
--- `settle` meets its contract: by the verdict.
+-- `write_moved` meets its contract: by the verdict.
 -- Assumes nothing.
 use mathlib.Core.Path.{sym, ap, _∙_}
 use denote.Ref.{now}

@@ -13,10 +13,10 @@ use Rattle.counts.proofs.tally.tally_of.Statement.{statement}
 use Rattle.counts.proofs.tally.tally_of.Tie as tie
 
 abbrev Inv-loop : tie.InvT-loop
-Inv-loop log standing begun many₀ t₀ many t = Counted (logged log) many t
+Inv-loop log ranks begun many₀ t₀ many t = Counted (logged log) many t
 
 abbrev μ-loop : tie.MeasureT-loop
-μ-loop log standing begun many₀ t₀ many t = begun - t
+μ-loop log ranks begun many₀ t₀ many t = begun - t
 
 -- the history, a transaction that a turn takes, and how it stands
 abbrev entered : tie.At-loop Inv-loop μ-loop → tie.Start Inv-loop μ-loop

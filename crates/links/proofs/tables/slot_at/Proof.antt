@@ -23,7 +23,7 @@ returns-5 : tie.Need-returns-5
 returns-5 c = c .first-one2 .ensures ∙ rw (c .before .is-end .ensures, c .before .before .enum-told5 .given .1)
 
 returns-6 : tie.Need-returns-6
-returns-6 c = c .most .ensures ∙ rw (c .before .standing-of .ensures, c .before .before .enum-told6 .given .1)
+returns-6 c = c .most .ensures ∙ rw (c .before .rank-of .ensures, c .before .before .enum-told6 .given .1)
 
 pub slot-at-spec : {M : Type 1} → statement M
 slot-at-spec =

@@ -10,7 +10,7 @@ use Rattle.marking_reader.specs.State.{readAs}
 use Rattle.marking_reader.proofs.SoundLaws.{arrays-fresh}
 use Rattle.marking.specs.declared.check.Ruling.{Ruling}
 use Rattle.marking.specs.Answer.{ruling}
-use Rattle.marking.proofs.CheckLaws.{given}
+use Rattle.marking.proofs.CheckLaws.{judgeable}
 use Rattle.marking.proofs.check.check_log.Statement.{statement}
 use Rattle.marking.proofs.check.check_log.Tie as tie
 
@@ -60,7 +60,7 @@ judge-requires c κs =
     let l = linked c in
     let m = read l .before .before in
     let w = before-reading m in
-    (w .own-writes .ensures, given (entered w .pre) (l .links .ensures) (m .read-marking .ensures .1 (read l .enum-told .given .1)))
+    (w .own-writes .ensures, judgeable (entered w .pre) (l .links .ensures) (m .read-marking .ensures .1 (read l .enum-told .given .1)))
 
 returns-2 : tie.Need-returns-2
 returns-2 c =

@@ -13,7 +13,7 @@ use Rattle.events.proofs.QuestionLaws.{numbered-some}
 use Rattle.events.proofs.ReadableLaws.{readable-most}
 use Rattle.log.specs.Rows.{logged}
 use Rattle.opacity.proofs.Bounds.{at-most-64}
-use Rattle.marking_reader.specs.declared.step.Step.{Step}
+use Rattle.marking_reader.specs.declared.step.MarkingStep.{MarkingStep}
 use Rattle.marking_reader.specs.File.{known, Asked, stepAt, opening}
 use Rattle.marking_reader.specs.State.{pointBy, askedBy, soFar, Sound}
 use Rattle.marking_reader.proofs.StepLaws.{opening-none}
@@ -48,14 +48,14 @@ file l = start l .args .file .now
 abbrev asks : Turn → ℕ → Asked
 asks l b = askedBy (history l) b (l .loop .used) (l .loop .filled) (l .loop .next)
 
-abbrev answer : Turn → ℕ → Step
+abbrev answer : Turn → ℕ → MarkingStep
 answer l b = stepAt (asks l b) (every (pointBy (history l) (l .loop .gaps)) (length (history l))) (file l) (l .loop .at)
 
 -- where a record has been asked: the turn, and its answer
 abbrev turn : tie.After-step-at Inv-loop μ-loop → Turn
 turn c = c .before .before .before
 
-answered : (c : tie.After-step-at Inv-loop μ-loop) (x : Step) → c .step-at .result ≡ x → answer (turn c) (begins (history (turn c))) ≡ x
+answered : (c : tie.After-step-at Inv-loop μ-loop) (x : MarkingStep) → c .step-at .result ≡ x → answer (turn c) (begins (history (turn c))) ≡ x
 answered c x e = ap (answer (turn c)) (sym (start (turn c) .pre .0 .count)) ∙ (sym (c .step-at .ensures) ∙ e)
 
 -- where it gave a place, and where it gave a point

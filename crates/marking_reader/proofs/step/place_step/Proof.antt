@@ -7,7 +7,7 @@ use mathlib.Core.Option.{Option}
 use borrow.Author.Tests.{eq-eqb, ne-eqb}
 use lib.ListN.{getD}
 use Rattle.events.specs.Questions.{refusal}
-use Rattle.marking_reader.specs.declared.step.Step.the-variants.{Placed, Refused}
+use Rattle.marking_reader.specs.declared.step.MarkingStep.the-variants.{Placed, Refused}
 use Rattle.marking_reader.specs.State.{placeQuestions, placeStep}
 use Rattle.marking_reader.proofs.StepLaws.{unless-none, unless-some, place-none}
 use borrow.Author.Needs.{needs}

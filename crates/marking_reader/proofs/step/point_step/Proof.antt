@@ -8,7 +8,7 @@ use lib.Dec.{eqb}
 use Rattle.events.specs.Questions.{refusal}
 use Rattle.log.specs.Rows.{logged}
 use Rattle.opacity.specs.Transactions.{isStoreRead}
-use Rattle.marking_reader.specs.declared.step.Step.the-variants.{Pointed, Refused}
+use Rattle.marking_reader.specs.declared.step.MarkingStep.the-variants.{Pointed, Refused}
 use Rattle.marking_reader.specs.State.{pointQuestions, pointStep}
 use Rattle.marking_reader.proofs.StepLaws.{unless-none, unless-some, point-none}
 use borrow.Author.Needs.{needs}

@@ -14,14 +14,14 @@ use Rattle.marking_reader.proofs.step.step_at.Tie as tie
 abbrev start : tie.After-record-at → tie.Start
 start c = c .before .before
 
-abbrev standing : tie.After-record-at → Found
-standing c = recordAt (start c .args .file .now) (start c .args .progress .at)
+abbrev there : tie.After-record-at → Found
+there c = recordAt (start c .args .file .now) (start c .args .progress .at)
 
 -- where a whole record stands
 abbrev found : tie.After-known-told → tie.After-found
 found c = c .before
 
-whole : (c : tie.After-known-told) → standing (found c .before .before) ≡ Whole (found c .found .given .0 .0)
+whole : (c : tie.After-known-told) → there (found c .before .before) ≡ Whole (found c .found .given .0 .0)
 whole c = sym (found c .before .before .record-at .ensures) ∙ found c .found .given .1
 
 record-step-requires : tie.Need-record-step-requires

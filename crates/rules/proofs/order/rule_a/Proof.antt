@@ -11,14 +11,14 @@ use Rattle.rules.proofs.order.rule_a.Statement.{statement}
 use Rattle.rules.proofs.order.rule_a.Tie as tie
 
 abbrev Inv-loop : tie.InvT-loop
-Inv-loop standing place outcomes begun t₀ t = Passing (outcomeBy standing place outcomes) begun t
+Inv-loop ranks place outcomes begun t₀ t = Passing (outcomeBy ranks place outcomes) begun t
 
 abbrev μ-loop : tie.MeasureT-loop
-μ-loop standing place outcomes begun t₀ t = begun - t
+μ-loop ranks place outcomes begun t₀ t = begun - t
 
 -- the test, by what the function is given
 abbrev holds : tie.Start Inv-loop μ-loop → ℕ → Bool
-holds s = outcomeBy (s .args .standing .now) (s .args .place .now) (s .args .outcomes .now)
+holds s = outcomeBy (s .args .ranks .now) (s .args .place .now) (s .args .outcomes .now)
 
 loop-holds : tie.Need-loop-holds Inv-loop μ-loop
 loop-holds c = passing-first (holds c) (c .args .begun)
