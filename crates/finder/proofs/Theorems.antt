@@ -31,7 +31,7 @@ use Rattle.log.specs.Calls.{askedOf, thenChecked}
 use Rattle.log.proofs.CallLaws.{asked-yes, asked-no, then-then}
 use Rattle.finder.specs.declared.Finding.{Finding}
 use Rattle.finder.specs.Answer.{Given, gives, said, Passed, decided, prefixRefusal, callRefusal, findRefusal, lowestMarking, foundAnswer, firstEditionRefusal, firstEditionAnswer}
-use Rattle.finder.specs.Words.{Passes, Found, Written}
+use Rattle.finder.specs.Words.{Passes, LowestSize, Written}
 use Rattle.finder.proofs.AnswerLaws.{said-marking, said-none, said-refused, passes, decided-refused, decided-marking, decided-none}
 use Rattle.finder.proofs.AnswerLaws.{marking-e, none-e, refused-e, passed, marking-some, some-marking, none-marking, marking-none}
 
@@ -134,7 +134,7 @@ module _ (edition : ℕ) (starts : List ℕ) (c : Columns) (count prefix : ℕ) 
   -- What the finder says, for every call: the length of the marking of the lowest justification exactly where no question says no and there
   -- is one,
   pub found-said : (n : ℕ) → (said (foundAnswer edition starts c count prefix output .result) ≡ done (n ∷ []))
-      ↔ (Passed edition starts c count prefix (length output) × Found starts c count prefix n)
+      ↔ (Passed edition starts c count prefix (length output) × LowestSize starts c count prefix n)
   unfolding said
   found-said n = (
     λ x.
