@@ -47,7 +47,8 @@ pub fn write_order(log: &[Row], order: u64, begun: usize, output: &mut [u8]) -> 
     requires { ⌜ begun ≡ begins (logged (now log)) ⌝ }
     requires { ⌜ length (foundBytes (logged (now log)) (codesOf begun order)) ≤ length (now output) ⌝ }
     ensures { λ r. ⌜ r ≡ length (foundBytes (logged (now (log .entry))) (codesOf begun order)) ⌝ }
-    ensures { λ _. ⌜ now (output .exit) ≡ over (foundBytes (logged (now (log .entry))) (codesOf begun order)) (now (output .entry)) ⌝ }
+    ensures { λ _. ⌜ now (output .exit)
+        ≡ over (foundBytes (logged (now (log .entry))) (codesOf begun order)) (now (output .entry)) ⌝ }
 {
     let codes = codes_of(order, begun);
     if log.len() <= 64 {

@@ -166,7 +166,8 @@ pub fn put_gaps(log: &[Row], place: &[u16; 64], last: &mut [u16], gaps: &mut [u1
     requires { ⌜ readable (logged (now log)) ≡ true ⌝ }
     requires { ⌜ Blank (begins (logged (now log))) (now last) ⌝ }
     requires { ⌜ length (now log) ≤ length (now gaps) ⌝ }
-    ensures { λ _. ⌜ Front 0 (placedAt (logged (now (log .entry))) (now (place .entry))) (length (now (log .entry))) (now (gaps .exit)) ⌝ }
+    ensures { λ _. ⌜ Front 0 (placedAt (logged (now (log .entry))) (now (place .entry))) (length (now (log .entry)))
+        (now (gaps .exit)) ⌝ }
 {
     let mut i: usize = 0;
     while i < log.len() {
