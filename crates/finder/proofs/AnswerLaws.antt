@@ -23,10 +23,12 @@ use Rattle.log.proofs.AnswerLaws.{answer-readable, readable-columns}
 use Rattle.opacity.specs.Justification.{Place}
 use Rattle.opacity.specs.Lowest.{lowestOf}
 use Rattle.opacity.specs.Marking.{marked, markingBytes}
+use Rattle.log.specs.Rows.{logged}
+use Rattle.log.proofs.DoorLaws.{prefix-logged}
 use Rattle.log.specs.Calls.{thenChecked}
 use Rattle.log.proofs.CallLaws.{asked-none, asked-yes, asked-no, asked-e, then-readable, then-refused, then-e}
 use Rattle.finder.specs.declared.Finding.{Finding}
-use Rattle.finder.specs.Answer.{markingSize, Passed, said, gives, decided, prefixRefusal, callRefusal, findRefusal, markingOf, lowestMarking, foundAnswer}
+use Rattle.finder.specs.Answer.{Given, markingSize, Passed, said, gives, decided, prefixRefusal, callRefusal, findRefusal, markingOf, lowestMarking, foundAnswer}
 use Rattle.finder.specs.Logs.{findOf, findAfter}
 
 -- ---- what is decided
@@ -176,7 +178,7 @@ module _ (edition : ℕ) (starts : List ℕ) (c : Columns) (count prefix : ℕ) 
       go true e true a = sym (events-asked e a l) ∙ held-events e
 
   -- and else it is 17, 3 or 18
-  pub call-refuses : count < prefix → callRefusal edition starts c count prefix ≡ Checked.Refused (refuse (cond (hold c count) (cond (admits edition starts) 18 3) 17) count)
+  call-refuses : count < prefix → callRefusal edition starts c count prefix ≡ Checked.Refused (refuse (cond (hold c count) (cond (admits edition starts) 18 3) 17) count)
   call-refuses l = go (hold c count) refl (admits edition starts) refl
     where
       go : (x : Bool) → hold c count ≡ x → (y : Bool) → admits edition starts ≡ y
@@ -213,12 +215,19 @@ module _ (edition : ℕ) (starts : List ℕ) (c : Columns) (count prefix room : 
 -- ---- what is decided of a call
 
 module _ (edition : ℕ) (starts : List ℕ) (c : Columns) (count prefix : ℕ) (o : List ℕ) where
-  pub call-refused : {r : Refusal} → callRefusal edition starts c count prefix ≡ Checked.Refused r → gives (Finding.Refused r) o ≡ foundAnswer edition starts c count prefix o
+  call-refused : {r : Refusal} → callRefusal edition starts c count prefix ≡ Checked.Refused r → gives (Finding.Refused r) o ≡ foundAnswer edition starts c count prefix o
   unfolding foundAnswer findRefusal
   call-refused x = decided-refused _ o (then-refused _ x)
 
+  -- where the prefix is longer than the history, it is the first of 17, 3 and 18 that says no
+  pub longer-refused : (r : Refusal) (held admitted : Bool) → r ≡ refuse (cond held (cond admitted 18 3) 17) count → held ≡ hold c count → admitted ≡ admits edition starts
+      → count < prefix → gives (Finding.Refused r) o ≡ foundAnswer edition starts c count prefix o
+  longer-refused r held admitted e h a l =
+      ap (λ (x : Refusal). gives (Finding.Refused x) o) (e ∙ λ i. refuse (cond (h i) (cond (a i) 18 3) 17) count)
+      ∙ call-refused (call-refuses edition starts c count prefix l)
+
   -- after the questions of the columns, what is left is asked and decided of the prefix alone
-  pub find-after : (x : Checked) (h : List Event) → prefix ≤ count → x ≡ historyAnswer edition starts c count
+  find-after : (x : Checked) (h : List Event) → prefix ≤ count → x ≡ historyAnswer edition starts c count
       → (x ≡ Checked.Readable → h ≡ take prefix (history c count)) → findAfter x starts h count o ≡ foundAnswer edition starts c count prefix o
   unfolding findAfter foundAnswer findRefusal
   find-after x h l e f = rw (call-answers edition starts c count prefix l, ← e) (go x f)
@@ -230,6 +239,13 @@ module _ (edition : ℕ) (starts : List ℕ) (c : Columns) (count prefix : ℕ) 
       go (Checked.Refused r) g =
           sym (decided-refused {r = r} _ o (then-refused {a = Checked.Refused r} _ refl))
           ∙ decided-refused {r = r} _ o (then-refused {a = Checked.Refused r} _ refl)
+
+  -- and so it is of the rows, which hold the history where no question says no
+  pub find-rows : (g : Given) (x : Checked) (rows : List (List ℕ)) → g ≡ findAfter x starts (logged (take prefix rows)) count o
+      → prefix ≤ count → x ≡ historyAnswer edition starts c count → (x ≡ Checked.Readable → logged (take count rows) ≡ history c count)
+      → g ≡ foundAnswer edition starts c count prefix o
+  find-rows g x rows a l e f =
+      a ∙ find-after x (logged (take prefix rows)) l e λ r. prefix-logged count prefix rows l ∙ ap (take prefix) (f r)
 
 -- a refusal is the answer, whatever would be found
 pub after-refused : {x : Checked} {r : Refusal} (starts : List ℕ) (h : List Event) (count : ℕ) (o : List ℕ) → x ≡ Checked.Refused r

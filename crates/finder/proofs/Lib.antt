@@ -1,6 +1,4 @@
 -- What the proofs of several functions use, here and in the crates above.
-pub mod MarkLaws
-pub mod PointLaws
 pub mod OrderLaws
 pub mod AnswerLaws
 pub mod Theorems

@@ -8,7 +8,7 @@ use lib.Dec.{eqb}
 use borrow.Author.Tests.{ne-eqb}
 use mathlib.Core.List.{List}
 use mathlib.Core.Option.{none, some}
-use lib.ListN.{length, take, length-map}
+use lib.ListN.{length, length-map}
 use Rattle.events.specs.declared.event.Event.{Event}
 use Rattle.events.specs.Events.{eventAt, begins}
 use Rattle.opacity.specs.Transactions.{storeReads}
@@ -33,12 +33,11 @@ module _ (start : ℕ → ℕ) (h : List Event) (j : Judged h) where
   pub order-size : {J : List Place} → lowestOf start h ≡ some J → length J ≡ begins h
   order-size {J} e = filled (begins h) J (lowest-justifies start h (transaction-known h (j .readable)) e .order)
 
-  -- the codes of an answer, as an order of places
-  pub places-found : (places : List ℕ) (a count : ℕ) → (a ≡ 0 → ⊥) → orderOf h a ≡ lowestOf start h → count ≡ begins h
-      → take count places ≡ codesOf count a → some (decode (take count places)) ≡ lowestOf start h
-  places-found places a count f e k q =
+  -- the places of an answer, as an order
+  pub places-found : (a count : ℕ) → (a ≡ 0 → ⊥) → orderOf h a ≡ lowestOf start h → count ≡ begins h → some (decode (codesOf count a)) ≡ lowestOf start h
+  places-found a count f e k =
       let g : eqb a 0 ≡ false = ne-eqb a 0 f in
-      ap (λ (p : List ℕ). some (decode p)) (q ∙ ap (λ (m : ℕ). codesOf m a) k) ∙ (rw g at e)
+      ap (λ (m : ℕ). some (decode (codesOf m a))) k ∙ (rw g at e)
 
   pub marking-found : {J : List Place} → some J ≡ lowestOf start h → lowestMarking start h ≡ some (markingBytes (marked h J))
   unfolding lowestMarking

@@ -31,7 +31,7 @@ use Rattle.log.specs.Calls.{askedOf, thenChecked}
 use Rattle.log.proofs.CallLaws.{asked-yes, asked-no, then-then}
 use Rattle.finder.specs.declared.Finding.{Finding}
 use Rattle.finder.specs.Answer.{Given, gives, said, Passed, decided, prefixRefusal, callRefusal, findRefusal, lowestMarking, foundAnswer, firstEditionRefusal, firstEditionAnswer}
-use Rattle.finder.specs.Words.{Passes, Found, Written}
+use Rattle.finder.specs.Words.{Passes, LowestSize, Written}
 use Rattle.finder.proofs.AnswerLaws.{said-marking, said-none, said-refused, passes, decided-refused, decided-marking, decided-none}
 use Rattle.finder.proofs.AnswerLaws.{marking-e, none-e, refused-e, passed, marking-some, some-marking, none-marking, marking-none}
 
@@ -123,7 +123,8 @@ module _ (edition : ℕ) (starts : List ℕ) (c : Columns) (count prefix : ℕ) 
       let e = prefix-lowest-serial (startOf starts) (history c count) (passed edition starts c count prefix (length output) x .readable) prefix (inside x) J .1 s in
       sym (decided-marking _ output _ x (some-marking (startOf starts) judged e) refl refl)
 
-  pub none-serial : Passes edition starts c count prefix output → (foundAnswer edition starts c count prefix output .result ≡ Finding.None) ↔ ((K : List Place) → Serial (startOf starts) judged K → ⊥)
+  pub none-serial : Passes edition starts c count prefix output
+      → (foundAnswer edition starts c count prefix output .result ≡ Finding.None) ↔ ((K : List Place) → Serial (startOf starts) judged K → ⊥)
   unfolding foundAnswer
   none-serial x =
       let e = prefix-none-serial (startOf starts) (history c count) (passed edition starts c count prefix (length output) x .readable) prefix (inside x) in (
@@ -134,7 +135,7 @@ module _ (edition : ℕ) (starts : List ℕ) (c : Columns) (count prefix : ℕ) 
   -- What the finder says, for every call: the length of the marking of the lowest justification exactly where no question says no and there
   -- is one,
   pub found-said : (n : ℕ) → (said (foundAnswer edition starts c count prefix output .result) ≡ done (n ∷ []))
-      ↔ (Passed edition starts c count prefix (length output) × Found starts c count prefix n)
+      ↔ (Passed edition starts c count prefix (length output) × LowestSize starts c count prefix n)
   unfolding said
   found-said n = (
     λ x.
@@ -142,7 +143,9 @@ module _ (edition : ℕ) (starts : List ℕ) (c : Columns) (count prefix : ℕ) 
         let e = lowest-written (w .passes) (w .order) (w .lowest) in
         let k : Finding.Marking (length (markingBytes (marked judged (w .order)))) ≡ Finding.Marking n = ap (λ (g : Given). g .result) (sym e) ∙ said-marking _ n x in
         (passed edition starts c count prefix (length output) (w .passes), record { order = w .order; lowest = w .lowest; size = cc }),
-    λ w. ap (λ (g : Given). said (g .result)) (lowest-written (passes edition starts c count prefix (length output) (w .0)) (w .1 .order) (w .1 .lowest)) ∙ ap (λ (i : ℕ). done (i ∷ [])) (w .1 .size),
+    λ w.
+        ap (λ (g : Given). said (g .result)) (lowest-written (passes edition starts c count prefix (length output) (w .0)) (w .1 .order) (w .1 .lowest))
+        ∙ ap (λ (i : ℕ). done (i ∷ [])) (w .1 .size),
   )
 
   -- none exactly where no question says no and there is none,
@@ -216,5 +219,6 @@ first-edition c count prefix output =
   where
     asked : findRefusal 1 noStarts c count prefix (length output) ≡ firstEditionRefusal c count prefix (length output)
     asked =
-        ap (λ (x : Checked). thenChecked (thenChecked x (eventsAnswer (history c count))) (prefixRefusal (take prefix (history c count)) count (length output))) (left-out count 3 _ _ _ first-admitted)
+        ap (λ (x : Checked). thenChecked (thenChecked x (eventsAnswer (history c count))) (prefixRefusal (take prefix (history c count)) count (length output)))
+        (left-out count 3 _ _ _ first-admitted)
         ∙ then-then _ _ _

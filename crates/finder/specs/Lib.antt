@@ -1,4 +1,3 @@
-pub mod Arrays
 pub mod Answer
 pub mod Words
 pub mod Logs

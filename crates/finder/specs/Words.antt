@@ -18,7 +18,7 @@ abbrev pub Passes : ℕ → List ℕ → Columns → ℕ → ℕ → List ℕ �
 Passes edition starts c count prefix output = findRefusal edition starts c count prefix (length output) ≡ Checked.Readable
 
 -- n is the length of the marking of the lowest justification
-pub record Found (starts : List ℕ) (c : Columns) (count prefix n : ℕ) : Type 0 where
+pub record LowestSize (starts : List ℕ) (c : Columns) (count prefix n : ℕ) : Type 0 where
   pub order : List Place
   pub lowest : LowestJustified (startOf starts) (take prefix (history c count)) order
   pub size : length (markingBytes (marked (take prefix (history c count)) order)) ≡ n

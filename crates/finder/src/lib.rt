@@ -3,7 +3,6 @@ ghost use mathlib.Core.Path.{_≡_};
 ghost use mathlib.Core.Bool.{true, cond};
 ghost use Prim.Native.Nat.{_≤_};
 ghost use lib.ListN.{length, take};
-ghost use Rattle.records.specs.Bytes.{over};
 ghost use Rattle.events.specs.Events.{begins};
 ghost use Rattle.events.specs.Questions.{readable};
 ghost use Rattle.events.specs.Said.{refuse};
@@ -13,59 +12,28 @@ ghost use Rattle.log.specs.Starts.{startOf};
 ghost use Rattle.log.specs.declared.admit.Checked.the-variants.{Readable};
 ghost use Rattle.lowest.specs.Order.{Judged};
 ghost use Rattle.finder.specs.Answer.{markingSize, lowestMarking, gives, decided, foundAnswer};
-ghost use Rattle.finder.specs.Arrays.{foundBytes};
 ghost use Rattle.finder.specs.Logs.{findOf, findAfter};
-
-mod arrays;
-
 use events::refusal::Refusal;
+use found::write_order;
 use log::admit::Checked;
 use log::admit::admit;
 use log::columns::columns_hold;
 use log::rows::Row;
 use log::rows::transactions_begun;
 use log::starts::is_admitted;
-use marking_writer::write_marking;
+use lowest::find_order;
+use reads::FEW_SLOTS;
 use reads::count_by;
-use reads::put_gaps;
 use records::record::Record;
 
 // Question 31: at most this many transactions are searched.
 const SEARCHED: usize = 10;
-
-// The slots of the last writes of so many transactions, one a register.
-const LAST_WRITES: usize = 320;
 
 // The finder's answer: the length of the marking written, none, or the question that says no with its event.
 pub enum Finding {
     Marking(usize),
     None,
     Refused(Refusal),
-}
-
-// The marking of an order found, put into an output that has room for it, by way of a lent table of gaps: each store read has its
-// point at its reader's place.
-fn write_found(
-    log: &[Row],
-    codes: [u8; 10],
-    begun: usize,
-    gaps: &mut [u16],
-    output: &mut [u8],
-) -> usize
-    requires { ⌜ Judged (logged (now log)) ⌝ }
-    requires { ⌜ (begun ≡ begins (logged (now log))) × (length (now log) ≤ length (now gaps)) ⌝ }
-    requires { ⌜ length (foundBytes (logged (now log)) (take begun codes)) ≤ length (now output) ⌝ }
-    ensures { λ r. ⌜ r ≡ length (foundBytes (logged (now (log .entry))) (take begun codes)) ⌝ }
-    ensures { λ _. ⌜ now (output .exit) ≡ over (foundBytes (logged (now (log .entry))) (take begun codes)) (now (output .entry)) ⌝ }
-{
-    let placed = arrays::placed_by(codes, begun);
-    let order = placed.order;
-    let outcomes = placed.outcomes;
-    let place = arrays::readers_by(codes, begun);
-    let mut last = [0u16; LAST_WRITES];
-    put_gaps(log, &place, &mut last, gaps);
-    let count = log.len();
-    write_marking(&order, &outcomes, begun, &gaps[..count], output)
 }
 
 // The lowest marking of a log, if it has one, put into an output that has room for any.
@@ -77,17 +45,11 @@ fn find_lowest(starts: &[u32; 32], log: &[Row], begun: usize, output: &mut [u8])
         gives r (now (output .exit))
         ≡ decided Readable (lowestMarking (startOf (now (starts .entry))) (logged (now (log .entry)))) (now (output .entry)) ⌝ }
 {
-    let found = lowest::find_order(starts, log, begun);
-    if found == 0 {
+    let order = find_order(starts, log, begun);
+    if order == 0 {
         return Finding::None;
     }
-    let codes = places::state::codes_of(found, begun);
-    if log.len() <= 64 {
-        let mut few = [0u16; 64];
-        return Finding::Marking(write_found(log, codes, begun, &mut few, output));
-    }
-    let mut gaps = [0u16; 2048];
-    Finding::Marking(write_found(log, codes, begun, &mut gaps, output))
+    Finding::Marking(write_order(log, order, begun, output))
 }
 
 // Questions 31 and 32, with the count as their event, and then the lowest marking, of a log.
@@ -104,7 +66,7 @@ pub fn find_log(starts: &[u32; 32], log: &[Row], count: usize, output: &mut [u8]
             at: count,
         });
     }
-    let mut last = [0u16; LAST_WRITES];
+    let mut last = [0u16; FEW_SLOTS];
     let reads = count_by(log, &mut last);
     if output.len()
         < Record::WHOLE_HEAD + Record::WHOLE_PLACE * begun + Record::WHOLE_POINT * reads

@@ -2,7 +2,6 @@
 // without going through the events of others.
 ghost use mathlib.Core.Path.{_≡_};
 ghost use mathlib.Core.Bool.{true};
-ghost use Prim.Native.Nat.{_+_};
 ghost use lib.ListN.{length};
 ghost use Rattle.events.specs.Questions.{readable};
 ghost use Rattle.log.specs.Rows.{logged};
@@ -29,11 +28,4 @@ pub fn links(log: &[Row], link: &mut [u16; 2048])
         note(&mut last, Fact::LastWrite, e, i);
         i += 1;
     }
-}
-
-// A value as an answer that may be none.
-pub fn stored(x: u32) -> u64
-    ensures { λ r. ⌜ r ≡ x + 1 ⌝ }
-{
-    x as u64 + 1
 }

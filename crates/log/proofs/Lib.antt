@@ -6,5 +6,4 @@ pub mod SaidLaws
 pub mod RowLaws
 pub mod AdmitLaws
 pub mod DoorLaws
-pub mod SpillLaws
 pub mod CallLaws

@@ -3,5 +3,4 @@
 pub mod admit;
 pub mod columns;
 pub mod rows;
-pub mod spill;
 pub mod starts;

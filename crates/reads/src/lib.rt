@@ -24,6 +24,9 @@ pub const NO_POINT: u16 = 65535;
 // So many transactions are few: their last writes have a table that is soon cleared.
 const FEW: usize = 10;
 
+// The slots of that table, one a register.
+pub const FEW_SLOTS: usize = 320;
+
 // Where the table of last writes has the register of the event's transaction.
 fn slot_of(e: Event) -> usize
     requires { ⌜ Low 64 e ⌝ }
@@ -139,7 +142,7 @@ pub fn count_store_reads(log: &[Row]) -> usize
     ensures { λ r. ⌜ r ≡ length (storeReads (logged (now (log .entry)))) ⌝ }
 {
     if transactions_begun(log) <= FEW {
-        let mut few = [0u16; 320];
+        let mut few = [0u16; FEW_SLOTS];
         return count_by(log, &mut few);
     }
     let mut last = [0u16; 2048];
@@ -163,7 +166,8 @@ pub fn put_gaps(log: &[Row], place: &[u16; 64], last: &mut [u16], gaps: &mut [u1
     requires { ⌜ readable (logged (now log)) ≡ true ⌝ }
     requires { ⌜ Blank (begins (logged (now log))) (now last) ⌝ }
     requires { ⌜ length (now log) ≤ length (now gaps) ⌝ }
-    ensures { λ _. ⌜ Front 0 (placedAt (logged (now (log .entry))) (now (place .entry))) (length (now (log .entry))) (now (gaps .exit)) ⌝ }
+    ensures { λ _. ⌜ Front 0 (placedAt (logged (now (log .entry))) (now (place .entry))) (length (now (log .entry)))
+        (now (gaps .exit)) ⌝ }
 {
     let mut i: usize = 0;
     while i < log.len() {

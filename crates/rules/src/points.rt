@@ -11,7 +11,7 @@ use crate::places::Writer;
 use crate::walk::last_writer;
 use events::event::Event;
 use links::tables::wide;
-use links::writes::stored;
+use lists::numbers::stored;
 use log::rows::Row;
 use log::rows::event_at;
 use opacity::verdict::Rule;

@@ -9,7 +9,7 @@ use crate::places::REGISTERS;
 use crate::places::Writer;
 use crate::places::from_field;
 use links::tables::wide;
-use links::writes::stored;
+use lists::numbers::stored;
 use lists::sets::has_register;
 use log::rows::Row;
 use log::rows::event_at;

@@ -12,6 +12,7 @@ use events::event::is_commit;
 use events::event::is_end;
 use events::event::is_read;
 use events::event::is_write;
+use lists::numbers::stored;
 use places::facts::ABORTED;
 use places::facts::AFTER;
 use places::facts::ALLOWED;
@@ -30,13 +31,6 @@ use places::sets;
 pub struct Standing {
     pub ended: u64,
     pub contradictory: u64,
-}
-
-// A value as the table holds it.
-fn stored(x: u32) -> u64
-    ensures { λ r. ⌜ r ≡ x + 1 ⌝ }
-{
-    x as u64 + 1
 }
 
 // Is there an entry, and is it another than v?

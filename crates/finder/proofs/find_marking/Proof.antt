@@ -1,18 +1,8 @@
 -- `finder::find_marking` meets its contract: a longer prefix is refused; else the columns are taken in, and their rows answered. Assumes nothing.
-use Prim.Native.Nat.{ℕ, _≤_}
-use mathlib.Core.Path.{_≡_, sym, ap, ap₂, _∙_}
-use mathlib.Core.Bool.{Bool, cond}
-use mathlib.Core.List.{List}
 use native.Mathlib.Omega.{arith}
-use lib.ListN.{take}
-use Rattle.events.specs.declared.event.Event.{Event}
-use Rattle.events.specs.declared.refusal.Refusal.{Refusal}
-use Rattle.events.specs.Said.{refuse}
-use Rattle.log.specs.Columns.{Columns, columns, history}
-use Rattle.log.proofs.DoorLaws.{entered as let-in, in-rows, prefix-logged}
-use Rattle.finder.specs.declared.Finding.{Finding}
-use Rattle.finder.specs.Answer.{gives}
-use Rattle.finder.proofs.AnswerLaws.{call-refuses, call-refused, find-after}
+use Rattle.log.specs.Columns.{Columns, columns}
+use Rattle.log.proofs.DoorLaws.{entered as let-in, in-rows}
+use Rattle.finder.proofs.AnswerLaws.{longer-refused, find-rows}
 use borrow.Author.Needs.{needs}
 use Rattle.finder.proofs.find_marking.Statement.{statement}
 use Rattle.finder.proofs.find_marking.Tie as tie
@@ -41,11 +31,9 @@ returns : tie.Need-returns
 returns c =
     let tested = c .before .before in
     let s = entered (tested .before .before) in
-    let r : c .prefix-refused .result ≡ refuse _ (s .args .count) =
-    c .prefix-refused .ensures ∙ ap₂ (λ (x y : Bool). refuse (cond x (cond y 18 3) 17) (s .args .count)) (tested .columns-hold .ensures) (c .before .is-admitted .ensures) in
-    ap (λ (x : Refusal). gives (Finding.Refused x) (s .args .output .now)) r
-    ∙ call-refused (s .args .edition) (s .args .starts .now) (given s) (s .args .count) (s .args .prefix) (s .args .output .now)
-    (call-refuses (s .args .edition) (s .args .starts .now) (given s) (s .args .count) (s .args .prefix) (tested .before .if1 .taken))
+    longer-refused (s .args .edition) (s .args .starts .now) (given s) (s .args .count) (s .args .prefix) (s .args .output .now)
+    (c .prefix-refused .result) (tested .columns-hold .result) (c .before .is-admitted .result) (c .prefix-refused .ensures)
+    (tested .columns-hold .ensures) (c .before .is-admitted .ensures) (tested .before .if1 .taken)
 
 find-admitted-requires : tie.Need-find-admitted-requires
 find-admitted-requires c κs =
@@ -61,11 +49,11 @@ returns-2 c =
     let found = c .before .before in
     let a = found .before .before .before .before in
     let s = few a in
-    found .find-admitted .ensures
-    ∙ find-after (s .args .edition) (s .args .starts .now) (given s) (s .args .count) (s .args .prefix) (s .args .output .now) _ _ (inside a .if1 .left) (a .admit .ensures .0)
-    (λ e. prefix-logged (s .args .count) (s .args .prefix) _ (inside a .if1 .left) ∙ ap (take (s .args .prefix))
-    (in-rows (s .args .edition) (s .args .starts .now) (given s) (s .args .count) (a .admit .result) _ _ (a .admit .ensures .0) (a .admit .ensures .1)
-    (λ m. omega (arith, a .before .before .if2 .taken)) e .same))
+    find-rows (s .args .edition) (s .args .starts .now) (given s) (s .args .count) (s .args .prefix) (s .args .output .now) _ (a .admit .result) _ (found .find-admitted .ensures)
+    (inside a .if1 .left) (a .admit .ensures .0)
+    (λ e.
+    in-rows (s .args .edition) (s .args .starts .now) (given s) (s .args .count) (a .admit .result) _ _ (a .admit .ensures .0) (a .admit .ensures .1)
+    (λ m. omega (arith, a .before .before .if2 .taken)) e .same)
 
 find-admitted-requires-2 : tie.Need-find-admitted-requires-2
 find-admitted-requires-2 c κs =
@@ -81,11 +69,11 @@ returns-3 c =
     let found = c .before .before in
     let a = found .before .before .before .before in
     let s = many a in
-    found .find-admitted2 .ensures
-    ∙ find-after (s .args .edition) (s .args .starts .now) (given s) (s .args .count) (s .args .prefix) (s .args .output .now) _ _ (inside-many a .if1 .left) (a .admit2 .ensures .0)
-    (λ e. prefix-logged (s .args .count) (s .args .prefix) _ (inside-many a .if1 .left) ∙ ap (take (s .args .prefix))
-    (in-rows (s .args .edition) (s .args .starts .now) (given s) (s .args .count) (a .admit2 .result) _ _ (a .admit2 .ensures .0) (a .admit2 .ensures .1)
-    (λ m. m) e .same))
+    find-rows (s .args .edition) (s .args .starts .now) (given s) (s .args .count) (s .args .prefix) (s .args .output .now) _ (a .admit2 .result) _ (found .find-admitted2 .ensures)
+    (inside-many a .if1 .left) (a .admit2 .ensures .0)
+    (λ e.
+    in-rows (s .args .edition) (s .args .starts .now) (given s) (s .args .count) (a .admit2 .result) _ _ (a .admit2 .ensures .0) (a .admit2 .ensures .1)
+    (λ m. m) e .same)
 
 pub find-marking-spec : {M : Type 1} → statement M
 find-marking-spec =

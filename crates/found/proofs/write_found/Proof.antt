@@ -1,4 +1,4 @@
--- `finder::write_found` meets its contract: what is written of the arrays is the marking. Assumes nothing.
+-- `found::write_found` meets its contract: what is written of the arrays is the marking. Assumes nothing.
 use Prim.Native.Nat.{ℕ, _≤_}
 use mathlib.Core.Path.{_≡_, sym, ap, _∙_, subst}
 use mathlib.Core.List.{List}
@@ -14,11 +14,11 @@ use Rattle.log.proofs.RowLaws.{logged-length}
 use Rattle.reads.specs.Own.{placedAt}
 use Rattle.reads.proofs.OwnLaws.{blank-few}
 use Rattle.marking_writer.specs.Whole.{bytesIn}
-use Rattle.finder.specs.Arrays.{foundBytes}
-use Rattle.finder.proofs.PointLaws.{arrays-mark}
+use Rattle.found.specs.Arrays.{foundBytes}
+use Rattle.found.proofs.PointLaws.{arrays-mark}
 use borrow.Author.Needs.{needs}
-use Rattle.finder.proofs.write_found.Statement.{statement}
-use Rattle.finder.proofs.write_found.Tie as tie
+use Rattle.found.proofs.write_found.Statement.{statement}
+use Rattle.found.proofs.write_found.Tie as tie
 
 -- the function's entry, the history given, and the places in arrays
 abbrev entered : tie.After-placed-by → tie.Start

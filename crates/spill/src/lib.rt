@@ -1,11 +1,11 @@
 // A log put back into columns, for the doors that hand a history out.
 ghost use mathlib.Core.Path.{_≡_};
 ghost use lib.ListN.{length};
 ghost use Rattle.log.specs.Columns.{columns, hold, spilled};
 ghost use Rattle.log.specs.Rows.{logged};
-use crate::columns::columns_hold;
-use crate::rows::Row;
-use crate::rows::event_at;
+use log::columns::columns_hold;
+use log::rows::Row;
+use log::rows::event_at;
 
 // Copies the events of a log into the first entries of the columns, if each column has an entry for
 // each event, and says whether they have; the other entries stay as they were.

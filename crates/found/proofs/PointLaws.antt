@@ -27,8 +27,8 @@ use Rattle.marking_writer.specs.Points.{isGap, pointsTo}
 use Rattle.opacity.specs.Arrays.{placesOf}
 use Rattle.marking_writer.specs.Whole.{pointsIn, bytesIn}
 use Rattle.marking_writer.proofs.PointLaws.{points-are, points-same}
-use Rattle.finder.specs.Arrays.{Arrayed, gapAt, foundBytes}
-use Rattle.finder.proofs.MarkLaws.{place-low, decode-length}
+use Rattle.found.specs.Arrays.{Arrayed, gapAt, foundBytes}
+use Rattle.found.proofs.MarkLaws.{place-low, decode-length}
 
 -- the places in the arrays are those of the codes
 pub places-are : (codes order outcomes : List ℕ) (count : ℕ) → count ≤ length codes → Arrayed codes count order outcomes

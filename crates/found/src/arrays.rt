@@ -5,18 +5,12 @@ ghost use lib.ListN.{take};
 ghost use Rattle.lists.specs.Filled.{Filled};
 ghost use Rattle.opacity.specs.Marking.{placeOf};
 ghost use Rattle.places.specs.Places.{decode};
-ghost use Rattle.finder.specs.Arrays.{Arrayed};
+ghost use Rattle.found.specs.Arrays.{Arrayed};
 
 // The transaction at each place, and its outcome, 0 aborted or 1 committed.
 pub struct Placed {
     pub order: [u16; 64],
     pub outcomes: [u8; 64],
-}
-
-fn wide(x: u8) -> u16
-    ensures { λ r. ⌜ r ≡ x ⌝ }
-{
-    x as u16
 }
 
 // The first so many places, from their codes.
@@ -28,7 +22,7 @@ pub fn placed_by(codes: [u8; 10], count: usize) -> Placed
     let mut outcomes = [0u8; 64];
     let mut k: usize = 0;
     while k < count {
-        order[k] = wide(codes[k]) / 2;
+        order[k] = codes[k] as u16 / 2;
         outcomes[k] = codes[k] % 2;
         k += 1;
     }
@@ -42,8 +36,7 @@ fn place_of(codes: [u8; 10], count: usize, t: u16) -> usize
 {
     let mut i: usize = 0;
     while i < count {
-        let code = wide(codes[i]);
-        if code / 2 == t {
+        if codes[i] as u16 / 2 == t {
             return i;
         }
         i += 1;

@@ -6,11 +6,11 @@ use lib.ListN.{length}
 use mathlib.Core.Path.{_≡_, refl, sym, _∙_}
 use mathlib.Core.Bool.{true}
 use borrow.Author.Tests.{not-true, not-false}
 use Rattle.log.specs.Columns.{Columns, columns, hold}
 use Rattle.log.proofs.ColumnLaws.{Held, hold-e}
-use Rattle.log.proofs.SpillLaws.{Spilling, spilling-first, spilling-more, spilling-done, spilling-room, spilled-not}
-use Rattle.log.proofs.spill.spill.Statement.{statement}
-use Rattle.log.proofs.spill.spill.Tie as tie
+use Rattle.spill.proofs.SpillLaws.{Spilling, spilling-first, spilling-more, spilling-done, spilling-room, spilled-not}
+use Rattle.spill.proofs.spill.Statement.{statement}
+use Rattle.spill.proofs.spill.Tie as tie
 
 abbrev Inv-loop : tie.InvT-loop
 Inv-loop log kinds₀ transactions₀ registers₀ values₀ i₀ kinds transactions registers values i =

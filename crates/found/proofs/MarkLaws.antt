@@ -21,7 +21,6 @@ use Rattle.records.specs.Bytes.{u16Bytes}
 use Rattle.opacity.specs.Marking.{placeBytes, flat}
 use Rattle.places.proofs.LookupLaws.{decode-append, decode-snoc}
 use Rattle.lowest.proofs.TreeLink.{placed-snoc}
-use Rattle.marking_writer.proofs.RunLaws.{placed-then}
 
 pub decode-length : (p : List ℕ) → length (decode p) ≡ length p
 unfolding decode

@@ -1,4 +1,4 @@
--- `finder::arrays::readers_by` meets its contract: the transactions passed have their places. Assumes nothing.
+-- `found::arrays::readers_by` meets its contract: the transactions passed have their places. Assumes nothing.
 use borrow.Author.Needs.{needs}
 use Prim.Native.Nat.{ℕ, _-_, _≤_}
 use mathlib.Core.Path.{_≡_, subst}
@@ -8,8 +8,8 @@ use Rattle.lists.specs.Filled.{Filled}
 use Rattle.lists.proofs.FilledLaws.{filled-none, filled-more}
 use Rattle.opacity.specs.Marking.{placeOf}
 use Rattle.places.specs.Places.{decode}
-use Rattle.finder.proofs.arrays.readers_by.Statement.{statement}
-use Rattle.finder.proofs.arrays.readers_by.Tie as tie
+use Rattle.found.proofs.arrays.readers_by.Statement.{statement}
+use Rattle.found.proofs.arrays.readers_by.Tie as tie
 
 abbrev Inv-loop : tie.InvT-loop
 Inv-loop codes count place₀ t₀ place t = (t ≤ count) × Filled 64 0 (λ u. placeOf u (decode (take count codes))) t place
