@@ -15,6 +15,9 @@ ghost use Rattle.capture.specs.Report.{countsOf, judged, reportOn};
 use counts::tally::Tally;
 use counts::tally::tally_of;
 use events::refusal::Refusal;
+use log::rows::BLANK;
+use log::rows::FEW;
+use log::rows::MOST;
 use log::rows::Row;
 use log::rows::transactions_begun;
 use marking::check::Ruling;
@@ -95,9 +98,9 @@ pub fn report_on(history: &[u8], marking: &[u8]) -> Report
     ensures { λ r. ⌜ r ≡ reportOn (now (history .entry)) (now (marking .entry)) ⌝ }
 {
     if history.len() <= SHORT_FILE {
-        let mut few = [[0u32; 4]; 64];
+        let mut few = [BLANK; FEW];
         return report_in(history, marking, &mut few);
     }
-    let mut rows = [[0u32; 4]; 2048];
+    let mut rows = [BLANK; MOST];
     report_in(history, marking, &mut rows)
 }

@@ -13,6 +13,9 @@ use crate::tally::tally_of;
 use events::refusal::Refusal;
 use log::admit::Checked;
 use log::admit::admit;
+use log::rows::BLANK;
+use log::rows::FEW;
+use log::rows::MOST;
 use log::rows::Row;
 use log::rows::transactions_begun;
 use records::record::Record;
@@ -76,8 +79,8 @@ pub fn count_transactions(
         (now (values .entry))) count ⌝ }
 {
     let starts = [0u32; 32];
-    if count <= 64 {
-        let mut few = [[0u32; 4]; 64];
+    if count <= FEW {
+        let mut few = [BLANK; FEW];
         let checked = admit(
             Record::STARTS_EDITION,
             &starts,
@@ -90,7 +93,7 @@ pub fn count_transactions(
         );
         return count_begun(checked, &few, count);
     }
-    let mut rows = [[0u32; 4]; 2048];
+    let mut rows = [BLANK; MOST];
     let checked = admit(
         Record::STARTS_EDITION,
         &starts,
@@ -116,8 +119,8 @@ pub fn count_store_reads(
         (now (values .entry))) count ⌝ }
 {
     let starts = [0u32; 32];
-    if count <= 64 {
-        let mut few = [[0u32; 4]; 64];
+    if count <= FEW {
+        let mut few = [BLANK; FEW];
         let checked = admit(
             Record::STARTS_EDITION,
             &starts,
@@ -130,7 +133,7 @@ pub fn count_store_reads(
         );
         return count_reads(checked, &few, count);
     }
-    let mut rows = [[0u32; 4]; 2048];
+    let mut rows = [BLANK; MOST];
     let checked = admit(
         Record::STARTS_EDITION,
         &starts,
@@ -156,8 +159,8 @@ pub fn tally_transactions(
         (now (values .entry))) count ⌝ }
 {
     let starts = [0u32; 32];
-    if count <= 64 {
-        let mut few = [[0u32; 4]; 64];
+    if count <= FEW {
+        let mut few = [BLANK; FEW];
         let checked = admit(
             Record::STARTS_EDITION,
             &starts,
@@ -170,7 +173,7 @@ pub fn tally_transactions(
         );
         return tally_rows(checked, &few, count);
     }
-    let mut rows = [[0u32; 4]; 2048];
+    let mut rows = [BLANK; MOST];
     let checked = admit(
         Record::STARTS_EDITION,
         &starts,

@@ -18,6 +18,9 @@ use found::write_order;
 use log::admit::Checked;
 use log::admit::admit;
 use log::columns::columns_hold;
+use log::rows::BLANK;
+use log::rows::FEW;
+use log::rows::MOST;
 use log::rows::Row;
 use log::rows::transactions_begun;
 use log::starts::is_admitted;
@@ -146,8 +149,8 @@ pub fn find_marking(
         let admitted = is_admitted(edition, starts);
         return Finding::Refused(prefix_refused(held, admitted, count));
     }
-    if count <= 64 {
-        let mut few = [[0u32; 4]; 64];
+    if count <= FEW {
+        let mut few = [BLANK; FEW];
         let checked = admit(
             edition,
             starts,
@@ -160,7 +163,7 @@ pub fn find_marking(
         );
         return find_admitted(starts, checked, &few, count, prefix, output);
     }
-    let mut rows = [[0u32; 4]; 2048];
+    let mut rows = [BLANK; MOST];
     let checked = admit(
         edition,
         starts,

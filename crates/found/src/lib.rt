@@ -11,6 +11,8 @@ ghost use Rattle.found.specs.Arrays.{foundBytes};
 
 mod arrays;
 
+use log::rows::FEW;
+use log::rows::MOST;
 use log::rows::Row;
 use marking_writer::write_marking;
 use places::state::codes_of;
@@ -51,10 +53,10 @@ pub fn write_order(log: &[Row], order: u64, begun: usize, output: &mut [u8]) -> 
         ≡ over (foundBytes (logged (now (log .entry))) (codesOf begun order)) (now (output .entry)) ⌝ }
 {
     let codes = codes_of(order, begun);
-    if log.len() <= 64 {
-        let mut few = [0u16; 64];
+    if log.len() <= FEW {
+        let mut few = [0u16; FEW];
         return write_found(log, codes, begun, &mut few, output);
     }
-    let mut gaps = [0u16; 2048];
+    let mut gaps = [0u16; MOST];
     write_found(log, codes, begun, &mut gaps, output)
 }

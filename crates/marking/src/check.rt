@@ -12,6 +12,9 @@ use events::refusal::Refusal;
 use links::writes::links;
 use log::admit::Checked;
 use log::admit::admit;
+use log::rows::BLANK;
+use log::rows::FEW;
+use log::rows::MOST;
 use log::rows::Row;
 use log::rows::transactions_begun;
 use marking_reader::read::read_marking;
@@ -101,8 +104,8 @@ pub fn check_marking(
         (columns (now (kinds .entry)) (now (transactions .entry)) (now (registers .entry)) (now (values .entry)))
         count (now (file .entry)) ⌝ }
 {
-    if count <= 64 {
-        let mut few = [[0u32; 4]; 64];
+    if count <= FEW {
+        let mut few = [BLANK; FEW];
         let checked = admit(
             edition,
             starts,
@@ -115,7 +118,7 @@ pub fn check_marking(
         );
         return check_admitted(starts, checked, &few, count, file);
     }
-    let mut rows = [[0u32; 4]; 2048];
+    let mut rows = [BLANK; MOST];
     let checked = admit(
         edition,
         starts,

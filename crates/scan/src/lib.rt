@@ -19,6 +19,9 @@ use events::refusal::Refusal;
 use events::state::begun_after;
 use log::admit::Checked;
 use log::admit::admit;
+use log::rows::BLANK;
+use log::rows::FEW;
+use log::rows::MOST;
 use log::rows::Row;
 use log::rows::event_at;
 use log::rows::transactions_begun;
@@ -128,8 +131,8 @@ pub fn scan_history(
         r ≡ scanAnswer edition (now (starts .entry))
         (columns (now (kinds .entry)) (now (transactions .entry)) (now (registers .entry)) (now (values .entry))) count ⌝ }
 {
-    if count <= 64 {
-        let mut few = [[0u32; 4]; 64];
+    if count <= FEW {
+        let mut few = [BLANK; FEW];
         let checked = admit(
             edition,
             starts,
@@ -142,7 +145,7 @@ pub fn scan_history(
         );
         return scan_admitted(starts, checked, &few, count);
     }
-    let mut rows = [[0u32; 4]; 2048];
+    let mut rows = [BLANK; MOST];
     let checked = admit(
         edition,
         starts,

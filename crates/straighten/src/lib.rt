@@ -34,6 +34,9 @@ use links::tables::tables_of;
 use links::writes::links;
 use log::admit::Checked;
 use log::admit::admit;
+use log::rows::BLANK;
+use log::rows::FEW;
+use log::rows::MOST;
 use log::rows::Row;
 use log::rows::transactions_begun;
 use marking_reader::read::read_marking;
@@ -249,8 +252,8 @@ pub fn straighten(
         (columns (now (kinds .entry)) (now (transactions .entry)) (now (registers .entry)) (now (values .entry)))
         count (now (file .entry)) (now (output .entry)) (now (moved .entry)) ⌝ }
 {
-    if count <= 64 {
-        let mut few = [[0u32; 4]; 64];
+    if count <= FEW {
+        let mut few = [BLANK; FEW];
         let checked = admit(
             edition,
             starts,
@@ -263,7 +266,7 @@ pub fn straighten(
         );
         return straighten_admitted(starts, checked, &few, count, file, output, moved);
     }
-    let mut rows = [[0u32; 4]; 2048];
+    let mut rows = [BLANK; MOST];
     let checked = admit(
         edition,
         starts,
