@@ -2,6 +2,7 @@
 ghost use mathlib.Core.Path.{_≡_};
 ghost use mathlib.Core.Bool.{true, cond};
 ghost use Prim.Native.Nat.{_≤_};
+ghost use lib.Dec.{leb};
 ghost use lib.ListN.{length, take};
 ghost use Rattle.events.specs.Events.{begins};
 ghost use Rattle.events.specs.Questions.{readable};
@@ -55,6 +56,22 @@ fn find_lowest(starts: &[u32; 32], log: &[Row], begun: usize, output: &mut [u8])
     Finding::Marking(write_order(log, order, begun, output))
 }
 
+// Question 32: is there room for the marking of a log in which so many transactions begin? Each event could be a store read, and
+// where there is room for so many points nothing is counted.
+fn has_room(log: &[Row], begun: usize, room: usize) -> bool
+    requires { ⌜ Judged (logged (now log)) ⌝ }
+    requires { ⌜ begun ≡ begins (logged (now log)) ⌝ }
+    ensures { λ r. ⌜ r ≡ leb (markingSize (logged (now (log .entry)))) room ⌝ }
+{
+    let places = Record::WHOLE_HEAD + Record::WHOLE_PLACE * begun;
+    if places + Record::WHOLE_POINT * log.len() <= room {
+        return true;
+    }
+    let mut last = [0u16; FEW_SLOTS];
+    let reads = count_by(log, &mut last);
+    places + Record::WHOLE_POINT * reads <= room
+}
+
 // Questions 31 and 32, with the count as their event, and then the lowest marking, of a log.
 pub fn find_log(starts: &[u32; 32], log: &[Row], count: usize, output: &mut [u8]) -> Finding
     requires { ⌜ readable (logged (now log)) ≡ true ⌝ }
@@ -69,11 +86,7 @@ pub fn find_log(starts: &[u32; 32], log: &[Row], count: usize, output: &mut [u8]
             at: count,
         });
     }
-    let mut last = [0u16; FEW_SLOTS];
-    let reads = count_by(log, &mut last);
-    if output.len()
-        < Record::WHOLE_HEAD + Record::WHOLE_PLACE * begun + Record::WHOLE_POINT * reads
-    {
+    if !has_room(log, begun, output.len()) {
         return Finding::Refused(Refusal {
             question: 32,
             at: count,

@@ -117,6 +117,10 @@ register-low h r i l = go (eqb k 16) refl (eqb k 17) refl (eqb k 18) refl (eqb k
 
 -- ---- store reads
 
-pub reads-low : (h : List Event) → readable h ≡ true → length (storeReads h) ≤ 2048
+-- no more than there are events
+pub reads-most : (h : List Event) → length (storeReads h) ≤ length h
 unfolding storeReads
-reads-low h r = omega (arith, keep-length (isStoreRead h) (range (length h)), range-length (length h), readable-most h r)
+reads-most h = omega (arith, keep-length (isStoreRead h) (range (length h)), range-length (length h))
+
+pub reads-low : (h : List Event) → readable h ≡ true → length (storeReads h) ≤ 2048
+reads-low h r = omega (arith, reads-most h, readable-most h r)
