@@ -5,8 +5,8 @@ ghost use Rattle.events.specs.Questions.{readable};
 ghost use Rattle.log.specs.Rows.{logged};
 ghost use Rattle.counts.specs.Tally.{tally};
 use links::tables::Fact;
+use links::tables::index_of;
 use links::tables::table;
-use links::tables::wide;
 use log::rows::Row;
 use log::rows::transactions_begun;
 
@@ -30,7 +30,7 @@ pub fn tally_of(log: &[Row]) -> Tally
     let mut many = [0usize; 4];
     let mut t: usize = 0;
     while t < begun {
-        let s = wide(ranks[t]);
+        let s = index_of(ranks[t]);
         many[s] += 1;
         t += 1;
     }

@@ -27,7 +27,8 @@ pub enum Fact {
     Rank,
 }
 
-pub fn wide(x: u16) -> usize
+// A number as the index of a table.
+pub fn index_of(x: u16) -> usize
     ensures { λ r. ⌜ r ≡ x ⌝ }
 {
     x as usize
@@ -99,7 +100,7 @@ pub fn note(slots: &mut [u16; 64], fact: Fact, e: Event, i: usize)
     requires { ⌜ i < 2048 ⌝ }
     ensures { λ r. ⌜ now (slots .exit) ≡ noted fact e i (now (slots .entry)) ⌝ }
 {
-    let t = wide(e.transaction);
+    let t = index_of(e.transaction);
     slots[t] = slot_at(fact, e, i, slots[t]);
 }
 
@@ -124,7 +125,7 @@ fn written_with(set: u32, e: Event) -> u32
     ensures { λ s. ⌜ s ≡ withWritten e set ⌝ }
 {
     if is_write(e) {
-        return with_register(set, wide(e.register));
+        return with_register(set, index_of(e.register));
     }
     set
 }
@@ -135,7 +136,7 @@ fn note_register(registers: &mut [u32; 64], e: Event)
     requires { ⌜ e .register < 32 ⌝ }
     ensures { λ r. ⌜ now (registers .exit) ≡ registered e (now (registers .entry)) ⌝ }
 {
-    let t = wide(e.transaction);
+    let t = index_of(e.transaction);
     registers[t] = written_with(registers[t], e);
 }
 

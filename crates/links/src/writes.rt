@@ -7,8 +7,8 @@ ghost use Rattle.events.specs.Questions.{readable};
 ghost use Rattle.log.specs.Rows.{logged};
 ghost use Rattle.links.specs.Writes.{Linked};
 use crate::tables::Fact;
+use crate::tables::index_of;
 use crate::tables::note;
-use crate::tables::wide;
 use log::rows::Row;
 use log::rows::event_at;
 
@@ -23,7 +23,7 @@ pub fn links(log: &[Row], link: &mut [u16; 2048])
     let mut i: usize = 0;
     while i < log.len() {
         let e = event_at(log, i);
-        let t = wide(e.transaction);
+        let t = index_of(e.transaction);
         link[i] = last[t];
         note(&mut last, Fact::LastWrite, e, i);
         i += 1;

@@ -23,9 +23,9 @@ use crate::places::writers_of;
 use crate::points::first_broken;
 use links::tables::Fact;
 use links::tables::Tables;
+use links::tables::index_of;
 use links::tables::table;
 use links::tables::tables_of;
-use links::tables::wide;
 use log::rows::Row;
 use log::rows::event_at;
 use log::rows::transactions_begun;
@@ -40,7 +40,7 @@ fn less_one(x: u16) -> usize
     if x == 0 {
         return 0;
     }
-    wide(x) - 1
+    index_of(x) - 1
 }
 
 // The verdict that a transaction breaks a rule, with the event that a fact tells of it.
@@ -66,7 +66,7 @@ fn broken_at(rule: Rule, log: &[Row], event: usize) -> Verdict
     Verdict::Broken {
         rule,
         event,
-        transaction: wide(e.transaction),
+        transaction: index_of(e.transaction),
     }
 }
 

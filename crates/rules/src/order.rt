@@ -4,7 +4,7 @@ ghost use Prim.Native.Nat.{ℕ, _≤_, _<_};
 ghost use lib.ListN.{getD};
 ghost use lib.Dec.{eqb};
 ghost use Rattle.rules.specs.Orders.{broken, allowsBy, outcomeBy, pairBy, realTimeBy};
-use links::tables::wide;
+use links::tables::index_of;
 
 // Does the rank of a transaction allow the outcome?
 fn allowed(rank: u16, outcome: u8) -> bool
@@ -25,7 +25,7 @@ fn outcome_kept(ranks: &[u16; 64], place: &[u16; 64], outcomes: &[u8; 64], t: us
     requires { ⌜ getD (now place) t 0 < 64 ⌝ }
     ensures { λ r. ⌜ r ≡ outcomeBy (now (ranks .entry)) (now (place .entry)) (now (outcomes .entry)) t ⌝ }
 {
-    let p = wide(place[t]);
+    let p = index_of(place[t]);
     allowed(ranks[t], outcomes[p])
 }
 

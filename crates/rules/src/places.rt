@@ -4,7 +4,7 @@ ghost use Prim.Native.Nat.{_<_};
 ghost use lib.ListN.{getD};
 ghost use Rattle.rules.specs.Orders.{Apart, Inverse, writerAt, Writers};
 use links::tables::Tables;
-use links::tables::wide;
+use links::tables::index_of;
 
 // The place of each transaction.
 pub fn places_of(order: &[u16; 64], begun: usize) -> [u16; 64]
@@ -14,7 +14,7 @@ pub fn places_of(order: &[u16; 64], begun: usize) -> [u16; 64]
     let mut place = [0u16; 64];
     let mut k: usize = 0;
     while k < begun {
-        let t = wide(order[k]);
+        let t = index_of(order[k]);
         place[t] = k as u16;
         k += 1;
     }
@@ -58,7 +58,7 @@ fn writer_at(
     if outcomes[k] != 1 {
         return [0, 0];
     }
-    let t = wide(order[k]);
+    let t = index_of(order[k]);
     [as_field(written[t]), registers[t]]
 }
 

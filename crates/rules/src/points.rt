@@ -10,7 +10,7 @@ ghost use Rattle.rules.specs.Walks.{Walkable, Pointable, noWriter, right
 use crate::places::Writer;
 use crate::walk::last_writer;
 use events::event::Event;
-use links::tables::wide;
+use links::tables::index_of;
 use lists::numbers::stored;
 use log::rows::Row;
 use log::rows::event_at;
@@ -34,7 +34,7 @@ pub fn place_at(place: &[u16; 64], e: Event) -> u16
     requires { ⌜ e .transaction < 64 ⌝ }
     ensures { λ k. ⌜ k ≡ getD (now (place .entry)) (e .transaction) 0 ⌝ }
 {
-    let t = wide(e.transaction);
+    let t = index_of(e.transaction);
     place[t]
 }
 
@@ -75,7 +75,7 @@ fn value_at_gap(
 {
     let w = last_writer(log, link, writers, own, e.register, 0, g);
     if w == 0 {
-        let r = wide(e.register);
+        let r = index_of(e.register);
         let start = starts[r];
         return e.value == start;
     }
@@ -103,8 +103,8 @@ pub fn holds_at(
         return true;
     }
     let e = event_at(log, i);
-    let own = wide(place_at(place, e));
-    let g = wide(gap);
+    let own = index_of(place_at(place, e));
+    let g = index_of(gap);
     match rule {
         Rule::D => no_writer_between(log, link, writers, own, g, e),
         Rule::E => value_at_gap(starts, log, link, writers, own, g, e),

@@ -8,7 +8,7 @@ use crate::places::LAST;
 use crate::places::REGISTERS;
 use crate::places::Writer;
 use crate::places::from_field;
-use links::tables::wide;
+use links::tables::index_of;
 use lists::numbers::stored;
 use lists::sets::has_register;
 use log::rows::Row;
@@ -25,7 +25,7 @@ fn start_at(writers: &[Writer; 64], own: usize, r: u16, k: usize) -> usize
         return 0;
     }
     let writer = writers[k];
-    if !has_register(writer[REGISTERS], wide(r)) {
+    if !has_register(writer[REGISTERS], index_of(r)) {
         return 0;
     }
     from_field(writer[LAST])
@@ -60,7 +60,7 @@ pub fn last_writer(
             if e.register == r {
                 break 'walk stored(e.value);
             }
-            j = wide(link[i]);
+            j = index_of(link[i]);
         }
     };
     w

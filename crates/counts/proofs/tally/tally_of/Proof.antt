@@ -28,15 +28,15 @@ below c = omega (arith, c .before .before .transactions-begun .ensures, c .loop-
 low : (c : tie.In-loop Inv-loop μ-loop) → c .before .loop .t < 64
 low c = omega (arith, below c, at-most-64 _ (entered (c .before) .pre))
 
-stood : (c : tie.After-wide Inv-loop μ-loop) → c .wide .result ≡ statusNumber (status (logged (entered (c .before .before) .args .log .now)) (c .before .before .loop .t))
+stood : (c : tie.After-index-of Inv-loop μ-loop) → c .index-of .result ≡ statusNumber (status (logged (entered (c .before .before) .args .log .now)) (c .before .before .loop .t))
 stood c =
     let l = c .before .before in
-    c .wide .ensures ∙ (l .before .before .table .ensures .holds (l .loop .t) (low (c .before)) ∙ status-table _ (l .loop .t))
+    c .index-of .ensures ∙ (l .before .before .table .ensures .holds (l .loop .t) (low (c .before)) ∙ status-table _ (l .loop .t))
 
-its-number : (c : tie.After-wide Inv-loop μ-loop) → c .wide .result < 4
+its-number : (c : tie.After-index-of Inv-loop μ-loop) → c .index-of .result < 4
 its-number c =
     let l = c .before .before in
-    number-low _ (l .loop .many) (l .loop .t) (c .wide .result) (below (c .before)) (l .loop .inv) (stood c)
+    number-low _ (l .loop .many) (l .loop .t) (c .index-of .result) (below (c .before)) (l .loop .inv) (stood c)
 
 table-requires : tie.Need-table-requires Inv-loop μ-loop
 table-requires c κs = c .pre
@@ -44,11 +44,11 @@ table-requires c κs = c .pre
 loop-holds : tie.Need-loop-holds Inv-loop μ-loop
 loop-holds c = counted-first (logged (c .before .before .args .log .now))
 
-mul-wide : tie.Need-mul-wide Inv-loop μ-loop
-mul-wide c = let l = low c in search needs
+mul-index-of : tie.Need-mul-index-of Inv-loop μ-loop
+mul-index-of c = let l = low c in search needs
 
-array-read-wide : tie.Need-array-read-wide Inv-loop μ-loop
-array-read-wide c = low c
+array-read-index-of : tie.Need-array-read-index-of Inv-loop μ-loop
+array-read-index-of c = low c
 
 mul-many : tie.Need-mul-many Inv-loop μ-loop
 mul-many c = let n = its-number c in search needs
@@ -59,7 +59,7 @@ array-read-many c = its-number c
 add-many : tie.Need-add-many Inv-loop μ-loop
 add-many c =
     let l = c .before .before in
-    let few = counts-few _ (l .loop .many) (l .loop .t) (c .wide .result) (below (c .before)) (l .loop .inv) (stood c) in
+    let few = counts-few _ (l .loop .many) (l .loop .t) (c .index-of .result) (below (c .before)) (l .loop .inv) (stood c) in
     omega (arith, few, low (c .before))
 
 array-write-many : tie.Need-array-write-many Inv-loop μ-loop
@@ -71,7 +71,7 @@ add-t c = omega (arith, low (c .before))
 loop-again : tie.Need-loop-again Inv-loop μ-loop
 loop-again c =
     let l = c .before .before in
-    counted-more _ (l .loop .many) (l .loop .t) (c .wide .result) (below (c .before)) (l .loop .inv) (stood c)
+    counted-more _ (l .loop .many) (l .loop .t) (c .index-of .result) (below (c .before)) (l .loop .inv) (stood c)
 
 returns : tie.Need-returns Inv-loop μ-loop
 returns c =
@@ -81,7 +81,7 @@ returns c =
 pub tally-of-spec : {M : Type 1} → statement M
 tally-of-spec =
     tie.close
-    (tie.spec Inv-loop μ-loop table-requires (λ c κs. search needs) loop-holds mul-wide
-    array-read-wide (λ c κs. search needs) mul-many array-read-many add-many array-write-many add-t
+    (tie.spec Inv-loop μ-loop table-requires (λ c κs. search needs) loop-holds mul-index-of
+    array-read-index-of (λ c κs. search needs) mul-many array-read-many add-many array-write-many add-t
     (λ c. search needs) loop-again (λ c. search needs) (λ c. search needs) (λ c. search needs)
     (λ c. search needs) returns)

@@ -12,7 +12,7 @@ returns : tie.Need-returns
 returns c =
     let s = c .before .before .before in
     let slots = s .args .slots .now in
-    let t = c .before .before .wide in
+    let t = c .before .before .index-of in
     ap (set slots (t .result)) (c .slot-at .ensures)
     ∙ ap (λ (x : ℕ). set slots x (slotAt (s .args .fact) (s .args .e) (s .args .i) (getD slots x 0))) (t .ensures)
 

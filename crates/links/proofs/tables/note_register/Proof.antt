@@ -12,7 +12,7 @@ returns : tie.Need-returns
 returns c =
     let s = c .before .before .before in
     let registers = s .args .registers .now in
-    let t = c .before .before .wide in
+    let t = c .before .before .index-of in
     ap (set registers (t .result)) (c .written-with .ensures)
     ∙ ap (λ (x : ℕ). set registers x (withWritten (s .args .e) (getD registers x 0))) (t .ensures)
 

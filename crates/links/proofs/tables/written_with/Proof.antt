@@ -11,7 +11,7 @@ returns : tie.Need-returns
 returns c =
     let s = c .before .before .before in
     c .with-register .ensures
-    ∙ (ap (λ (r : ℕ). bitOr (s .before .args .set) (2 ^ r)) (c .before .wide .ensures) ∙ rw (sym (s .is-write .ensures) ∙ c .before .before .if1 .taken))
+    ∙ (ap (λ (r : ℕ). bitOr (s .before .args .set) (2 ^ r)) (c .before .index-of .ensures) ∙ rw (sym (s .is-write .ensures) ∙ c .before .before .if1 .taken))
 
 returns-2 : tie.Need-returns-2
 returns-2 c = rw (sym (c .before .is-write .ensures) ∙ c .if1 .left)

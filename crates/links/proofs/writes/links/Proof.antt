@@ -30,8 +30,8 @@ low c =
     let s = c .before .before .before in
     transaction-below (s .args .log .now) (s .pre .0) (c .before .loop-test .taken) (c .event-at .ensures)
 
-its-slot : (c : tie.After-wide Inv-loop μ-loop) → c .wide .result < 64
-its-slot c = rw (c .wide .ensures) (low (c .before))
+its-slot : (c : tie.After-index-of Inv-loop μ-loop) → c .index-of .result < 64
+its-slot c = rw (c .index-of .ensures) (low (c .before))
 
 -- and the event an entry
 few : (c : tie.In-loop Inv-loop μ-loop) → c .before .loop .i < 2048
@@ -60,7 +60,7 @@ loop-again c =
     let h = logged (t .before .args .log .now) in
     let q =
     t .loop .inv .1 .holds _ (its-slot w)
-    ∙ ap (λ (x : ℕ). slot LastWrite h x (t .loop .i)) (w .wide .ensures)
+    ∙ ap (λ (x : ℕ). slot LastWrite h x (t .loop .i)) (w .index-of .ensures)
     ∙ ap (λ (x : Event). slot LastWrite h (x .transaction) (t .loop .i)) (e .event-at .ensures) in (
       search needs,
       slots-more LastWrite h (t .loop .i) (e .event-at .ensures) (low e) (c .note .ensures) (t .loop .inv .1),

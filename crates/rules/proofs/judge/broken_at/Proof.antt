@@ -10,7 +10,7 @@ use Rattle.rules.proofs.judge.broken_at.Tie as tie
 returns : tie.Need-returns
 returns c =
     let s = c .before .before in
-    ap (Broken (s .args .rule) (s .args .event)) (c .wide .ensures ∙ ap (λ (e : Event). e .transaction) (c .before .event-at .ensures))
+    ap (Broken (s .args .rule) (s .args .event)) (c .index-of .ensures ∙ ap (λ (e : Event). e .transaction) (c .before .event-at .ensures))
 
 pub broken-at-spec : {M : Type 1} → statement M
 broken-at-spec = tie.close (tie.spec (λ c κs. search needs) (λ c κs. search needs) returns)

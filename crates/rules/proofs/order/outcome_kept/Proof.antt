@@ -8,11 +8,11 @@ use Rattle.rules.proofs.order.outcome_kept.Statement.{statement}
 use Rattle.rules.proofs.order.outcome_kept.Tie as tie
 
 element-copy-out-allowed-2 : tie.Need-element-copy-out-allowed-2
-element-copy-out-allowed-2 c = omega (arith, c .before .wide .ensures, c .before .before .before .pre .1)
+element-copy-out-allowed-2 c = omega (arith, c .before .index-of .ensures, c .before .before .before .pre .1)
 
 returns : tie.Need-returns
 unfolding outcomeBy
-returns c = c .allowed .ensures ∙ rw (c .before .before .before .wide .ensures)
+returns c = c .allowed .ensures ∙ rw (c .before .before .before .index-of .ensures)
 
 pub outcome-kept-spec : {M : Type 1} → statement M
 outcome-kept-spec =

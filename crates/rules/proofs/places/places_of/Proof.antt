@@ -18,25 +18,25 @@ abbrev μ-loop : tie.MeasureT-loop
 loop-holds : tie.Need-loop-holds Inv-loop μ-loop
 loop-holds c = (omega arith, inverse-start _)
 
-mul-wide : tie.Need-mul-wide Inv-loop μ-loop
-mul-wide c = let l : c .before .loop .k < 64 = omega (arith, c .before .before .pre .few) in search needs
+mul-index-of : tie.Need-mul-index-of Inv-loop μ-loop
+mul-index-of c = let l : c .before .loop .k < 64 = omega (arith, c .before .before .pre .few) in search needs
 
-element-copy-out-wide : tie.Need-element-copy-out-wide Inv-loop μ-loop
-element-copy-out-wide c = omega (arith, c .before .before .pre .few)
+element-copy-out-index-of : tie.Need-element-copy-out-index-of Inv-loop μ-loop
+element-copy-out-index-of c = omega (arith, c .before .before .pre .few)
 
 cast-place : tie.Need-cast-place Inv-loop μ-loop
 cast-place c = omega (arith, c .before .before .before .before .pre .few)
 
 mul-place : tie.Need-mul-place Inv-loop μ-loop
-mul-place c = let l : c .wide .result < 64 = omega (arith, c .wide .ensures, c .before .before .before .before .pre .low (c .before .before .before .loop .k) (omega arith)) in search needs
+mul-place c = let l : c .index-of .result < 64 = omega (arith, c .index-of .ensures, c .before .before .before .before .pre .low (c .before .before .before .loop .k) (omega arith)) in search needs
 
 array-write-place : tie.Need-array-write-place Inv-loop μ-loop
-array-write-place c = omega (arith, c .wide .ensures, c .before .before .before .before .pre .low (c .before .before .before .loop .k) (omega arith), c .before .before .before .loop .inv .1 .size)
+array-write-place c = omega (arith, c .index-of .ensures, c .before .before .before .before .pre .low (c .before .before .before .loop .k) (omega arith), c .before .before .before .loop .inv .1 .size)
 
 loop-again : tie.Need-loop-again Inv-loop μ-loop
 loop-again c =
     let t = c .before .before .before in
-    (omega arith, inverse-more _ (t .loop .place) (t .before .args .begun) (t .loop .k) _ _ (t .before .pre) (omega arith) (c .wide .ensures) refl (t .loop .inv .1))
+    (omega arith, inverse-more _ (t .loop .place) (t .before .args .begun) (t .loop .k) _ _ (t .before .pre) (omega arith) (c .index-of .ensures) refl (t .loop .inv .1))
 
 returns : tie.Need-returns Inv-loop μ-loop
 returns c =
@@ -46,6 +46,6 @@ returns c =
 pub places-of-spec : {M : Type 1} → statement M
 places-of-spec =
     tie.close
-    (tie.spec Inv-loop μ-loop loop-holds mul-wide element-copy-out-wide (λ c κs. search needs)
+    (tie.spec Inv-loop μ-loop loop-holds mul-index-of element-copy-out-index-of (λ c κs. search needs)
     cast-place mul-place array-write-place (λ c. search needs) (λ c. search needs) loop-again
     returns)

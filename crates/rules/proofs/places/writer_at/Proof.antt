@@ -8,8 +8,8 @@ use Rattle.rules.proofs.places.writer_at.Statement.{statement}
 use Rattle.rules.proofs.places.writer_at.Tie as tie
 
 -- the transaction at the place has a slot
-low : (c : tie.After-wide) → c .wide .result < 64
-low c = omega (arith, c .wide .ensures, c .before .before .before .before .pre .1)
+low : (c : tie.After-index-of) → c .index-of .result < 64
+low c = omega (arith, c .index-of .ensures, c .before .before .before .before .pre .1)
 
 returns : tie.Need-returns
 returns c = rw (ne-eqb _ _ (c .if1 .taken))
@@ -24,7 +24,7 @@ returns-2 : tie.Need-returns-2
 returns-2 c =
     let f = c .before in
     let w = f .before .before in
-    rw (eq-eqb _ _ (w .before .before .if1 .left), f .as-field .ensures, ← (w .wide .ensures))
+    rw (eq-eqb _ _ (w .before .before .if1 .left), f .as-field .ensures, ← (w .index-of .ensures))
 
 pub writer-at-spec : {M : Type 1} → statement M
 writer-at-spec =

@@ -17,40 +17,40 @@ use Rattle.rules.proofs.points.holds_at.Statement.{statement}
 use Rattle.rules.proofs.points.holds_at.Tie as tie
 
 -- where event, place and gap are known, and the function's entry
-abbrev entered : tie.After-wide2 → tie.Start
+abbrev entered : tie.After-index-of2 → tie.Start
 entered p = p .before .before .before .before .before .before
 
-own-low : (p : tie.After-wide2) → p .before .wide .result < 64
+own-low : (p : tie.After-index-of2) → p .before .index-of .result < 64
 own-low p =
     let e = p .before .before .place-at in
-    omega (arith, p .before .wide .ensures, e .ensures, entered p .pre .0 .places-low (p .before .before .before .event-at .result .transaction))
+    omega (arith, p .before .index-of .ensures, e .ensures, entered p .pre .0 .places-low (p .before .before .before .event-at .result .transaction))
 
-gap-low : (p : tie.After-wide2) → p .wide2 .result ≤ 64
+gap-low : (p : tie.After-index-of2) → p .index-of2 .result ≤ 64
 gap-low p =
     let s = entered p in
     let n : hasPoint (s .args .gaps .now) (s .args .i) ≡ true = ap not (ne-eqb _ _ (p .before .before .before .before .if1 .left)) in
-    omega (arith, p .wide2 .ensures, s .pre .0 .gaps-low (s .args .i) (in-history (s .args .log .now) (s .pre .1)) n)
+    omega (arith, p .index-of2 .ensures, s .pre .0 .gaps-low (s .args .i) (in-history (s .args .log .now) (s .pre .1)) n)
 
-register-fits : (p : tie.After-wide2) → p .before .before .before .event-at .result .register < 32
+register-fits : (p : tie.After-index-of2) → p .before .before .before .event-at .result .register < 32
 register-fits p =
     let s = entered p in
     register-below (s .args .log .now) (s .pre .0 .walk .readable) (s .pre .1) (p .before .before .before .event-at .ensures)
 
 -- the rule at the event, by what the rule says of the point
-abbrev here : (p : tie.After-wide2) → Rule → Bool
+abbrev here : (p : tie.After-index-of2) → Rule → Bool
 here p rule =
     pointHolds (startOf (entered p .args .starts .now)) (logged (entered p .args .log .now)) (entered p .args .link .now) (entered p .args .writers .now)
-    (p .before .wide .result) (p .wide2 .result) (p .before .before .before .event-at .result) rule
+    (p .before .index-of .result) (p .index-of2 .result) (p .before .before .before .event-at .result) rule
 
 abbrev whole : tie.Start → Bool
 whole s =
     pointRule (startOf (s .args .starts .now)) (logged (s .args .log .now)) (s .args .link .now) (s .args .writers .now) (s .args .place .now) (s .args .gaps .now) (s .args .rule) (s .args .i)
 
-rule-at : (p : tie.After-wide2) {rule : Rule} → entered p .args .rule ≡ rule → {b : Bool} → b ≡ here p rule → b ≡ whole (entered p)
+rule-at : (p : tie.After-index-of2) {rule : Rule} → entered p .args .rule ≡ rule → {b : Bool} → b ≡ here p rule → b ≡ whole (entered p)
 rule-at p e t =
     let s = entered p in
     point-here (startOf (s .args .starts .now)) (logged (s .args .log .now)) (s .args .link .now) (s .args .writers .now) (s .args .place .now) (s .args .gaps .now) (s .args .i) (s .args .rule)
-    (p .before .before .before .before .if1 .left) (p .before .before .before .event-at .ensures) (p .before .wide .ensures ∙ p .before .before .place-at .ensures) (p .wide2 .ensures)
+    (p .before .before .before .before .if1 .left) (p .before .before .before .event-at .ensures) (p .before .index-of .ensures ∙ p .before .before .place-at .ensures) (p .index-of2 .ensures)
     (t ∙ ap (here p) (sym e))
 
 element-copy-out-gap : tie.Need-element-copy-out-gap

@@ -21,7 +21,7 @@ returns c =
     let r = s .args .e .register in
     let o = lastIn (logged (s .args .log .now)) (s .args .link .now) (s .args .writers .now) (s .args .own) r 0 (s .args .g) in
     let z : Option·getD o (start r) ≡ start r = value-none o (start r) (sym (c .before .before .before .if1 .taken) ∙ w .last-writer .ensures) in
-    rw z (ap (λ (x : ℕ). eqb (s .args .e .value) (start x)) (c .before .before .wide .ensures))
+    rw z (ap (λ (x : ℕ). eqb (s .args .e .value) (start x)) (c .before .before .index-of .ensures))
 
 returns-2 : tie.Need-returns-2
 unfolding rightValue

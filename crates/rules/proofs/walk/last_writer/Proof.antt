@@ -60,23 +60,23 @@ walk-again c = walk-leaves (c .before .loop .inv) (omega arith)
 event-at-requires : tie.Need-event-at-requires Inv-loop μ-loop Inv-walk μ-walk
 event-at-requires c κs = inside c
 
-mul-wide : tie.Need-mul-wide Inv-loop μ-loop Inv-walk μ-walk
-mul-wide c = let l = few (c .before .before .before) in search needs
+mul-index-of : tie.Need-mul-index-of Inv-loop μ-loop Inv-walk μ-walk
+mul-index-of c = let l = few (c .before .before .before) in search needs
 
-element-copy-out-wide : tie.Need-element-copy-out-wide Inv-loop μ-loop Inv-walk μ-walk
-element-copy-out-wide c = let l = few (c .before .before .before) in search needs
+element-copy-out-index-of : tie.Need-element-copy-out-index-of Inv-loop μ-loop Inv-walk μ-walk
+element-copy-out-index-of c = let l = few (c .before .before .before) in search needs
 
 loop-less : tie.Need-loop-less Inv-loop μ-loop Inv-walk μ-walk
 loop-less c =
     let t = c .before .before .before .before .before in
     let s = entered (t .before) in
-    omega (arith, c .wide .ensures, links-back (logged (s .args .log .now)) (s .pre .0 .linked) (t .before .loop .j - 1) (omega (arith, t .before .loop .inv .writes .low)))
+    omega (arith, c .index-of .ensures, links-back (logged (s .args .log .now)) (s .pre .0 .linked) (t .before .loop .j - 1) (omega (arith, t .before .loop .inv .writes .low)))
 
 loop-again : tie.Need-loop-again Inv-loop μ-loop Inv-walk μ-walk
 loop-again c =
     let t = c .before .before .before .before .before in
     walk-follows (t .before .loop .inv) (t .loop-test .taken) (c .before .before .before .before .event-at .ensures)
-    (entered (t .before) .pre .0 .linked) (c .wide .ensures) (c .before .before .if2 .left)
+    (entered (t .before) .pre .0 .linked) (c .index-of .ensures) (c .before .before .if2 .left)
 
 returns : tie.Need-returns Inv-loop μ-loop Inv-walk μ-walk
 returns c = walk-ends (c .before .walk .inv) (c .if1 .taken)
@@ -90,5 +90,5 @@ pub last-writer-spec : {M : Type 1} → statement M
 last-writer-spec =
     tie.close
     (tie.spec Inv-loop μ-loop Inv-walk μ-walk walk-holds sub-k start-at-requires loop-holds
-    walk-less walk-again (λ c. omega arith) event-at-requires (λ c κs. search needs) mul-wide
-    element-copy-out-wide (λ c κs. search needs) loop-less loop-again returns returns-2)
+    walk-less walk-again (λ c. omega arith) event-at-requires (λ c κs. search needs) mul-index-of
+    element-copy-out-index-of (λ c κs. search needs) loop-less loop-again returns returns-2)

@@ -22,7 +22,7 @@ in-set : (c : tie.After-has-register) {b : Bool} → c .has-register .result ≡
     → eqb (bitAt (row c .before .before .args .r) (registersOf (getD (row c .before .before .args .writers .now) (row c .before .before .args .k) []))) 1 ≡ b
 in-set c e =
     let s = row c .before .before in
-    ap (λ (x : ℕ). eqb (bitAt x (registersOf (getD (s .args .writers .now) (s .args .k) []))) 1) (sym (c .before .wide .ensures)) ∙ sym (c .has-register .ensures) ∙ e
+    ap (λ (x : ℕ). eqb (bitAt x (registersOf (getD (s .args .writers .now) (s .args .k) []))) 1) (sym (c .before .index-of .ensures)) ∙ sym (c .has-register .ensures) ∙ e
 
 returns : tie.Need-returns
 returns c = rw (eq-eqb _ _ (c .if1 .taken))
