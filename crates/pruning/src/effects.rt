@@ -121,19 +121,19 @@ pub fn effects_among(facts: &[Facts; 11], asked: u32, writes: &[u32; 10]) -> [u6
     effects
 }
 
-// Could w, which is not t itself, write the value to register?
+// Could w, which is not t itself, write the value to register? What it writes is asked first, since few write just that value.
 fn source(facts: &[Facts; 11], w: usize, t: usize, register: usize, value: u64) -> bool
     requires { ⌜ w < 10 ⌝ }
     requires { ⌜ register < 32 ⌝ }
     ensures { λ r. ⌜ (r ≡ false → NoSource (now (facts .entry)) t register value w) ⌝ }
 {
+    if facts[w][WRITTEN + register] != value {
+        return false;
+    }
     if w == t {
         return false;
     }
-    if facts[w][ALLOWED] == ABORTED {
-        return false;
-    }
-    facts[w][WRITTEN + register] == value
+    facts[w][ALLOWED] != ABORTED
 }
 
 // Could one of the set?
