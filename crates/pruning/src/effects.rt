@@ -7,7 +7,7 @@ ghost use lib.Bits.{bitOr};
 ghost use lib.Dec.{eqb};
 ghost use Rattle.lists.specs.Lists.{all};
 ghost use Rattle.lists.specs.Bits.{bitAt, members};
-ghost use Rattle.places.specs.State.{Sound};
+ghost use Rattle.places.specs.State.{Sound, placedOf};
 ghost use Rattle.places.specs.Tree.{asking, legalAt};
 ghost use Rattle.pruning.specs.Runs.{Effect, Effects, Writes, Written, NoSource, Lost, Orphan, Orphaned};
 use lists::sets::with_register;
@@ -160,18 +160,41 @@ fn overwritten(effect: u64) -> u32
     (effect % HELPED) as u32
 }
 
-// Is the store read of register by t not legal after the places filled, with nobody unplaced who could make it so?
+// Is it before the first place, and the store read of register by t legal there?
+fn legal_at_first(
+    starts: &[u32; 32],
+    facts: &[Facts; 11],
+    s: Search,
+    t: usize,
+    register: usize,
+) -> bool
+    requires { ⌜ Sound s ⌝ }
+    requires { ⌜ t < 10 ⌝ }
+    requires { ⌜ register < 32 ⌝ }
+    ensures { λ r. ⌜ (r ≡ true → legalAt (now (starts .entry)) (now (facts .entry)) (placedOf s) t register ≡ true) ⌝ }
+{
+    if s.filled != 0 {
+        return false;
+    }
+    legal_at(starts, facts, s.placed, s.filled, t, register)
+}
+
+// Is the store read of register by t not legal after the places filled, with nobody unplaced who could make it so? Once a place is
+// filled, whether somebody could is asked first: a register that was just overwritten seldom holds what was read.
 fn orphan_at(starts: &[u32; 32], facts: &[Facts; 11], s: Search, t: usize, register: usize) -> bool
     requires { ⌜ Sound s ⌝ }
     requires { ⌜ t < 10 ⌝ }
     requires { ⌜ register < 32 ⌝ }
     ensures { λ r. ⌜ (r ≡ true → Lost (now (starts .entry)) (now (facts .entry)) s t register) ⌝ }
 {
-    if legal_at(starts, facts, s.placed, s.filled, t, register) {
+    if legal_at_first(starts, facts, s, t, register) {
         return false;
     }
     let value = facts[t][REQUIRED + register];
-    !sourced(facts, s.unplaced, t, register, value)
+    if sourced(facts, s.unplaced, t, register, value) {
+        return false;
+    }
+    !legal_at(starts, facts, s.placed, s.filled, t, register)
 }
 
 // Is one of the store reads of t from these registers?
