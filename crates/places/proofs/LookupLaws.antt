@@ -6,8 +6,8 @@ use native.Mathlib.Omega.{arith}
 use mathlib.Core.Bool.{Bool, true, false, cond}
 use mathlib.Core.List.{List, [], _∷_, _++_}
 use mathlib.Core.Option.{Option, none, some, Option·getD}
-use lib.ListN.{length, take, drop, getD}
-use lib.Seq.{take-suc, take-all, getD-drop}
+use lib.ListN.{drop, getD}
+use lib.Seq.{getD-drop}
 use lib.Dec.{eqb}
 use borrow.Author.Tests.{eq-eqb, ne-eqb}
 use Rattle.lists.specs.Lists.{_and_, orElse, latest}
@@ -125,41 +125,32 @@ pub decode-snoc : (p : List ℕ) (c : ℕ) → decode (p ++ (c ∷ [])) ≡ deco
 unfolding decode
 decode-snoc p c = decode-append p (c ∷ [])
 
-module _ (start : ℕ → ℕ) (w : List (List ℕ)) (p : List ℕ) (r : ℕ) where
-  -- what r holds after the first n places
-  abbrev pub after : ℕ → ℕ
-  after n = contents start (writesIn w) (decode (take n p)) r
+module _ (start : ℕ → ℕ) (w : List (List ℕ)) (r : ℕ) where
+  -- what r holds after places
+  abbrev pub held-after : List ℕ → ℕ
+  held-after p = contents start (writesIn w) (decode p) r
 
-  pub all-after : (n : ℕ) → length p ≡ n → contents start (writesIn w) (decode p) r ≡ after n
-  all-after n e = ap (λ (q : List ℕ). contents start (writesIn w) (decode q) r) (sym (take-all n p (omega (arith, e))))
+  one-more : (p : List ℕ) (c : ℕ) → held-after (p ++ (c ∷ [])) ≡ Option·getD (written (writesIn w) r (coded c)) (held-after p)
+  one-more p c = rw (decode-snoc p c) (contents-more start (writesIn w) (decode p) (coded c) r)
 
-  pub before-any : after 0 ≡ start r
-  unfolding contents latest decode
-  before-any = refl
-
-  one-more : (i : ℕ) → i < length p → after (suc i) ≡ Option·getD (written (writesIn w) r (coded (getD p i 0))) (after i)
-  one-more i l =
-      rw (take-suc p i 0 l, decode-snoc (take i p) (getD p i 0)) (contents-more start (writesIn w) (decode (take i p)) (coded (getD p i 0)) r)
-
-  -- the n-th place, looked at
-  seen : (n : ℕ) → 0 < n → n ≤ length p → after n ≡ Option·getD (written (writesIn w) r (coded (getD p (n - 1) 0))) (after (n - 1))
-  seen zero a l = absurd (omega arith)
-  seen (suc i) a l = let e : suc i - 1 ≡ i = omega arith in rw e (one-more i l)
-
-  -- one that wrote nothing is passed over
-  pub passed-over : (n x : ℕ) → 0 < n → n ≤ length p → x ≡ writeOf w r (getD p (n - 1) 0) → x ≡ 0 → after n ≡ after (n - 1)
+  -- a last place that wrote nothing is passed over
+  pub passed-over : (p : List ℕ) (c x : ℕ) → x ≡ writeOf w r c → x ≡ 0 → held-after (p ++ (c ∷ [])) ≡ held-after p
   unfolding writeOf
-  passed-over n x a l q e = seen n a l ∙ go (written (writesIn w) r (coded (getD p (n - 1) 0))) (sym q ∙ e)
+  passed-over p c x q e = one-more p c ∙ go (written (writesIn w) r (coded c)) (sym q ∙ e)
     where
-      go : (o : Option ℕ) → plus o ≡ 0 → Option·getD o (after (n - 1)) ≡ after (n - 1)
+      go : (o : Option ℕ) → plus o ≡ 0 → Option·getD o (held-after p) ≡ held-after p
       go none k = refl
       go (some y) k = absurd (omega arith)
 
   -- the walk ends at one that wrote
-  pub ends-at : (n x : ℕ) → 0 < n → n ≤ length p → x ≡ writeOf w r (getD p (n - 1) 0) → (x ≡ 0 → ⊥) → x - 1 ≡ after n
+  pub ends-at : (p : List ℕ) (c x : ℕ) → x ≡ writeOf w r c → (x ≡ 0 → ⊥) → x - 1 ≡ held-after (p ++ (c ∷ []))
   unfolding writeOf
-  ends-at n x a l q f = go (written (writesIn w) r (coded (getD p (n - 1) 0))) q ∙ sym (seen n a l)
+  ends-at p c x q f = go (written (writesIn w) r (coded c)) q ∙ sym (one-more p c)
     where
-      go : (o : Option ℕ) → x ≡ plus o → x - 1 ≡ Option·getD o (after (n - 1))
+      go : (o : Option ℕ) → x ≡ plus o → x - 1 ≡ Option·getD o (held-after p)
       go none k = absurd (f k)
       go (some y) k = omega arith
+
+  pub before-any : held-after [] ≡ start r
+  unfolding contents latest decode
+  before-any = refl

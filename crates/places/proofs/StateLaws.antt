@@ -48,6 +48,18 @@ pub code-at-place : (m n i b : ℕ) → b + i + 1 ≡ m → getD (codesOf m n) i
 code-at-place zero n i b e = absurd (omega arith)
 code-at-place (suc k) n i b e = code-back k n b i (omega arith)
 
+-- the last place and those before it
+pub codes-back : (k n : ℕ) → 0 < k → codesOf k n ≡ codesOf (k - 1) (n / 32) ++ (n % 32 ∷ [])
+unfolding codesOf
+codes-back zero n l = absurd (omega arith)
+codes-back (suc k) n l = let e : suc k - 1 ≡ k = omega arith in rw e
+
+pub coded-back : (k n : ℕ) → 0 < k → Coded k n → (n % 32 < 20) × Coded (k - 1) (n / 32)
+coded-back zero n l c = absurd (omega arith)
+coded-back (suc k) n l c =
+    let e : suc k - 1 ≡ k = omega arith in
+    rw e (rw (last-code k n) at (c .codes k (omega arith)), record { few = omega (arith, c .few); codes = λ i m. rw (earlier-code k n i m) at (c .codes i (omega arith)) })
+
 -- one place more
 pub one-more : (k n c : ℕ) → c < 32 → codesOf (k + 1) (n * 32 + c) ≡ codesOf k n ++ (c ∷ [])
 unfolding codesOf

@@ -13,8 +13,8 @@ use crate::facts::WRITTEN;
 use crate::facts::reads_asked;
 use crate::facts::wide;
 use crate::sets;
+use crate::state::CODES;
 use crate::state::Search;
-use crate::state::code_at;
 
 // What register holds before any writer.
 fn start_value(starts: &[u32; 32], register: usize) -> u64
@@ -49,13 +49,14 @@ pub fn content(
     requires { ⌜ register < 32 ⌝ }
     ensures { λ r. ⌜ r ≡ contentAt (now (starts .entry)) (now (facts .entry)) (codesOf filled placed) register ⌝ }
 {
+    let mut rest = placed;
     let mut left = filled;
     while left > 0 {
-        let code = code_at(placed, filled - left);
-        let w = write_of(facts, code, register);
+        let w = write_of(facts, (rest % CODES) as usize, register);
         if w != 0 {
             return w - 1;
         }
+        rest = rest / CODES;
         left -= 1;
     }
     start_value(starts, register)

@@ -7,7 +7,7 @@ ghost use Rattle.places.specs.State.{Placeable, Extends, Ordered, PlaceO
 use crate::sets;
 
 // A place is one of so many codes, in so many bits.
-const CODES: u64 = 32;
+pub const CODES: u64 = 32;
 
 const BITS: usize = 5;
 

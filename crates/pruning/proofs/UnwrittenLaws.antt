@@ -2,12 +2,13 @@
 -- Assumes nothing.
 use mathlib.Core.Path.{_≡_, refl, sym, ap, _∙_}
 use Prim.Native.Nat.{ℕ, zero, suc, _+_, _*_, _-_, _/_, _%_, _^_, _≤_, _<_}
+use native.Mathlib.Nat.{le-refl}
 use native.Mathlib.Omega.{arith}
 use mathlib.Core.List.{List, [], _∷_, _++_}
 use mathlib.Core.Bool.{Bool, true, false, cond}
 use mathlib.Core.Option.{some}
 use lib.ListN.{length, take, getD, length-append, List·getD-append}
-use lib.Seq.{getD-append-seam}
+use lib.Seq.{getD-append-seam, take-suc, take-all}
 use lib.Bits.{bitXor}
 use lib.Dec.{eqb, ltb}
 use borrow.Author.Tests.{eqb-true, eqb-false, ltb-true, lt-ltb}
@@ -22,7 +23,7 @@ use Rattle.places.specs.Tree.{Constraints, Completion, asking, constraints, rem
 use Rattle.pruning.specs.Runs.{Written, WrittenByAny, NoOther, Codes, Asked}
 use Rattle.lists.proofs.BitLaws.{member-lt, and-member, member-and, member-xor, bit-all}
 use Rattle.places.proofs.SetLaws.{member-passes, members-pass}
-use Rattle.places.proofs.LookupLaws.{aborted-wrote, committed-wrote, all-after, before-any, passed-over}
+use Rattle.places.proofs.LookupLaws.{aborted-wrote, committed-wrote, before-any, passed-over}
 
 -- what the masks say of the table
 pub no-other : (F : List (List ℕ)) (m : List ℕ) (any : ℕ) → Written F m → WrittenByAny m any → NoOther F any
@@ -41,13 +42,13 @@ module _ (o : List ℕ) (F : List (List ℕ)) (any : ℕ) (other : NoOther F any
       go false e = committed-wrote F r code (eqb-false _ _ e) ∙ other .none (code / 2) r (omega arith) low out
 
   still-start : (p : List ℕ) → Codes p → (n : ℕ) → n ≤ length p → contents (startOf o) (writesIn F) (decode (take n p)) r ≡ startOf o r
-  still-start p g zero l = before-any (startOf o) F p r
+  still-start p g zero l = before-any (startOf o) F r
   still-start p g (suc n) l =
-      let e : suc n - 1 ≡ n = omega arith in
-      passed-over (startOf o) F p r (suc n) 0 (omega arith) l (sym (nothing-left _ (g (suc n - 1) (omega arith)))) refl ∙ (rw e (still-start p g n (omega arith)))
+      rw (take-suc p n 0 l)
+      (passed-over (startOf o) F r (take n p) (getD p n 0) 0 (sym (nothing-left _ (g n l))) refl ∙ still-start p g n (omega arith))
 
   holds-start : (p : List ℕ) → Codes p → contents (startOf o) (writesIn F) (decode p) r ≡ startOf o r
-  holds-start p g = all-after (startOf o) F p r (length p) refl ∙ still-start p g (length p) (omega arith)
+  holds-start p g = rw (take-all (length p) p (le-refl (length p))) at (still-start p g (length p) (omega arith))
 
   -- a read of it that is legal before any places is legal after these
   pub legal-after : (t : ℕ) (p : List ℕ) → Codes p → legalAt o F [] t r ≡ true → legalAt o F p t r ≡ true
