@@ -56,7 +56,8 @@ abbrev still-needed-μ-loop : still-needed-lts.MeasureT-loop
 still-needed-μ-loop facts need ready left₀ left = left
 
 -- the transaction of a turn is one of those left
-asked : (t : ℕ) (a : still-needed-lts.After-lowest (claims t) (still-needed-at t) still-needed.Post still-needed-Inv-loop still-needed-μ-loop) → bitAt (a .lowest .result) (a .before .before .loop .left) ≡ 1
+asked : (t : ℕ) (a : still-needed-lts.After-lowest (claims t) (still-needed-at t) still-needed.Post still-needed-Inv-loop still-needed-μ-loop)
+    → bitAt (a .lowest .result) (a .before .before .loop .left) ≡ 1
 asked t a =
     let at = a .before .before .loop in
     lowest-member _ (at .left) (omega (arith, at .inv .0 .few, a .before .before .before .fits .need .fits)) (a .before .loop-test .taken) (a .lowest .ensures)
