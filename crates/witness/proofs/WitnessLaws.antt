@@ -5,18 +5,18 @@ use Prim.Native.Nat.{ℕ, suc, _+_, _*_, _-_, _/_, _%_, _^_, _≤_, _<_}
 use native.Mathlib.Nat.{le-of-lt}
 use native.Mathlib.Numerals.{add-one}
 use native.Mathlib.Omega.{arith}
-use mathlib.Core.Bool.{Bool, true, false, not, cond}
+use mathlib.Core.Bool.{Bool, true, false, not, cond, false≢true}
 use mathlib.Core.List.{List, [], _∷_, _++_}
 use mathlib.Core.Option.{Option, none, some, Option·getD}
 use lib.Dec.{eqb, ltb}
 use lib.ListN.{length, take, getD}
 use lib.Pow.{pow-add, pow-mono}
 use borrow.Author.Tests.{ne-eqb, ltb-true, lt-ltb}
-use Rattle.lists.specs.Lists.{all}
+use Rattle.lists.specs.Lists.{_or_, all}
 use Rattle.events.specs.declared.event.Event.{Event}
-use Rattle.events.specs.Events.{eventAt, isBegin, isRead, isCommit, isAbort, begins}
+use Rattle.events.specs.Events.{eventAt, isBegin, isRead, isCommit, isAbort, isEnd, begins}
 use Rattle.log.specs.Starts.{startOf}
-use Rattle.lists.proofs.ListLaws.{and-l, and-r, and-i, all-weaken}
+use Rattle.lists.proofs.ListLaws.{and-l, and-r, and-i, nor-l, nor-r, all-weaken}
 use Rattle.events.proofs.EventLaws.{begins-snoc, begins-same}
 use Rattle.events.proofs.QuestionLaws as asking
 use Rattle.opacity.specs.Transactions.{lastWrite}
@@ -71,17 +71,22 @@ module _ (starts : List ℕ) (w : List (List ℕ)) (n order : ℕ) (e : Event) w
     unfolding kept carries carriedCode
     kept-read r = rw (b, r)
 
-    pub kept-commit : isRead e ≡ false → isCommit e ≡ true → cond (outcome (e .transaction) (decode (codesOf n order))) order 0 ≡ kept starts w n order e
-    unfolding kept carries carriedCode
-    kept-commit r c = rw (b, r, c)
+    pub kept-end : isRead e ≡ false → isEnd e ≡ true
+        → cond (cond (isCommit e) (outcome (e .transaction) (decode (codesOf n order))) (not (outcome (e .transaction) (decode (codesOf n order))))) order 0
+        ≡ kept starts w n order e
+    unfolding kept carries carriedCode isEnd _or_
+    kept-end r t = rw (b, r) (go (isCommit e) (isAbort e) t)
+      where
+        go : (c a : Bool) → (c or a) ≡ true
+            → cond (cond c (outcome (e .transaction) (decode (codesOf n order))) (not (outcome (e .transaction) (decode (codesOf n order))))) order 0
+            ≡ cond (cond c (outcome (e .transaction) (decode (codesOf n order))) (cond a (not (outcome (e .transaction) (decode (codesOf n order)))) true)) order 0
+        go true a k = refl
+        go false true k = refl
+        go false false k = absurd (false≢true k)
 
-    pub kept-abort : isRead e ≡ false → isCommit e ≡ false → isAbort e ≡ true → cond (not (outcome (e .transaction) (decode (codesOf n order)))) order 0 ≡ kept starts w n order e
-    unfolding kept carries carriedCode
-    kept-abort r c a = rw (b, r, c, a)
-
-    pub kept-other : isRead e ≡ false → isCommit e ≡ false → isAbort e ≡ false → order ≡ kept starts w n order e
-    unfolding kept carries carriedCode
-    kept-other r c a = rw (b, r, c, a)
+    pub kept-other : isRead e ≡ false → isEnd e ≡ false → order ≡ kept starts w n order e
+    unfolding kept carries carriedCode isEnd
+    kept-other r t = rw (b, r, nor-l _ _ t, nor-r _ _ t)
 
 -- there is room for one place more
 pub room-more : (n order : ℕ) → n < 10 → order < 2 ^ (n * 5 + 1) → order < 2 ^ 46

@@ -1,6 +1,7 @@
 // The witness: an order of places that justifies the prefix passed, as the search answers it, carried on to the next event.
 ghost use mathlib.Core.Path.{_≡_};
-ghost use mathlib.Core.Bool.{cond};
+ghost use mathlib.Core.Bool.{cond, not};
+ghost use Rattle.events.specs.Events.{isCommit};
 ghost use Prim.Native.Nat.{_<_};
 ghost use Rattle.log.specs.Starts.{startOf};
 ghost use Rattle.opacity.specs.Justification.{outcome};
@@ -9,9 +10,9 @@ ghost use Rattle.places.specs.Places.{codesOf, decode, writesIn};
 ghost use Rattle.places.specs.State.{Ordered};
 ghost use Rattle.witness.specs.Witness.{kept, Carryable};
 use events::event::Event;
-use events::event::is_abort;
 use events::event::is_begin;
 use events::event::is_commit;
+use events::event::is_end;
 use events::event::is_read;
 use places::facts::Facts;
 use places::facts::WRITTEN;
@@ -51,6 +52,18 @@ fn is_committed(order: u64, count: usize, t: u16) -> bool
     p.committed
 }
 
+// Is the outcome of the event's transaction in the order the one that the event records?
+fn ends_so(order: u64, count: usize, e: Event) -> bool
+    requires { ⌜ Ordered count order ⌝ }
+    requires { ⌜ e .transaction < count ⌝ }
+    ensures { λ r. ⌜
+        r ≡ cond (isCommit e) (outcome (e .transaction) (decode (codesOf count order)))
+        (not (outcome (e .transaction) (decode (codesOf count order)))) ⌝ }
+{
+    let committed = is_committed(order, count, e.transaction);
+    if is_commit(e) { committed } else { !committed }
+}
+
 // The order, if it holds, and else 0.
 fn order_if(holds: bool, order: u64) -> u64
     ensures { λ r. ⌜ r ≡ cond holds order 0 ⌝ }
@@ -74,11 +87,8 @@ pub fn carry(starts: &[u32; 32], facts: &[Facts; 11], order: u64, count: usize, 
         let v = seen_by(starts, facts, order, count, e);
         return order_if(v == wide(e.value), order);
     }
-    if is_commit(e) {
-        return order_if(is_committed(order, count, e.transaction), order);
-    }
-    if is_abort(e) {
-        return order_if(!is_committed(order, count, e.transaction), order);
+    if is_end(e) {
+        return order_if(ends_so(order, count, e), order);
     }
     order
 }

@@ -1,11 +1,11 @@
 -- `witness::carry` meets its contract: by the tests. Assumes nothing.
 use Prim.Native.Nat.{ℕ, _<_, _^_}
 use mathlib.Core.Path.{_≡_, sym, ap, ap₂, _∙_}
-use mathlib.Core.Bool.{Bool, true, false, not, cond}
+use mathlib.Core.Bool.{Bool, true, false, cond}
 use native.Mathlib.Omega.{arith}
 use lib.Dec.{eqb}
-use Rattle.events.specs.Events.{isBegin, isRead, isCommit}
-use Rattle.witness.proofs.WitnessLaws.{kept-begin, kept-read, kept-commit, kept-abort, kept-other, room-more}
+use Rattle.events.specs.Events.{isBegin, isRead}
+use Rattle.witness.proofs.WitnessLaws.{kept-begin, kept-read, kept-end, kept-other, room-more}
 use borrow.Author.Needs.{needs}
 use Rattle.witness.proofs.carry.Statement.{statement}
 use Rattle.witness.proofs.carry.Tie as tie
@@ -19,9 +19,6 @@ not-begin a = sym (a .before .is-begin .ensures) ∙ a .if1 .left
 
 not-read : (a : tie.Else2) → isRead (a .before .before .before .before .args .e) ≡ false
 not-read a = sym (a .before .is-read .ensures) ∙ a .if2 .left
-
-not-commit : (a : tie.Else3) → isCommit (a .before .before .before .before .before .before .args .e) ≡ false
-not-commit a = sym (a .before .is-commit .ensures) ∙ a .if3 .left
 
 -- there is room for one place more
 room : (a : tie.Then1) → a .before .before .args .order < 2 ^ 46
@@ -54,8 +51,8 @@ returns-2 c =
     c .order-if .ensures ∙ ap₂ (λ (x y : ℕ). cond (eqb x y) (a .order) 0) (c .before .before .seen-by .ensures) (c .before .wide .ensures)
     ∙ kept-read (a .starts .now) (a .facts .now) (a .count) (a .order) (a .e) (not-begin b) (sym (t .before .is-read .ensures) ∙ t .if2 .taken)
 
-is-committed-requires : tie.Need-is-committed-requires
-is-committed-requires c κs =
+ends-so-requires : tie.Need-ends-so-requires
+ends-so-requires c κs =
     let b = c .before .before .before .before in
     let s = b .before .before in
     (s .pre .ordered, s .pre .known (not-begin b))
@@ -66,37 +63,19 @@ returns-3 c =
     let r = t .before .before in
     let b = r .before .before in
     let a = b .before .before .args in
-    c .order-if2 .ensures ∙ ap (λ (x : Bool). cond x (a .order) 0) (c .before .is-committed .ensures)
-    ∙ kept-commit (a .starts .now) (a .facts .now) (a .count) (a .order) (a .e) (not-begin b) (not-read r) (sym (t .before .is-commit .ensures) ∙ t .if3 .taken)
-
-is-committed-requires-2 : tie.Need-is-committed-requires-2
-is-committed-requires-2 c κs =
-    let b = c .before .before .before .before .before .before in
-    let s = b .before .before in
-    (s .pre .ordered, s .pre .known (not-begin b))
+    c .order-if2 .ensures ∙ ap (λ (x : Bool). cond x (a .order) 0) (c .before .ends-so .ensures)
+    ∙ kept-end (a .starts .now) (a .facts .now) (a .count) (a .order) (a .e) (not-begin b) (not-read r) (sym (t .before .is-end .ensures) ∙ t .if3 .taken)
 
 returns-4 : tie.Need-returns-4
 returns-4 c =
-    let t = c .before .before in
-    let d = t .before .before in
-    let r = d .before .before in
+    let r = c .before .before in
     let b = r .before .before in
     let a = b .before .before .args in
-    c .order-if3 .ensures ∙ ap (λ (x : Bool). cond (not x) (a .order) 0) (c .before .is-committed2 .ensures)
-    ∙ kept-abort (a .starts .now) (a .facts .now) (a .count) (a .order) (a .e) (not-begin b) (not-read r) (not-commit d) (sym (t .before .is-abort .ensures) ∙ t .if4 .taken)
-
-returns-5 : tie.Need-returns-5
-returns-5 c =
-    let d = c .before .before in
-    let r = d .before .before in
-    let b = r .before .before in
-    let a = b .before .before .args in
-    kept-other (a .starts .now) (a .facts .now) (a .count) (a .order) (a .e) (not-begin b) (not-read r) (not-commit d) (sym (c .before .is-abort .ensures) ∙ c .if4 .left)
+    kept-other (a .starts .now) (a .facts .now) (a .count) (a .order) (a .e) (not-begin b) (not-read r) (sym (c .before .is-end .ensures) ∙ c .if3 .left)
 
 pub carry-spec : {M : Type 1} → statement M
 carry-spec =
     tie.close
     (tie.spec (λ c κs. search needs) mul-result (λ c. search needs) (λ c. search needs) add-result
     returns (λ c κs. search needs) seen-by-requires (λ c κs. search needs) (λ c κs. search needs)
-    returns-2 (λ c κs. search needs) is-committed-requires (λ c κs. search needs) returns-3
-    (λ c κs. search needs) is-committed-requires-2 (λ c κs. search needs) returns-4 returns-5)
+    returns-2 (λ c κs. search needs) ends-so-requires (λ c κs. search needs) returns-3 returns-4)
