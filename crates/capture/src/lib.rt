@@ -16,9 +16,9 @@ use counts::tally::Tally;
 use counts::tally::tally_of;
 use events::refusal::Refusal;
 use log::rows::BLANK;
-use log::rows::FEW;
 use log::rows::MOST;
 use log::rows::Row;
+use log::rows::SHORT;
 use log::rows::transactions_begun;
 use marking::check::Ruling;
 use marking::check::check_log;
@@ -98,7 +98,7 @@ pub fn report_on(history: &[u8], marking: &[u8]) -> Report
     ensures { λ r. ⌜ r ≡ reportOn (now (history .entry)) (now (marking .entry)) ⌝ }
 {
     if history.len() <= SHORT_FILE {
-        let mut few = [BLANK; FEW];
+        let mut few = [BLANK; SHORT];
         return report_in(history, marking, &mut few);
     }
     let mut rows = [BLANK; MOST];

@@ -14,9 +14,9 @@ use events::refusal::Refusal;
 use log::admit::Checked;
 use log::admit::admit;
 use log::rows::BLANK;
-use log::rows::FEW;
 use log::rows::MOST;
 use log::rows::Row;
+use log::rows::SHORT;
 use log::rows::transactions_begun;
 use records::record::Record;
 
@@ -79,8 +79,8 @@ pub fn count_transactions(
         (now (values .entry))) count ⌝ }
 {
     let starts = [0u32; 32];
-    if count <= FEW {
-        let mut few = [BLANK; FEW];
+    if count <= SHORT {
+        let mut few = [BLANK; SHORT];
         let checked = admit(
             Record::STARTS_EDITION,
             &starts,
@@ -119,8 +119,8 @@ pub fn count_store_reads(
         (now (values .entry))) count ⌝ }
 {
     let starts = [0u32; 32];
-    if count <= FEW {
-        let mut few = [BLANK; FEW];
+    if count <= SHORT {
+        let mut few = [BLANK; SHORT];
         let checked = admit(
             Record::STARTS_EDITION,
             &starts,
@@ -159,8 +159,8 @@ pub fn tally_transactions(
         (now (values .entry))) count ⌝ }
 {
     let starts = [0u32; 32];
-    if count <= FEW {
-        let mut few = [BLANK; FEW];
+    if count <= SHORT {
+        let mut few = [BLANK; SHORT];
         let checked = admit(
             Record::STARTS_EDITION,
             &starts,

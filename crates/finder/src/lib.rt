@@ -20,18 +20,16 @@ use log::admit::Checked;
 use log::admit::admit;
 use log::columns::columns_hold;
 use log::rows::BLANK;
-use log::rows::FEW;
 use log::rows::MOST;
 use log::rows::Row;
+use log::rows::SHORT;
 use log::rows::transactions_begun;
 use log::starts::is_admitted;
 use lowest::find_order;
+use places::facts::SEARCHED;
 use reads::FEW_SLOTS;
 use reads::count_by;
 use records::record::Record;
-
-// Question 31: at most this many transactions are searched.
-const SEARCHED: usize = 10;
 
 // The finder's answer: the length of the marking written, none, or the question that says no with its event.
 pub enum Finding {
@@ -162,8 +160,8 @@ pub fn find_marking(
         let admitted = is_admitted(edition, starts);
         return Finding::Refused(prefix_refused(held, admitted, count));
     }
-    if count <= FEW {
-        let mut few = [BLANK; FEW];
+    if count <= SHORT {
+        let mut few = [BLANK; SHORT];
         let checked = admit(
             edition,
             starts,

@@ -8,6 +8,7 @@ use lib.Dec.{eqb}
 use lib.ListN.{drop}
 use Rattle.log.specs.Starts.{startOf}
 use Rattle.events.specs.declared.event.Event.{Event}
+use Rattle.events.specs.Events.{aWrite}
 use Rattle.opacity.specs.Justification.{Place, written, contents}
 use Rattle.opacity.specs.Lowest.{place}
 
@@ -32,7 +33,7 @@ plus (some v) = v + 1
 -- an entry of the table, if it is not 0, as a write of t to r
 abbrev pub consWrite : ℕ → ℕ → ℕ → List Event → List Event
 consWrite t r zero h = h
-consWrite t r (suc v) h = record { kind = 19; transaction = t; register = r; value = v } ∷ h
+consWrite t r (suc v) h = aWrite t r v ∷ h
 
 -- the writes of t that a row holds from register r on, and then the history h
 unfoldable pub rowFrom : ℕ → ℕ → List ℕ → List Event → List Event

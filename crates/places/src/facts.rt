@@ -2,18 +2,20 @@
 ghost use mathlib.Core.Path.{_≡_};
 ghost use Prim.Native.Nat.{_<_};
 ghost use Rattle.places.specs.Facts.{readsAsked};
+use events::before::Before;
 
 // The row of a transaction, or of the end: 67 numbers, in the columns below. It has nine lines of 64 bytes, so that the place of a row is
 // found by an addition and a shift: the walks of the search find one at each step.
 pub type Facts = [u64; 72];
 
-// The rows of the transactions come first.
-pub const TRANSACTIONS: usize = 10;
+// Question 31: at most so many transactions are searched. Their rows come first.
+pub const SEARCHED: usize = 10;
 
 // The row of the end: it has no outcome and writes nothing.
 pub const END: usize = 10;
 
-pub const REGISTERS: usize = 32;
+// As an index, how many registers there are.
+pub const REGISTERS: usize = Before::REGISTERS as usize;
 
 // Those that must come before it, one bit each.
 pub const AFTER: usize = 0;

@@ -16,7 +16,7 @@ use places::facts::ALLOWED;
 use places::facts::Facts;
 use places::facts::REGISTERS;
 use places::facts::REQUIRED;
-use places::facts::TRANSACTIONS;
+use places::facts::SEARCHED;
 use places::facts::WRITTEN;
 use places::facts::reads_asked;
 use places::facts::wide;
@@ -59,7 +59,7 @@ pub fn registers_written(facts: &[Facts; 11]) -> [u32; 10]
 {
     let mut registers = [0u32; 10];
     let mut t: usize = 0;
-    while t < TRANSACTIONS {
+    while t < SEARCHED {
         registers[t] = registers_of(facts, t);
         t += 1;
     }
@@ -112,8 +112,8 @@ pub fn effects_among(facts: &[Facts; 11], asked: u32, writes: &[u32; 10]) -> [u6
     let mut effects = [HELPED; 100];
     let mut i: usize = 0;
     while i < 100 {
-        let x = i / TRANSACTIONS;
-        let t = i % TRANSACTIONS;
+        let x = i / SEARCHED;
+        let t = i % SEARCHED;
         let registers = reads_asked(facts, t, asked);
         effects[i] = effect(facts, x, t, registers, writes[x]);
         i += 1;
@@ -232,7 +232,7 @@ pub fn orphaned(
     let mut left = need;
     while left != 0 {
         let t = sets::lowest(left);
-        let registers = overwritten(effects[x * TRANSACTIONS + t]);
+        let registers = overwritten(effects[x * SEARCHED + t]);
         if orphan(
             starts,
             facts,

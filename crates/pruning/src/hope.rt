@@ -20,7 +20,7 @@ use places::facts::ALLOWED;
 use places::facts::COMMITTED;
 use places::facts::END;
 use places::facts::Facts;
-use places::facts::TRANSACTIONS;
+use places::facts::SEARCHED;
 use places::lookup::legal_reads;
 use places::sets;
 use places::state::Search;
@@ -109,7 +109,7 @@ fn ready_after(
     let mut left = s.unplaced;
     while left != 0 {
         let t = sets::lowest(left);
-        let effect = effects[x * TRANSACTIONS + t];
+        let effect = effects[x * SEARCHED + t];
         let passes = still_ready(starts, facts, asked, s, ready, t, effect);
         after = kept(after, t, passes);
         left = sets::without(left, t);

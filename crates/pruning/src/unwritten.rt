@@ -3,7 +3,7 @@ ghost use mathlib.Core.Path.{_≡_};
 ghost use Rattle.pruning.specs.Runs.{Written, WrittenByAny, Asked};
 use places::facts::ALL;
 use places::facts::Facts;
-use places::facts::TRANSACTIONS;
+use places::facts::SEARCHED;
 use places::lookup::legal_reads;
 use places::state::Search;
 
@@ -13,7 +13,7 @@ fn written_by_any(writes: &[u32; 10]) -> u32
 {
     let mut any = 0u32;
     let mut t: usize = 0;
-    while t < TRANSACTIONS {
+    while t < SEARCHED {
         any = any | writes[t];
         t += 1;
     }
@@ -33,7 +33,7 @@ pub fn registers_asked(starts: &[u32; 32], facts: &[Facts; 11], writes: &[u32; 1
         placed: 1,
     };
     let mut t: usize = 0;
-    while t <= TRANSACTIONS {
+    while t <= SEARCHED {
         if !legal_reads(starts, facts, ALL ^ any, nothing, t) {
             return ALL;
         }

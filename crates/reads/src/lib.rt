@@ -22,7 +22,7 @@ use log::rows::transactions_begun;
 pub const NO_POINT: u16 = 65535;
 
 // So many transactions are few: their last writes have a table that is soon cleared.
-const FEW: usize = 10;
+const FEW_TRANSACTIONS: usize = 10;
 
 // The slots of that table, one a register.
 pub const FEW_SLOTS: usize = 320;
@@ -141,7 +141,7 @@ pub fn count_store_reads(log: &[Row]) -> usize
     requires { ⌜ readable (logged (now log)) ≡ true ⌝ }
     ensures { λ r. ⌜ r ≡ length (storeReads (logged (now (log .entry)))) ⌝ }
 {
-    if transactions_begun(log) <= FEW {
+    if transactions_begun(log) <= FEW_TRANSACTIONS {
         let mut few = [0u16; FEW_SLOTS];
         return count_by(log, &mut few);
     }

@@ -27,7 +27,7 @@ pub type Writer = [u32; 2];
 
 pub const LAST: usize = 0;
 
-pub const REGISTERS: usize = 1;
+pub const WRITES: usize = 1;
 
 // A number as a field of a row, and back.
 fn as_field(x: u16) -> u32

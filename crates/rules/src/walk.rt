@@ -5,7 +5,7 @@ ghost use Rattle.log.specs.Rows.{logged};
 ghost use Rattle.links.specs.Writes.{plusOne};
 ghost use Rattle.rules.specs.Walks.{startAt, lastIn, Walkable};
 use crate::places::LAST;
-use crate::places::REGISTERS;
+use crate::places::WRITES;
 use crate::places::Writer;
 use crate::places::from_field;
 use links::tables::index_of;
@@ -25,7 +25,7 @@ fn start_at(writers: &[Writer; 64], own: usize, r: u16, k: usize) -> usize
         return 0;
     }
     let writer = writers[k];
-    if !has_register(writer[REGISTERS], index_of(r)) {
+    if !has_register(writer[WRITES], index_of(r)) {
         return 0;
     }
     from_field(writer[LAST])

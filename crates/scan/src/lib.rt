@@ -20,15 +20,13 @@ use events::state::begun_after;
 use log::admit::Checked;
 use log::admit::admit;
 use log::rows::BLANK;
-use log::rows::FEW;
 use log::rows::MOST;
 use log::rows::Row;
+use log::rows::SHORT;
 use log::rows::event_at;
 use log::rows::transactions_begun;
 use opacity::verdict::Scanned;
-
-// Question 31: at most this many transactions are searched.
-const SEARCHED: usize = 10;
+use places::facts::SEARCHED;
 
 // The scan's answer: opaque, or the event and the cause; or the question that says no, with its event.
 pub enum Scanning {
@@ -131,8 +129,8 @@ pub fn scan_history(
         r ≡ scanAnswer edition (now (starts .entry))
         (columns (now (kinds .entry)) (now (transactions .entry)) (now (registers .entry)) (now (values .entry))) count ⌝ }
 {
-    if count <= FEW {
-        let mut few = [BLANK; FEW];
+    if count <= SHORT {
+        let mut few = [BLANK; SHORT];
         let checked = admit(
             edition,
             starts,

@@ -35,9 +35,9 @@ use links::writes::links;
 use log::admit::Checked;
 use log::admit::admit;
 use log::rows::BLANK;
-use log::rows::FEW;
 use log::rows::MOST;
 use log::rows::Row;
+use log::rows::SHORT;
 use log::rows::transactions_begun;
 use marking_reader::read::read_marking;
 use marking_writer::write_marking;
@@ -252,8 +252,8 @@ pub fn straighten(
         (columns (now (kinds .entry)) (now (transactions .entry)) (now (registers .entry)) (now (values .entry)))
         count (now (file .entry)) (now (output .entry)) (now (moved .entry)) ⌝ }
 {
-    if count <= FEW {
-        let mut few = [BLANK; FEW];
+    if count <= SHORT {
+        let mut few = [BLANK; SHORT];
         let checked = admit(
             edition,
             starts,

@@ -18,10 +18,8 @@ use places::facts::Facts;
 use places::facts::WRITTEN;
 use places::facts::wide;
 use places::lookup::content;
+use places::state::CODES;
 use places::state::place_of;
-
-// A place is one of so many codes.
-const CODES: u64 = 32;
 
 // What the transaction of an event reads in its register: what it wrote there last, or what the register holds before its place.
 fn seen_by(starts: &[u32; 32], facts: &[Facts; 11], order: u64, count: usize, e: Event) -> u64
