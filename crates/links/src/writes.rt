@@ -2,6 +2,7 @@
 // without going through the events of others.
 ghost use mathlib.Core.Path.{_≡_};
 ghost use mathlib.Core.Bool.{true};
+ghost use Prim.Native.Nat.{_≤_};
 ghost use lib.ListN.{length};
 ghost use Rattle.events.specs.Questions.{readable};
 ghost use Rattle.log.specs.Rows.{logged};
@@ -14,9 +15,9 @@ use log::rows::event_at;
 
 // For each event, one past the last write of its transaction before it, with 0 for none; the entries
 // past the last event are left as they were.
-pub fn links(log: &[Row], link: &mut [u16; 2048])
+pub fn links(log: &[Row], link: &mut [u16])
     requires { ⌜ readable (logged (now log)) ≡ true ⌝ }
-    requires { ⌜ length (now link) ≡ 2048 ⌝ }
+    requires { ⌜ length (now log) ≤ length (now link) ⌝ }
     ensures { λ r. ⌜ Linked (logged (now (log .entry))) (now (link .exit)) ⌝ }
 {
     let mut last = [0u16; 64];

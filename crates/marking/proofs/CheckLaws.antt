@@ -17,6 +17,7 @@ judgeable y links kept =
       readable = y;
       linked = links;
       ordered = kept .ordered;
+      gaps-room = kept .gaps-room;
       pointed = λ i l. sym (kept .pointed i l);
       gaps-fit = kept .gaps-fit;
     }

@@ -1,7 +1,8 @@
 // The checker: the questions of the history, those of the marking file, and the verdict.
 ghost use mathlib.Core.Path.{_≡_};
 ghost use mathlib.Core.Bool.{true};
-ghost use lib.ListN.{take};
+ghost use Prim.Native.Nat.{ℕ, _≤_, _<_};
+ghost use lib.ListN.{length, getD, take};
 ghost use Rattle.events.specs.Questions.{readable};
 ghost use Rattle.log.specs.Columns.{columns};
 ghost use Rattle.log.specs.Rows.{logged, Entered};
@@ -38,26 +39,51 @@ pub enum Ruling {
     Refused(Refusal),
 }
 
-// Checks a marking file against the readable history in a log.
+// Checks a marking file against the readable history in a log, by way of lent tables that have an entry
+// for each event; that of gaps holds no point.
+fn check_by(
+    starts: &[u32; 32],
+    log: &[Row],
+    file: &[u8],
+    own: &mut [u16],
+    gaps: &mut [u16],
+    link: &mut [u16],
+) -> Ruling
+    requires { ⌜ readable (logged (now log)) ≡ true ⌝ }
+    requires { ⌜ (length (now log) ≤ length (now own)) × (length (now log) ≤ length (now gaps)) × (length (now log) ≤ length (now link)) ⌝ }
+    requires { ⌜ ((i : ℕ) → i < length (now gaps) → getD (now gaps) i 0 ≡ 65535) ⌝ }
+    ensures { λ r. ⌜ r ≡ ruling (startOf (now (starts .entry))) (logged (now (log .entry)))
+        (fileRead (known (logged (now (log .entry)))) (now (file .entry))) ⌝ }
+{
+    let begun = transactions_begun(log);
+    own_writes(log, own);
+    let mut order = [0u16; 64];
+    let mut outcomes = [0u8; 64];
+    let read = read_marking(log, own, begun, file, &mut order, &mut outcomes, gaps);
+    if let Checked::Refused(refusal) = read {
+        return Ruling::Refused(refusal);
+    }
+    links(log, link);
+    let verdict = judge(starts, log, own, link, &order, &outcomes, gaps);
+    Ruling::Ruled(verdict)
+}
+
+// Checks a marking file against the readable history in a log. A short one gets short tables.
 pub fn check_log(starts: &[u32; 32], log: &[Row], file: &[u8]) -> Ruling
     requires { ⌜ readable (logged (now log)) ≡ true ⌝ }
     ensures { λ r. ⌜ r ≡ ruling (startOf (now (starts .entry))) (logged (now (log .entry)))
         (fileRead (known (logged (now (log .entry)))) (now (file .entry))) ⌝ }
 {
-    let begun = transactions_begun(log);
-    let mut own = [0u16; 2048];
-    own_writes(log, &mut own);
-    let mut order = [0u16; 64];
-    let mut outcomes = [0u8; 64];
-    let mut gaps = [NO_POINT; 2048];
-    let read = read_marking(log, &own, begun, file, &mut order, &mut outcomes, &mut gaps);
-    if let Checked::Refused(refusal) = read {
-        return Ruling::Refused(refusal);
+    if log.len() <= SHORT {
+        let mut own = [0u16; SHORT];
+        let mut gaps = [NO_POINT; SHORT];
+        let mut link = [0u16; SHORT];
+        return check_by(starts, log, file, &mut own, &mut gaps, &mut link);
     }
-    let mut link = [0u16; 2048];
-    links(log, &mut link);
-    let verdict = judge(starts, log, &own, &link, &order, &outcomes, &gaps);
-    Ruling::Ruled(verdict)
+    let mut own = [0u16; MOST];
+    let mut gaps = [NO_POINT; MOST];
+    let mut link = [0u16; MOST];
+    check_by(starts, log, file, &mut own, &mut gaps, &mut link)
 }
 
 // The checker's answer, where the history is readable.

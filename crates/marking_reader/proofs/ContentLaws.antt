@@ -6,7 +6,7 @@ use mathlib.Core.Path.{_≡_, refl, sym, ap, _∙_}
 use mathlib.Core.Bool.{Bool, true, false, not}
 use mathlib.Core.List.{List}
 use mathlib.Core.Option.{Option, none, some}
-use lib.ListN.{length, getD, set, replicate}
+use lib.ListN.{length, getD, set, replicate, length-replicate}
 use Rattle.events.specs.declared.event.Event.{Event}
 use Rattle.lists.specs.Lists.{every}
 use Rattle.events.specs.Events.{begins}
@@ -89,7 +89,8 @@ module _ (h : List Event) (s : List ℕ) (m′ : Marking) where
       go : (o : Option ℕ) → afterOpening (known h) s o ≡ content m′ → Arrays h m′
       go none d =
           walk-content (suc (length s)) 6 (replicate 64 0) (replicate 64 0) (replicate 64 false) 0 (replicate 2048 65535) 0
-          (sound-start h (replicate 64 0) (replicate 64 0) (replicate 2048 65535) (readable-most h r) (at-most-64 h r) arrays-fresh)
+          (sound-start h (replicate 64 0) (replicate 64 0) (replicate 2048 65535) (readable-most h r) (at-most-64 h r)
+          (omega (arith, readable-most h r, length-replicate {A = ℕ} 2048 65535)) (arrays-fresh 2048))
           (ap (walk (known h) (suc (length s)) s 6) (nothing-so _ _ _) ∙ d)
       go (some q) d = absurd (refused≢content q 0 m′ d)
 

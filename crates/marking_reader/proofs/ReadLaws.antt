@@ -91,6 +91,7 @@ module _ {h : List Event} {order outcomes : List ℕ} {used : List Bool} {filled
   -- a point, likewise
   pub record Pointing (e gap end : ℕ) : Type 0 where
     pub inside : e < 2048
+    pub entry : e < length gaps
     pub onward : at < end
     pub within : end ≤ length s
     pub comes : Reached (known h) s end (soFar order outcomes filled (set gaps e gap) (e + 1))
@@ -103,6 +104,7 @@ module _ {h : List Event} {order outcomes : List ℕ} {used : List Bool} {filled
       let few = y .few in
       record {
         inside = omega (arith, inside y e gap (w .fine));
+        entry = omega (arith, inside y e gap (w .fine), y .gaps-room);
         onward = l .0;
         within = l .1;
         comes = reached _ _ end l (point-so y e gap (w .fine)) (on (Pointed e gap end) q);

@@ -52,19 +52,18 @@ no-flag (suc n) zero = refl
 no-flag (suc n) (suc t) = no-flag n t
 
 -- arrays as the callers lend them
-pub arrays-fresh : Fresh (replicate 64 0) (replicate 64 0) (replicate 2048 65535)
-arrays-fresh =
+pub arrays-fresh : (n : ℕ) → Fresh (replicate 64 0) (replicate 64 0) (replicate n 65535)
+arrays-fresh n =
     record {
       order-size = length-replicate {A = ℕ} 64 0;
       outcomes-size = length-replicate {A = ℕ} 64 0;
-      gaps-size = length-replicate {A = ℕ} 2048 65535;
-      none = λ i l. getD-replicate 2048 i 65535 0 l;
+      none = λ i l. getD-replicate n i 65535 0 (omega (arith, l, length-replicate {A = ℕ} n 65535));
     }
 
-pub sound-start : (h : List Event) (order outcomes gaps : List ℕ) → length h ≤ 2048 → begins h ≤ 64 → Fresh order outcomes gaps
-    → Sound h order outcomes (replicate 64 false) 0 gaps 0
+pub sound-start : (h : List Event) (order outcomes gaps : List ℕ) → length h ≤ 2048 → begins h ≤ 64 → length h ≤ length gaps
+    → Fresh order outcomes gaps → Sound h order outcomes (replicate 64 false) 0 gaps 0
 unfolding all distinct placed any placesOf pointsOf nextEvent latest
-sound-start h order outcomes gaps l m f =
+sound-start h order outcomes gaps l m room f =
     record {
       few = l;
       few-begun = m;
@@ -72,7 +71,7 @@ sound-start h order outcomes gaps l m f =
       order-size = f .order-size;
       outcomes-size = f .outcomes-size;
       used-size = length-replicate {A = Bool} 64 false;
-      gaps-size = f .gaps-size;
+      gaps-room = room;
       used-holds = λ t. no-flag 64 t;
       low = refl;
       apart = refl;
@@ -103,7 +102,7 @@ module _ {h : List Event} {order outcomes : List ℕ} {used : List Bool} {filled
   filled-all e = fills b P (y .low) (y .apart) (places-length order outcomes filled ∙ e)
 
   -- where an event has a gap, it is below the next
-  below-next : (i : ℕ) → i < 2048 → eqb (getD gaps i 0) 65535 ≡ false → i < next
+  below-next : (i : ℕ) → i < length gaps → eqb (getD gaps i 0) 65535 ≡ false → i < next
   below-next i l e = elim (decLe next i) [ yes m ↦ absurd (eqb-false _ _ e (y .none-after i m l)) | no u ↦ lt-of-not-le u ]
 
   -- ---- what the arrays say to the questions
@@ -147,7 +146,7 @@ module _ {h : List Event} {order outcomes : List ℕ} {used : List Bool} {filled
           none true = refl
           none false = refl
       there i l false e =
-          let w = below-next i (omega (arith, y .few)) e in rw (lt-ltb i next w)
+          let w = below-next i (omega (arith, y .gaps-room)) e in rw (lt-ltb i next w)
 
       same : (i : ℕ) → i < length h → pointBy h gaps i ≡ (isStoreRead h i implies hasPoint (pointsOf gaps next) i)
       same i l = ap (λ (x : Bool). isStoreRead h i implies x) (there i l (eqb (getD gaps i 0) 65535) refl ∙ sym (has-tabled gaps next i))
@@ -227,7 +226,7 @@ module _ {h : List Event} {order outcomes : List ℕ} {used : List Bool} {filled
           order-size = length-set order filled t ∙ y .order-size;
           outcomes-size = length-set outcomes filled o ∙ y .outcomes-size;
           used-size = length-set used t true ∙ y .used-size;
-          gaps-size = y .gaps-size;
+          gaps-room = y .gaps-room;
           used-holds = λ u. rw more-places (used-more u);
           low = rw (more-places, all-append) (and-i _ _ (y .low) (and-i _ _ (lt-ltb _ _ place-low) refl));
           apart = rw more-places (distinct-snoc P new (y .apart) fresh);
@@ -269,11 +268,11 @@ module _ {h : List Event} {order outcomes : List ℕ} {used : List Bool} {filled
         let few = y .few in
         let i = inside in
         let gl = gap-low in
-        let le : e < length gaps = rw (y .gaps-size) (omega arith) in
+        let le : e < length gaps = omega (arith, y .gaps-room, inside) in
         let z : eqb g 65535 ≡ false = ne-eqb g 65535 (λ d. omega arith) in
         rw (add-one e)
         (ap (λ (p : List Point). p ++ pointIn (set gaps e g) e)
-        (points-set gaps e g e (le-refl e) ∙ points-none gaps next e m (λ i a c. y .none-after i a (omega arith)))
+        (points-set gaps e g e (le-refl e) ∙ points-none gaps next e m (λ i a c. y .none-after i a (omega (arith, c, le))))
         ∙ rw (getD-set-same gaps e g 0 le, z))
 
     pub point-so : soFar order outcomes filled (set gaps e g) (e + 1) ≡ withPoint (read) e g
@@ -284,7 +283,7 @@ module _ {h : List Event} {order outcomes : List ℕ} {used : List Bool} {filled
     fits-now j d =
         let i = inside in
         let few = y .few in
-        let le : e < length gaps = rw (y .gaps-size) (omega arith) in
+        let le : e < length gaps = omega (arith, y .gaps-room, inside) in
         (rw (d, getD-set-same gaps e g 0 le) gap-low, rw d (and-r _ _ above-read))
 
     fits-before : (j : ℕ) → eqb (getD (set gaps e g) j 0) 65535 ≡ false → j < e → (getD (set gaps e g) j 0 ≤ b) × (isStoreRead h j ≡ true)
@@ -293,7 +292,7 @@ module _ {h : List Event} {order outcomes : List ℕ} {used : List Bool} {filled
         let i = inside in
         let few = y .few in
         let c′ : eqb (getD gaps j 0) 65535 ≡ false = rw (getD-set-other gaps e j g 0 ne) at c in
-        let f = y .fits j (below-next j (omega arith) c′) c′ in
+        let f = y .fits j (below-next j (omega (arith, d, i, y .gaps-room)) c′) c′ in
         (rw (getD-set-other gaps e j g 0 ne) (f .0), f .1)
 
     pub point-sound : Sound h order outcomes used filled (set gaps e g) (e + 1)
@@ -308,13 +307,13 @@ module _ {h : List Event} {order outcomes : List ℕ} {used : List Bool} {filled
           order-size = y .order-size;
           outcomes-size = y .outcomes-size;
           used-size = y .used-size;
-          gaps-size = length-set gaps e g ∙ y .gaps-size;
+          gaps-room = omega (arith, length-set gaps e g, y .gaps-room);
           used-holds = y .used-holds;
           low = y .low;
           apart = y .apart;
           next-holds = rw (more-points, latest-snoc);
           next-le = omega arith;
-          none-after = λ j a c. (let d = above in rw (getD-set-other gaps e j g 0 (λ k. omega arith)) (y .none-after j (omega arith) c));
+          none-after = λ j a c. (let d = above in rw (getD-set-other gaps e j g 0 (λ k. omega arith)) (y .none-after j (omega arith) (omega (arith, c, length-set gaps e g))));
           fits = λ j a c. ⊎-elim (fits-now j) (fits-before j c) (below-cases (rw (add-one e) at a));
         }
 
@@ -325,7 +324,7 @@ module _ {h : List Event} {order outcomes : List ℕ} {used : List Bool} {filled
 
     pub end-so : soFar order outcomes b gaps (length h) ≡ soFar order outcomes filled gaps next
     unfolding soFar
-    end-so = rw (all-filled, points-none gaps next (length h) (y .next-le) (λ i a c. y .none-after i a (let f = y .few in omega arith)))
+    end-so = rw (all-filled, points-none gaps next (length h) (y .next-le) (λ i a c. y .none-after i a (omega (arith, c, y .gaps-room))))
 
     end-ordered : isOrder b (placesOf order outcomes b) ≡ true
     unfolding isOrder
@@ -341,12 +340,12 @@ module _ {h : List Event} {order outcomes : List ℕ} {used : List Bool} {filled
         go true e true f = absurd (clash (imp-e _ _ (every-e (pointBy h gaps) (length h) pointed-now i l) e) (ap not f))
         go true e false f = refl
         go false e true f = refl
-        go false e false f = absurd (clash (y .fits i (below-next i (omega (arith, y .few)) f) f .1) e)
+        go false e false f = absurd (clash (y .fits i (below-next i (omega (arith, l, y .gaps-room)) f) f .1) e)
 
     end-fits : (i : ℕ) → i < length h → isStoreRead h i ≡ true → getD gaps i 0 ≤ b
     end-fits i l r =
         let z : eqb (getD gaps i 0) 65535 ≡ false = not-true _ (sym (end-pointed i l) ∙ r) in
-        y .fits i (below-next i (omega (arith, y .few)) z) z .0
+        y .fits i (below-next i (omega (arith, l, y .gaps-room)) z) z .0
 
     pub end-kept : Kept h order outcomes gaps
-    end-kept = record { gaps-size = y .gaps-size; ordered = end-ordered; pointed = end-pointed; gaps-fit = end-fits }
+    end-kept = record { gaps-room = y .gaps-room; ordered = end-ordered; pointed = end-pointed; gaps-fit = end-fits }

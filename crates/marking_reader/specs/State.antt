@@ -34,8 +34,7 @@ pub record Asking (log : List (List ℕ)) (own : List ℕ) (b : ℕ) : Type 0 wh
 pub record Fresh (order outcomes gaps : List ℕ) : Type 0 where
   pub order-size : length order ≡ 64
   pub outcomes-size : length outcomes ≡ 64
-  pub gaps-size : length gaps ≡ 2048
-  pub none : (i : ℕ) → i < 2048 → getD gaps i 0 ≡ 65535
+  pub none : (i : ℕ) → i < length gaps → getD gaps i 0 ≡ 65535
 
 -- event i, if it is a store read, has a point
 abbrev pub pointBy : List Event → List ℕ → ℕ → Bool
@@ -93,18 +92,18 @@ pub record Sound (h : List Event) (order outcomes : List ℕ) (used : List Bool)
   pub order-size : length order ≡ 64
   pub outcomes-size : length outcomes ≡ 64
   pub used-size : length used ≡ 64
-  pub gaps-size : length gaps ≡ 2048
+  pub gaps-room : length h ≤ length gaps
   pub used-holds : (t : ℕ) → getD used t false ≡ placed t (placesOf order outcomes filled)
   pub low : all (λ p. ltb (p .transaction) (begins h)) (placesOf order outcomes filled) ≡ true
   pub apart : distinct (placesOf order outcomes filled) ≡ true
   pub next-holds : nextEvent (pointsOf gaps next) ≡ next
   pub next-le : next ≤ length h
-  pub none-after : (i : ℕ) → next ≤ i → i < 2048 → getD gaps i 0 ≡ 65535
+  pub none-after : (i : ℕ) → next ≤ i → i < length gaps → getD gaps i 0 ≡ 65535
   pub fits : (i : ℕ) → i < next → eqb (getD gaps i 0) 65535 ≡ false → (getD gaps i 0 ≤ begins h) × (isStoreRead h i ≡ true)
 
 -- what the arrays hold where no question says no: every transaction is placed, and every store read has a point
 pub record Kept (h : List Event) (order outcomes gaps : List ℕ) : Type 0 where
-  pub gaps-size : length gaps ≡ 2048
+  pub gaps-room : length h ≤ length gaps
   pub ordered : isOrder (begins h) (placesOf order outcomes (begins h)) ≡ true
   pub pointed : (i : ℕ) → i < length h → isStoreRead h i ≡ not (eqb (getD gaps i 0) 65535)
   pub gaps-fit : (i : ℕ) → i < length h → isStoreRead h i ≡ true → getD gaps i 0 ≤ begins h

@@ -65,15 +65,16 @@ fn refused(question: u8, byte: usize) -> Checked
 // each store read by event. Else the answer is the question, with its byte.
 pub fn read_marking(
     log: &[Row],
-    own: &[u16; 2048],
+    own: &[u16],
     begun: usize,
     file: &[u8],
     order: &mut [u16; 64],
     outcomes: &mut [u8; 64],
-    gaps: &mut [u16; 2048],
+    gaps: &mut [u16],
 ) -> Checked
     requires { ⌜ Asking (now log) (now own) begun ⌝ }
     requires { ⌜ Fresh (now order) (now outcomes) (now gaps) ⌝ }
+    requires { ⌜ length (now log) ≤ length (now gaps) ⌝ }
     ensures { λ r. ⌜ readAs (logged (now (log .entry))) (now (order .exit)) (now (outcomes .exit)) (now (gaps .exit)) r
         ≡ fileRead (known (logged (now (log .entry)))) (now (file .entry)) ⌝ }
     ensures kept { λ r. ⌜ (r ≡ Readable → Kept (logged (now (log .entry)))

@@ -71,14 +71,7 @@ fn is_early(filled: usize, begun: usize, next: usize) -> bool
 }
 
 // The first of 28, 26 and 27 that says no to a point, or 0.
-fn point_asked(
-    log: &[Row],
-    own: &[u16; 2048],
-    begun: usize,
-    progress: Progress,
-    e: usize,
-    g: u16,
-) -> u8
+fn point_asked(log: &[Row], own: &[u16], begun: usize, progress: Progress, e: usize, g: u16) -> u8
     requires { ⌜ Asking (now log) (now own) begun ⌝ }
     ensures { λ q. ⌜ q ≡ numbered (refusal (pointQuestions begun (progress .next) (eqb (progress .filled) begun)
         (isStoreRead (logged (now (log .entry))) e) e g)) ⌝ }
@@ -121,7 +114,7 @@ fn place_step(begun: usize, used: &[bool; 64], next: usize, body: &[u8], end: us
 // 23, 28, 26 and 27 of a point.
 fn point_step(
     log: &[Row],
-    own: &[u16; 2048],
+    own: &[u16],
     begun: usize,
     progress: Progress,
     body: &[u8],
@@ -146,7 +139,7 @@ fn point_step(
 // 22 to 28 of a record's body.
 fn body_step(
     log: &[Row],
-    own: &[u16; 2048],
+    own: &[u16],
     begun: usize,
     used: &[bool; 64],
     progress: Progress,
@@ -170,7 +163,7 @@ fn body_step(
 // The body of a whole record, a part of the file, goes to the reader of its fields.
 fn record_step(
     log: &[Row],
-    own: &[u16; 2048],
+    own: &[u16],
     begun: usize,
     used: &[bool; 64],
     progress: Progress,
@@ -197,9 +190,9 @@ fn record_step(
 }
 
 // Is event i, if it is a store read, one with a point?
-fn is_pointed(log: &[Row], own: &[u16; 2048], gaps: &[u16; 2048], i: usize) -> bool
+fn is_pointed(log: &[Row], own: &[u16], gaps: &[u16], i: usize) -> bool
     requires { ⌜ OwnWrites (logged (now log)) (now own) ⌝ }
-    requires { ⌜ (i < length (now log)) × (length (now log) ≤ 2048) ⌝ }
+    requires { ⌜ (i < length (now log)) × (length (now log) ≤ length (now gaps)) ⌝ }
     ensures { λ r. ⌜ r ≡ pointBy (logged (now (log .entry))) (now (gaps .entry)) i ⌝ }
 {
     if gaps[i] != NO_POINT {
@@ -209,9 +202,9 @@ fn is_pointed(log: &[Row], own: &[u16; 2048], gaps: &[u16; 2048], i: usize) -> b
 }
 
 // Question 29: has every store read a point?
-fn every_pointed(log: &[Row], own: &[u16; 2048], gaps: &[u16; 2048]) -> bool
+fn every_pointed(log: &[Row], own: &[u16], gaps: &[u16]) -> bool
     requires { ⌜ OwnWrites (logged (now log)) (now own) ⌝ }
-    requires { ⌜ length (now log) ≤ 2048 ⌝ }
+    requires { ⌜ length (now log) ≤ length (now gaps) ⌝ }
     ensures { λ r. ⌜ r ≡ every (pointBy (logged (now (log .entry))) (now (gaps .entry))) (length (logged (now (log .entry)))) ⌝ }
 {
     let mut i: usize = 0;
@@ -225,14 +218,9 @@ fn every_pointed(log: &[Row], own: &[u16; 2048], gaps: &[u16; 2048]) -> bool
 }
 
 // 28 and 29, at the end.
-fn end_step(
-    log: &[Row],
-    own: &[u16; 2048],
-    begun: usize,
-    filled: usize,
-    gaps: &[u16; 2048],
-) -> MarkingStep
+fn end_step(log: &[Row], own: &[u16], begun: usize, filled: usize, gaps: &[u16]) -> MarkingStep
     requires { ⌜ Asking (now log) (now own) begun ⌝ }
+    requires { ⌜ length (now log) ≤ length (now gaps) ⌝ }
     ensures { λ x. ⌜ x ≡ endStep (eqb filled begun)
         (every (pointBy (logged (now (log .entry))) (now (gaps .entry))) (length (logged (now (log .entry))))) ⌝ }
 {
@@ -248,14 +236,15 @@ fn end_step(
 // What stands at the next record's byte answers.
 pub fn step_at(
     log: &[Row],
-    own: &[u16; 2048],
+    own: &[u16],
     begun: usize,
     used: &[bool; 64],
-    gaps: &[u16; 2048],
+    gaps: &[u16],
     file: &[u8],
     progress: Progress,
 ) -> MarkingStep
     requires { ⌜ Asking (now log) (now own) begun ⌝ }
+    requires { ⌜ length (now log) ≤ length (now gaps) ⌝ }
     ensures { λ x. ⌜ x ≡ stepAt (askedBy (logged (now (log .entry))) begun (now (used .entry)) (progress .filled) (progress .next))
         (every (pointBy (logged (now (log .entry))) (now (gaps .entry))) (length (logged (now (log .entry)))))
         (now (file .entry)) (progress .at) ⌝ }

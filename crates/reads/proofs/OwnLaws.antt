@@ -202,8 +202,8 @@ module _ (h : List Event) (b : ℕ) (last : List ℕ) (i : ℕ) (w : Lasts h b l
       go zero v = rw (← v) (plain (isRead (eventAt h i)))
       go (suc j) v = rw (← v, ne-eqb (suc j) 0 (λ z. omega arith)) (and-false-r (isRead (eventAt h i)) false refl)
 
-pub owned-done : (h : List Event) (own : List ℕ) (i : ℕ) → length h ≤ i → Owned h own i → OwnWrites h own
-owned-done h own i l w = record { earlier = λ j m. w .earlier j (omega arith); holds = λ j m. w .holds j (omega arith) }
+pub owned-done : (h : List Event) (own : List ℕ) (i : ℕ) → length h ≤ length own → length h ≤ i → Owned h own i → OwnWrites h own
+owned-done h own i m l w = record { room = m; earlier = λ j m. w .earlier j (omega arith); holds = λ j m. w .holds j (omega arith) }
 
 -- ---- what it says of a read
 

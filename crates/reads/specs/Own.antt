@@ -48,5 +48,6 @@ valueBefore h (suc j) = some (eventAt h j .value)
 
 -- for each event, one past an earlier one, which wrote its register last in its transaction; 0 for none
 pub record OwnWrites (h : List Event) (own : List ℕ) : Type 0 where
+  pub room : length h ≤ length own
   pub earlier : (i : ℕ) → i < length h → getD own i 0 ≤ i
   pub holds : (i : ℕ) → i < length h → valueBefore h (getD own i 0) ≡ ownWrite h i

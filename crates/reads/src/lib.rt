@@ -60,9 +60,9 @@ fn note(last: &mut [u16], e: Event, i: usize) -> u16
 }
 
 // For each event, one past the last write before it of its transaction to its register, 0 for none.
-pub fn own_writes(log: &[Row], own: &mut [u16; 2048])
+pub fn own_writes(log: &[Row], own: &mut [u16])
     requires { ⌜ readable (logged (now log)) ≡ true ⌝ }
-    requires { ⌜ length (now own) ≡ 2048 ⌝ }
+    requires { ⌜ length (now log) ≤ length (now own) ⌝ }
     ensures { λ _. ⌜ OwnWrites (logged (now (log .entry))) (now (own .exit)) ⌝ }
 {
     let mut last = [0u16; 2048];
@@ -84,18 +84,18 @@ fn reads_store(e: Event, own: u16) -> bool
 }
 
 // Is event i a read of the store?
-pub fn is_store_read(log: &[Row], own: &[u16; 2048], i: usize) -> bool
+pub fn is_store_read(log: &[Row], own: &[u16], i: usize) -> bool
     requires { ⌜ OwnWrites (logged (now log)) (now own) ⌝ }
-    requires { ⌜ (i < length (now log)) × (length (now log) ≤ 2048) ⌝ }
+    requires { ⌜ i < length (now log) ⌝ }
     ensures { λ r. ⌜ r ≡ isStoreRead (logged (now (log .entry))) i ⌝ }
 {
     reads_store(event_at(log, i), own[i])
 }
 
 // Rule C at event i: a read of what its own transaction wrote returns the last such write.
-pub fn own_right(log: &[Row], own: &[u16; 2048], i: usize) -> bool
+pub fn own_right(log: &[Row], own: &[u16], i: usize) -> bool
     requires { ⌜ OwnWrites (logged (now log)) (now own) ⌝ }
-    requires { ⌜ (i < length (now log)) × (length (now log) ≤ 2048) ⌝ }
+    requires { ⌜ i < length (now log) ⌝ }
     ensures { λ r. ⌜ r ≡ ownRight (logged (now (log .entry))) i ⌝ }
 {
     let w = own[i] as usize;

@@ -130,6 +130,7 @@ module _ {h : List Event} {link order outcomes gaps : List ℕ} (y : Judgeable h
             record {
               walk = record { readable = y .readable; linked = y .linked; low = λ k. rw (row-last writers k, writing .holds k) (low k (ltb k (begins h)) refl) };
               places-low = v .low;
+              gaps-room = y .gaps-room;
               gaps-low = λ i l r. (let a = y .gaps-fit i l (sym (y .pointed i l) ∙ r) in let b = few-begun in omega arith);
             }
           where

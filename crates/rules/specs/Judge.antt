@@ -38,6 +38,7 @@ pub record Judgeable (h : List Event) (link order outcomes gaps : List ℕ) : Ty
   pub readable : readable h ≡ true
   pub linked : Linked h link
   pub ordered : isOrder (begins h) (placesOf order outcomes (begins h)) ≡ true
+  pub gaps-room : length h ≤ length gaps
   pub pointed : (i : ℕ) → i < length h → hasPoint gaps i ≡ isStoreRead h i
   pub gaps-fit : (i : ℕ) → i < length h → isStoreRead h i ≡ true → getD gaps i 0 ≤ begins h
 

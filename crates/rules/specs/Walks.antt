@@ -47,6 +47,7 @@ hasPoint gaps i = not (eqb (getD gaps i 0) 65535)
 pub record Pointable (h : List Event) (link : List ℕ) (writers : List (List ℕ)) (place gaps : List ℕ) : Type 0 where
   pub walk : Walkable h link writers
   pub places-low : (t : ℕ) → getD place t 0 < 64
+  pub gaps-room : length h ≤ length gaps
   pub gaps-low : (i : ℕ) → i < length h → hasPoint gaps i ≡ true → getD gaps i 0 ≤ 64
 
 -- rule D of the point at gap g of the read e, whose reader is at place own: from the point to the reader, or from the reader to the point

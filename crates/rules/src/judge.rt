@@ -71,7 +71,7 @@ fn broken_at(rule: Rule, log: &[Row], event: usize) -> Verdict
 }
 
 // The first event that breaks rule C, or their number.
-fn first_not_own(log: &[Row], own: &[u16; 2048]) -> usize
+fn first_not_own(log: &[Row], own: &[u16]) -> usize
     requires { ⌜ readable (logged (now log)) ≡ true ⌝ }
     requires { ⌜ OwnWrites (logged (now log)) (now own) ⌝ }
     ensures { λ r. ⌜ r ≡ broken (ownRight (logged (now (log .entry)))) (length (logged (now (log .entry)))) ⌝ }
@@ -90,11 +90,11 @@ fn first_not_own(log: &[Row], own: &[u16; 2048]) -> usize
 fn judge_reads(
     starts: &[u32; 32],
     log: &[Row],
-    own: &[u16; 2048],
-    link: &[u16; 2048],
+    own: &[u16],
+    link: &[u16],
     writers: &[Writer; 64],
     place: &[u16; 64],
-    gaps: &[u16; 2048],
+    gaps: &[u16],
 ) -> Verdict
     requires { ⌜ OwnWrites (logged (now log)) (now own) ⌝ }
     requires { ⌜ Pointable (logged (now log)) (now link) (now writers) (now place) (now gaps) ⌝ }
@@ -148,11 +148,11 @@ pub fn judge_after(
     placed: Verdict,
     starts: &[u32; 32],
     log: &[Row],
-    own: &[u16; 2048],
-    link: &[u16; 2048],
+    own: &[u16],
+    link: &[u16],
     writers: &[Writer; 64],
     place: &[u16; 64],
-    gaps: &[u16; 2048],
+    gaps: &[u16],
 ) -> Verdict
     requires { ⌜ OwnWrites (logged (now log)) (now own) ⌝ }
     requires { ⌜ Pointable (logged (now log)) (now link) (now writers) (now place) (now gaps) ⌝ }
@@ -178,11 +178,11 @@ pub fn judge_after(
 pub fn judge(
     starts: &[u32; 32],
     log: &[Row],
-    own: &[u16; 2048],
-    link: &[u16; 2048],
+    own: &[u16],
+    link: &[u16],
     order: &[u16; 64],
     outcomes: &[u8; 64],
-    gaps: &[u16; 2048],
+    gaps: &[u16],
 ) -> Verdict
     requires { ⌜ OwnWrites (logged (now log)) (now own) ⌝ }
     requires { ⌜ Judgeable (logged (now log)) (now link) (now order) (now outcomes) (now gaps) ⌝ }

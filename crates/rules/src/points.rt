@@ -42,7 +42,7 @@ pub fn place_at(place: &[u16; 64], e: Event) -> u16
 // but the reader is placed between the point and the reader, on whichever side of it the point lies.
 fn no_writer_between(
     log: &[Row],
-    link: &[u16; 2048],
+    link: &[u16],
     writers: &[Writer; 64],
     own: usize,
     g: usize,
@@ -62,7 +62,7 @@ fn no_writer_between(
 fn value_at_gap(
     starts: &[u32; 32],
     log: &[Row],
-    link: &[u16; 2048],
+    link: &[u16],
     writers: &[Writer; 64],
     own: usize,
     g: usize,
@@ -87,10 +87,10 @@ pub fn holds_at(
     rule: Rule,
     starts: &[u32; 32],
     log: &[Row],
-    link: &[u16; 2048],
+    link: &[u16],
     writers: &[Writer; 64],
     place: &[u16; 64],
-    gaps: &[u16; 2048],
+    gaps: &[u16],
     i: usize,
 ) -> bool
     requires { ⌜ Pointable (logged (now log)) (now link) (now writers) (now place) (now gaps) ⌝ }
@@ -119,10 +119,10 @@ pub fn first_broken(
     rule: Rule,
     starts: &[u32; 32],
     log: &[Row],
-    link: &[u16; 2048],
+    link: &[u16],
     writers: &[Writer; 64],
     place: &[u16; 64],
-    gaps: &[u16; 2048],
+    gaps: &[u16],
 ) -> usize
     requires { ⌜ Pointable (logged (now log)) (now link) (now writers) (now place) (now gaps) ⌝ }
     ensures { λ r. ⌜ r ≡ broken (pointRule (startOf (now (starts .entry))) (logged (now (log .entry)))

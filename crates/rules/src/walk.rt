@@ -36,7 +36,7 @@ fn start_at(writers: &[Writer; 64], own: usize, r: u16, k: usize) -> usize
 // transaction; the search is left at the first write to r.
 pub fn last_writer(
     log: &[Row],
-    link: &[u16; 2048],
+    link: &[u16],
     writers: &[Writer; 64],
     own: usize,
     r: u16,

@@ -65,11 +65,11 @@ module _ {h : List Event} {link order outcomes gaps : List ℕ} (y : Judgeable h
       (lasts : Tabled LastWrite h last) (sets : Sets h (length h) registers)
       (table : Writers order outcomes last registers k writers) (start : ℕ → ℕ)
       {moves : List Bool} (moving : Front false (breaksBy (pointRule start h link writers place gaps)) (length h) moves)
-      {straight : List ℕ} (straightening : Front 0 (gapBy h place moves gaps) (length h) straight) (size : length gaps ≡ 2048) where
+      {straight : List ℕ} (straightening : Front 0 (gapBy h place moves gaps) (length h) straight) where
     readable-now : ReadableFor h m
     readable-now =
         arrays-readable
-        (record { gaps-size = size; ordered = y .ordered; pointed = λ i l. sym (y .pointed i l); gaps-fit = y .gaps-fit })
+        (record { gaps-room = y .gaps-room; ordered = y .ordered; pointed = λ i l. sym (y .pointed i l); gaps-fit = y .gaps-fit })
 
     moved-same : (i : ℕ) → i < length h → getD moves i false ≡ not (keptAt start h m i)
     moved-same i l =
@@ -120,10 +120,10 @@ module _ {h : List Event} {link order outcomes gaps : List ℕ} (y : Judgeable h
         go false q true e = absurd (clash (sym (moving .holds i l) ∙ e) (rw q))
 
     -- which is as readable
-    kept-after : length straight ≡ 2048 → Kept h order outcomes straight
-    kept-after z =
+    kept-after : Kept h order outcomes straight
+    kept-after =
         record {
-          gaps-size = z;
+          gaps-room = straightening .room;
           ordered = y .ordered;
           pointed = λ i l. sym (point-after i l ∙ y .pointed i l);
           gaps-fit = λ i l s. rw (straightening .holds i l) (go i l s (getD moves i false));
@@ -134,5 +134,5 @@ module _ {h : List Event} {link order outcomes gaps : List ℕ} (y : Judgeable h
         go i l s true = rw (reader-same y ek inverse i l) (place-le (eventAt h i .transaction) order outcomes (begins h))
         go i l s false = y .gaps-fit i l s
 
-    pub moved-points : length straight ≡ 2048 → Moved start h order outcomes gaps straight moves
-    moved-points z = record { points = content-same; moved = listed-same; kept = kept-after z }
+    pub moved-points : Moved start h order outcomes gaps straight moves
+    moved-points = record { points = content-same; moved = listed-same; kept = kept-after }

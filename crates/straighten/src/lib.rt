@@ -76,11 +76,11 @@ fn write_moved(
     order: &[u16; 64],
     outcomes: &[u8; 64],
     gaps: &[u16],
-    moves: &[bool; 2048],
+    moves: &[bool],
     output: &mut [u8],
     moved: &mut [u32],
 ) -> Straightening
-    requires { ⌜ (begun ≤ 64) × (length (now gaps) ≤ 2048) ⌝ }
+    requires { ⌜ (begun ≤ 64) × (length (now gaps) ≤ 2048) × (length (now gaps) ≤ length (now moves)) ⌝ }
     requires { ⌜ length (bytesIn (now order) (now outcomes) begun (now gaps)) ≤ length (now output) ⌝ }
     requires { ⌜ length (listed (now moves) (length (now gaps))) ≤ length (now moved) ⌝ }
     ensures { λ r. ⌜ gives r (now (output .exit)) (now (moved .exit))
@@ -111,22 +111,22 @@ fn write_moved(
 fn judge_moved(
     starts: &[u32; 32],
     log: &[Row],
-    own: &[u16; 2048],
+    own: &[u16],
     begun: usize,
     order: &[u16; 64],
     outcomes: &[u8; 64],
-    gaps: &mut [u16; 2048],
-    moves: &mut [bool; 2048],
+    gaps: &mut [u16],
+    moves: &mut [bool],
 ) -> Verdict
     requires { ⌜ Asking (now log) (now own) begun ⌝ }
     requires { ⌜ Kept (logged (now log)) (now order) (now outcomes) (now gaps) ⌝ }
-    requires { ⌜ (length (now gaps) ≡ 2048) × (length (now moves) ≡ 2048) ⌝ }
+    requires { ⌜ length (now log) ≤ length (now moves) ⌝ }
     ensures { λ v. ⌜ v ≡ verdict (startOf (now (starts .entry))) (logged (now (log .entry)))
         (content (logged (now (log .entry))) (now (order .entry)) (now (outcomes .entry)) (now (gaps .exit))) ⌝ }
     ensures { λ _. ⌜ Moved (startOf (now (starts .entry))) (logged (now (log .entry))) (now (order .entry)) (now (outcomes .entry))
         (now (gaps .entry)) (now (gaps .exit)) (now (moves .exit)) ⌝ }
 {
-    let mut link = [0u16; 2048];
+    let mut link = [0u16; MOST];
     links(log, &mut link);
     let place = places_of(order, begun);
     let tables = tables_of(log);
@@ -174,11 +174,11 @@ pub fn straighten_log(
         (fileRead (known (logged (now (log .entry)))) (now (file .entry))) ⌝ }
 {
     let begun = transactions_begun(log);
-    let mut own = [0u16; 2048];
+    let mut own = [0u16; MOST];
     own_writes(log, &mut own);
     let mut order = [0u16; 64];
     let mut outcomes = [0u8; 64];
-    let mut gaps = [NO_POINT; 2048];
+    let mut gaps = [NO_POINT; MOST];
     let read = read_marking(log, &own, begun, file, &mut order, &mut outcomes, &mut gaps);
     if let Checked::Refused(refusal) = read {
         return Straightening::MarkingRefused(refusal);
@@ -186,7 +186,7 @@ pub fn straighten_log(
     if !has_room(file.len(), begun, output.len(), moved.len()) {
         return refused(15, log.len());
     }
-    let mut moves = [false; 2048];
+    let mut moves = [false; MOST];
     let verdict = judge_moved(
         starts,
         log,

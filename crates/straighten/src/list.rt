@@ -21,8 +21,8 @@ fn put_moved(list: &mut [u32], at: usize, moved: bool, event: u32) -> usize
 }
 
 // The moved events, rising, from the list's first entry; how many they are.
-pub fn list_moved(moves: &[bool; 2048], count: usize, list: &mut [u32]) -> usize
-    requires { ⌜ count ≤ 2048 ⌝ }
+pub fn list_moved(moves: &[bool], count: usize, list: &mut [u32]) -> usize
+    requires { ⌜ (count ≤ length (now moves)) × (count ≤ 2048) ⌝ }
     requires { ⌜ length (listed (now moves) count) ≤ length (now list) ⌝ }
     ensures { λ _. ⌜ now (list .exit) ≡ over (listed (now (moves .entry)) count) (now (list .entry)) ⌝ }
     ensures { λ r. ⌜ r ≡ length (listed (now (moves .entry)) count) ⌝ }

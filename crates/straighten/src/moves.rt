@@ -1,7 +1,7 @@
 // Which read points are moved, and where the points of a marking stand then.
 ghost use mathlib.Core.Path.{_≡_};
 ghost use mathlib.Core.Bool.{true, false};
-ghost use Prim.Native.Nat.{_<_};
+ghost use Prim.Native.Nat.{_≤_, _<_};
 ghost use lib.ListN.{length};
 ghost use Rattle.lists.specs.Filled.{Front};
 ghost use Rattle.events.specs.Questions.{readable};
@@ -20,10 +20,10 @@ use rules::points::place_at;
 fn breaks(
     starts: &[u32; 32],
     log: &[Row],
-    link: &[u16; 2048],
+    link: &[u16],
     writers: &[Writer; 64],
     place: &[u16; 64],
-    gaps: &[u16; 2048],
+    gaps: &[u16],
     i: usize,
 ) -> bool
     requires { ⌜ Pointable (logged (now log)) (now link) (now writers) (now place) (now gaps) ⌝ }
@@ -42,14 +42,14 @@ fn breaks(
 pub fn moves_of(
     starts: &[u32; 32],
     log: &[Row],
-    link: &[u16; 2048],
+    link: &[u16],
     writers: &[Writer; 64],
     place: &[u16; 64],
-    gaps: &[u16; 2048],
-    moves: &mut [bool; 2048],
+    gaps: &[u16],
+    moves: &mut [bool],
 )
     requires { ⌜ Pointable (logged (now log)) (now link) (now writers) (now place) (now gaps) ⌝ }
-    requires { ⌜ length (now moves) ≡ 2048 ⌝ }
+    requires { ⌜ length (now log) ≤ length (now moves) ⌝ }
     ensures { λ _. ⌜ Front false (breaksBy (pointRule (startOf (now (starts .entry))) (logged (now (log .entry)))
         (now (link .entry)) (now (writers .entry)) (now (place .entry)) (now (gaps .entry))))
         (length (logged (now (log .entry)))) (now (moves .exit)) ⌝ }
@@ -63,9 +63,9 @@ pub fn moves_of(
 }
 
 // Where the point of event i stands: at its reader's place, if it is moved.
-fn gap_at(log: &[Row], place: &[u16; 64], moves: &[bool; 2048], gaps: &[u16; 2048], i: usize) -> u16
+fn gap_at(log: &[Row], place: &[u16; 64], moves: &[bool], gaps: &[u16], i: usize) -> u16
     requires { ⌜ readable (logged (now log)) ≡ true ⌝ }
-    requires { ⌜ i < length (now log) ⌝ }
+    requires { ⌜ (i < length (now log)) × (length (now log) ≤ length (now moves)) × (length (now log) ≤ length (now gaps)) ⌝ }
     ensures { λ r. ⌜ r ≡ gapBy (logged (now (log .entry))) (now (place .entry)) (now (moves .entry)) (now (gaps .entry)) i ⌝ }
 {
     let reader = place_at(place, event_at(log, i));
@@ -76,12 +76,11 @@ fn gap_at(log: &[Row], place: &[u16; 64], moves: &[bool; 2048], gaps: &[u16; 204
 }
 
 // Moves the points of the events that the table says.
-pub fn move_points(log: &[Row], place: &[u16; 64], moves: &[bool; 2048], gaps: &mut [u16; 2048])
+pub fn move_points(log: &[Row], place: &[u16; 64], moves: &[bool], gaps: &mut [u16])
     requires { ⌜ readable (logged (now log)) ≡ true ⌝ }
-    requires { ⌜ length (now gaps) ≡ 2048 ⌝ }
+    requires { ⌜ (length (now log) ≤ length (now moves)) × (length (now log) ≤ length (now gaps)) ⌝ }
     ensures { λ _. ⌜ Front 0 (gapBy (logged (now (log .entry))) (now (place .entry)) (now (moves .entry)) (now (gaps .entry)))
         (length (logged (now (log .entry)))) (now (gaps .exit)) ⌝ }
-    ensures { λ _. ⌜ length (now (gaps .exit)) ≡ 2048 ⌝ }
 {
     let mut i: usize = 0;
     while i < log.len() {

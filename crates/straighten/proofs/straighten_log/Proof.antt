@@ -15,6 +15,7 @@ use Rattle.lists.proofs.ListLaws.{not-true, not-false}
 use Rattle.events.specs.declared.event.Event.{Event}
 use Rattle.events.specs.Events.{begins}
 use Rattle.log.specs.Rows.{logged}
+use Rattle.log.proofs.RowLaws.{logged-length}
 use Rattle.log.specs.Starts.{startOf}
 use Rattle.opacity.specs.Transactions.{storeReads}
 use Rattle.opacity.specs.Marking.{Marking}
@@ -41,7 +42,7 @@ entered c = counted c .before .before .before .before
 
 -- where they are known, when the file is to be read
 abbrev owned : tie.After-gaps → tie.After-own-writes
-owned c = c .before .before .before .before
+owned c = c .before .before .before .before .before
 
 -- when the file has been read: the function's entry, the history, and the arrays
 abbrev start : tie.After-read-marking → tie.Start
@@ -64,7 +65,7 @@ asking w = record { readable = entered w .pre; owned = w .own-writes .ensures; c
 
 -- where no question refused it: the marking that was read, and what the file says
 abbrev read : tie.After-enum-told → tie.After-read-marking
-read e = e .before .before
+read e = e .before .before .before
 
 abbrev marking : tie.After-enum-told → Marking
 marking e = inArrays (history (read e)) (order (read e)) (outcomes (read e)) (gaps (read e))
@@ -101,15 +102,19 @@ asked r =
     r .has-room .ensures ∙ ap (roomIn s) points
 
 own-writes-requires : tie.Need-own-writes-requires
-own-writes-requires c κs = (c .before .before .before .before .before .pre, length-replicate {A = ℕ} 2048 0)
+own-writes-requires c κs =
+    let s = c .before .before .before .before .before in
+    (s .pre, omega (arith, log-most (s .args .log .now) (s .pre), length-replicate {A = ℕ} 2048 0))
 
 read-marking-requires : tie.Need-read-marking-requires
-read-marking-requires c κs = (asking (owned c), arrays-fresh)
+read-marking-requires c κs =
+    let s = entered (owned c) in
+    (asking (owned c), (arrays-fresh 2048, omega (arith, log-most (s .args .log .now) (s .pre), length-replicate {A = ℕ} 2048 65535)))
 
 returns : tie.Need-returns
 returns c =
     let r = c .before in
-    let m = r .before .before in
+    let m = r .before .before .before in
     let a = start m .args in
     sym (ap (afterFile (startOf (a .starts .now)) (history m) (length (a .log .now)) (a .file .now) (now (a .output)) (now (a .moved)))
     (sym (m .read-marking .ensures .0) ∙ ap (readAs (history m) (order m) (outcomes m) (gaps m)) (r .read .given .1)))
@@ -136,7 +141,8 @@ roomy c = c .before .before .before .before .before
 judge-moved-requires : tie.Need-judge-moved-requires
 judge-moved-requires c κs =
     let e = roomy c .before .before in
-    (asking (owned (read e .before)), (kept e, (kept e .gaps-size, length-replicate {A = Bool} 2048 false)))
+    let s = start (read e) in
+    (asking (owned (read e .before)), (kept e, omega (arith, log-most (s .args .log .now) (s .pre), length-replicate {A = Bool} 2048 false)))
 
 -- when they have been moved: where there was room, the tables, and what is said of them
 abbrev asked-at : tie.After-judge-moved → tie.After-has-room
@@ -154,14 +160,17 @@ moves j = j .judge-moved .last .1 .1 .1 .1 .1 .1 .1 .0
 long : (j : tie.After-judge-moved) → length (start (read (reader j)) .args .log .now) ≤ length (straight j)
 long j =
     let s = start (read (reader j)) in
-    omega (arith, log-most (s .args .log .now) (s .pre), j .judge-moved .ensures .1 .kept .gaps-size)
+    omega (arith, logged-length (s .args .log .now), j .judge-moved .ensures .1 .kept .gaps-room)
+
+table-length : (j : tie.After-judge-moved) → length (moves j) ≡ 2048
+table-length j = j .judge-moved .kept .1 .1 .1 .1 .1 .1 .1 .0 ∙ length-replicate {A = Bool} 2048 false
 
 -- the lent part of the gaps
-abbrev lent : tie.After-gaps3 → tie.After-judge-moved
-lent g = g .before .before .before
+abbrev lent : tie.After-gaps5 → tie.After-judge-moved
+lent g = g .before .before .before .before .before
 
 array-share-prefix-gaps : tie.Need-array-share-prefix-gaps
-array-share-prefix-gaps c = long (c .before .before)
+array-share-prefix-gaps c = long (c .before .before .before .before)
 
 slice-aggregate-write-moved : tie.Need-slice-aggregate-write-moved
 slice-aggregate-write-moved c = let j = lent c in sym (length-take-le _ (straight j) (long j))
@@ -181,7 +190,7 @@ write-moved-requires c κs =
     let few = moved-few (startOf (a .starts .now)) h (marking e) (arrays-readable (kept e)) in
     let list = ap length (listed-counted (a .log .now) (straight j) (moves j) (long j) ∙ y .moved) in
     let part = length-take-le (length (a .log .now)) (straight j) (long j) in (
-      (omega (arith, b, at-most-64 h (s .pre)), omega (arith, part, log-most (a .log .now) (s .pre))),
+      (omega (arith, b, at-most-64 h (s .pre)), omega (arith, part, log-most (a .log .now) (s .pre)), omega (arith, part, log-most (a .log .now) (s .pre), table-length j)),
       (bytes-fit (a .log .now) b (y .kept) (long j) room, omega (arith, list, few, room .entries)),
     )
 
@@ -204,7 +213,7 @@ returns-3 c =
 pub straighten-log-spec : {M : Type 1} → statement M
 straighten-log-spec =
     tie.close
-    (tie.spec (λ c κs. search needs) own-writes-requires read-marking-requires (λ c. search needs)
-    returns (λ c. search needs) has-room-requires (λ c κs. search needs) returns-2 judge-moved-requires
-    array-share-prefix-gaps slice-aggregate-write-moved write-moved-requires (λ c. search needs)
-    (λ c. search needs) returns-3)
+    (tie.spec (λ c κs. search needs) (λ c. search needs) own-writes-requires (λ c. search needs) (λ c. search needs)
+    read-marking-requires (λ c. search needs) returns (λ c. search needs) has-room-requires (λ c κs. search needs) returns-2
+    (λ c. search needs) (λ c. search needs) (λ c. search needs) judge-moved-requires array-share-prefix-gaps
+    slice-aggregate-write-moved (λ c. search needs) write-moved-requires (λ c. search needs) (λ c. search needs) returns-3)

@@ -21,19 +21,19 @@ by s v =
 
 -- where no rule is broken, and the function's entry
 abbrev entered : tie.After-enum-told → tie.Start
-entered e = e .before .before .before .before .before
+entered e = e .before .before .before .before .before .before
 
 abbrev unbroken : tie.After-write-marking → tie.After-enum-told
 unbroken w = w .before .before
 
 returns : tie.Need-returns
-returns c = sym (ap (by (c .before .before .before .before .before .before)) (c .before .verdict .given .1))
+returns c = sym (ap (by (c .before .before .before .before .before .before .before)) (c .before .verdict .given .1))
 
 write-marking-requires : tie.Need-write-marking-requires
-write-marking-requires c κs = let s = entered (c .before) in (s .pre .0, s .pre .1 .0)
+write-marking-requires c κs = let s = entered (c .before) in ((s .pre .0 .0, s .pre .0 .1), s .pre .1 .0)
 
 list-moved-requires : tie.Need-list-moved-requires
-list-moved-requires c κs = let s = entered (unbroken (c .before .before .before)) in (s .pre .0 .1, s .pre .1 .1)
+list-moved-requires c κs = let s = entered (unbroken (c .before .before .before)) in ((s .pre .0 .2, s .pre .0 .1), s .pre .1 .1)
 
 returns-2 : tie.Need-returns-2
 returns-2 c =

@@ -1,78 +1,42 @@
--- `check_log` meets its contract: what the file holds stands in the arrays, or a question refuses it.
+-- `check_log` meets its contract: by tables of either size.
 -- Assumes nothing.
-use Prim.Native.Nat.{ℕ}
-use mathlib.Core.Path.{sym, ap, _∙_}
-use lib.ListN.{length-replicate}
+use Prim.Native.Nat.{ℕ, _≤_}
+use mathlib.Core.List.{List}
+use native.Mathlib.Omega.{arith}
+use lib.ListN.{length, replicate, length-replicate}
 use borrow.Author.Needs.{needs}
-use Rattle.log.specs.Rows.{logged}
-use Rattle.log.specs.Starts.{startOf}
-use Rattle.marking_reader.specs.State.{readAs}
+use Rattle.links.proofs.LogLaws.{log-most}
 use Rattle.marking_reader.proofs.SoundLaws.{arrays-fresh}
-use Rattle.marking.specs.declared.check.Ruling.{Ruling}
-use Rattle.marking.specs.Answer.{ruling}
-use Rattle.marking.proofs.CheckLaws.{judgeable}
 use Rattle.marking.proofs.check.check_log.Statement.{statement}
 use Rattle.marking.proofs.check.check_log.Tie as tie
 
--- when the own writes are known: where the transactions are counted, and the function's entry
-abbrev counted : tie.After-own-writes → tie.After-transactions-begun
-counted c = c .before .before
+-- the tables are as long as the log, and hold no point
+room : (n : ℕ) (log : List (List ℕ)) → length log ≤ n
+    → (length log ≤ length (replicate {A = ℕ} n 0)) × (length log ≤ length (replicate {A = ℕ} n 65535)) × (length log ≤ length (replicate {A = ℕ} n 0))
+room n log l =
+    let o = length-replicate {A = ℕ} n 0 in
+    let g = length-replicate {A = ℕ} n 65535 in
+    (omega (arith, l, o), omega (arith, l, g), omega (arith, l, o))
 
-abbrev entered : tie.After-own-writes → tie.Start
-entered c = counted c .before .before
-
--- where they are known, when the file is to be read; and when it has been
-abbrev owned : tie.After-gaps → tie.After-own-writes
-owned c = c .before .before .before .before
-
-abbrev before-reading : tie.After-read-marking → tie.After-own-writes
-before-reading m = owned (m .before)
-
--- when the arrays are lent to the rules: where the writes are linked
-abbrev linked : tie.After-gaps2 → tie.After-links
-linked c = c .before .before .before .before .before
-
--- and where no question refused the file
-abbrev read : tie.After-links → tie.After-enum-told
-read l = l .before .before
-
-own-writes-requires : tie.Need-own-writes-requires
-own-writes-requires c κs = (c .before .before .before .pre, length-replicate {A = ℕ} 2048 0)
-
-read-marking-requires : tie.Need-read-marking-requires
-read-marking-requires c κs =
-    let w = owned c in
-    (record { readable = entered w .pre; owned = w .own-writes .ensures; count = counted w .transactions-begun .ensures }, arrays-fresh)
+check-by-requires : tie.Need-check-by-requires
+check-by-requires c κs =
+    let t = c .before .before .before in
+    let s = t .before .before in
+    (s .pre, (room 128 (s .args .log .now) (t .if1 .taken), arrays-fresh 128 .none))
 
 returns : tie.Need-returns
-returns c =
-    let r = c .before in
-    let m = r .before .before in
-    let s = entered (before-reading m) in
-    sym (ap (ruling (startOf (s .args .starts .now)) (logged (s .args .log .now)))
-    (sym (m .read-marking .ensures .0) ∙ ap (readAs (logged (s .args .log .now)) _ _ _) (r .read .given .1)))
+returns c = c .before .before .before .check-by .ensures
 
-links-requires : tie.Need-links-requires
-links-requires c κs = (entered (before-reading (c .before .before .before)) .pre, length-replicate {A = ℕ} 2048 0)
-
-judge-requires : tie.Need-judge-requires
-judge-requires c κs =
-    let l = linked c in
-    let m = read l .before .before in
-    let w = before-reading m in
-    (w .own-writes .ensures, judgeable (entered w .pre) (l .links .ensures) (m .read-marking .ensures .1 (read l .enum-told .given .1)))
+check-by-requires-2 : tie.Need-check-by-requires-2
+check-by-requires-2 c κs =
+    let s = c .before .before .before .before .before in
+    (s .pre, (room 2048 (s .args .log .now) (log-most (s .args .log .now) (s .pre)), arrays-fresh 2048 .none))
 
 returns-2 : tie.Need-returns-2
-returns-2 c =
-    let l = linked (c .before) in
-    let m = read l .before .before in
-    let s = entered (before-reading m) in
-    ap Ruling.Ruled (c .judge .ensures)
-    ∙ sym (ap (ruling (startOf (s .args .starts .now)) (logged (s .args .log .now)))
-    (sym (m .read-marking .ensures .0) ∙ ap (readAs (logged (s .args .log .now)) _ _ _) (read l .enum-told .given .1)))
+returns-2 c = c .before .before .before .check-by2 .ensures
 
 pub check-log-spec : {M : Type 1} → statement M
 check-log-spec =
     tie.close
-    (tie.spec (λ c κs. search needs) own-writes-requires read-marking-requires (λ c. search needs)
-    returns (λ c. search needs) links-requires judge-requires returns-2)
+    (tie.spec (λ c. search needs) (λ c. search needs) (λ c. search needs) check-by-requires returns
+    (λ c. search needs) (λ c. search needs) (λ c. search needs) check-by-requires-2 returns-2)

@@ -1,17 +1,18 @@
 -- `marking_reader::read::read_marking` meets its contract: what has been read stands in the arrays, and what is left gives the answer.
 -- Assumes nothing.
 use Prim.Native.Nat.{ℕ, _-_, _<_}
-use mathlib.Core.Path.{_≡_, sym, ap, _∙_, subst}
+use mathlib.Core.Path.{_≡_, refl, sym, ap, _∙_, subst}
 use mathlib.Core.Bool.{Bool}
 use mathlib.Core.List.{List}
 use native.Mathlib.Omega.{arith}
-use lib.ListN.{length}
+use lib.ListN.{length, length-set}
 use Rattle.lists.specs.Lists.{every}
 use Rattle.events.specs.declared.event.Event.{Event}
 use Rattle.events.specs.Events.{begins}
 use Rattle.events.proofs.QuestionLaws.{numbered-some}
 use Rattle.events.proofs.ReadableLaws.{readable-most}
 use Rattle.log.specs.Rows.{logged}
+use Rattle.log.proofs.RowLaws.{logged-length}
 use Rattle.opacity.proofs.Bounds.{at-most-64}
 use Rattle.marking_reader.specs.declared.step.MarkingStep.{MarkingStep}
 use Rattle.marking_reader.specs.File.{known, Asked, stepAt, opening}
@@ -26,7 +27,7 @@ use Rattle.marking_reader.proofs.read.read_marking.Tie as tie
 
 abbrev Inv-loop : tie.InvT-loop
 Inv-loop log own begun file order₀ outcomes₀ gaps₀ used₀ filled₀ next₀ opens at₀ order outcomes gaps used filled next at =
-    Reached (known (logged log)) file at (soFar order outcomes filled gaps next) × Sound (logged log) order outcomes used filled gaps next
+    Reached (known (logged log)) file at (soFar order outcomes filled gaps next) × Sound (logged log) order outcomes used filled gaps next × (length gaps ≡ length gaps₀)
 
 abbrev μ-loop : tie.MeasureT-loop
 μ-loop log own begun file order₀ outcomes₀ gaps₀ used₀ filled₀ next₀ opens at₀ order outcomes gaps used filled next at = length file - at
@@ -36,7 +37,7 @@ Turn = tie.At-loop Inv-loop μ-loop
 
 -- the function's entry, the history and the file
 abbrev start : Turn → tie.Start Inv-loop μ-loop
-start l = l .before .before .before .before
+start l = l .before .before .before .before .before .before
 
 abbrev history : Turn → List Event
 history l = logged (start l .args .log .now)
@@ -78,21 +79,25 @@ pointed c = pointing (point c .loop .inv .0) (point c .loop .inv .1) (answered (
 returns : tie.Need-returns Inv-loop μ-loop
 returns c =
     let asked = c .before .before .opening-asked in
-    let s = c .before .before .before .before .args .file .now in
+    let s = c .before .before .before .before .before .before .args .file .now in
     let o = numbered-some (opening s) (asked .result) (sym (asked .ensures)) (c .before .if1 .taken) in
     says-no s (c .refused .result) (asked .result) 0 (c .refused .ensures) (opening-refused _ s (asked .result) o)
 
 loop-holds : tie.Need-loop-holds Inv-loop μ-loop
 loop-holds c =
-    let s = c .before .before .before in
+    let s = c .before .before .before .before .before in
     let h = logged (s .args .log .now) in
     let o = opening-none (s .args .file .now) (sym (c .before .opening-asked .ensures) ∙ c .if1 .left) in (
       subst (Reached (known h) (s .args .file .now) 6) (sym (nothing-so _ _ _)) (reached-first (known h) (s .args .file .now) o),
-      sound-start h _ _ _ (readable-most h (s .pre .0 .readable)) (at-most-64 h (s .pre .0 .readable)) (s .pre .1),
+      sound-start h _ _ _ (readable-most h (s .pre .0 .readable)) (at-most-64 h (s .pre .0 .readable)) (omega (arith, logged-length (s .args .log .now), s .pre .1 .1)) (s .pre .1 .0),
+      refl,
     )
 
 step-at-requires : tie.Need-step-at-requires Inv-loop μ-loop
-step-at-requires c κs = start (c .before .before) .pre .0
+step-at-requires c κs =
+    let l = c .before .before in
+    let s = start l in
+    (s .pre .0, omega (arith, logged-length (s .args .log .now), l .loop .inv .1 .gaps-room))
 
 mul-order : tie.Need-mul-order Inv-loop μ-loop
 mul-order c = let l : place c .loop .filled < 64 = placed c .free in search needs
@@ -116,13 +121,13 @@ loop-less : tie.Need-loop-less Inv-loop μ-loop
 loop-less c = omega (arith, placed c .onward, placed c .within)
 
 loop-again : tie.Need-loop-again Inv-loop μ-loop
-loop-again c = (placed c .comes, placed c .holds)
+loop-again c = (placed c .comes, placed c .holds, place c .loop .inv .2)
 
 mul-gaps : tie.Need-mul-gaps Inv-loop μ-loop
 mul-gaps c = let l : c .before .step2 .given .0 .0 < 2048 = pointed c .inside in search needs
 
-element-write-gaps : tie.Need-element-write-gaps Inv-loop μ-loop
-element-write-gaps c = pointed c .inside
+slice-write-gaps : tie.Need-slice-write-gaps Inv-loop μ-loop
+slice-write-gaps c = pointed c .entry
 
 add-next : tie.Need-add-next Inv-loop μ-loop
 add-next c = let l : c .before .step2 .given .0 .0 < 2048 = pointed c .inside in search needs
@@ -131,7 +136,7 @@ loop-less-2 : tie.Need-loop-less-2 Inv-loop μ-loop
 loop-less-2 c = omega (arith, pointed c .onward, pointed c .within)
 
 loop-again-2 : tie.Need-loop-again-2 Inv-loop μ-loop
-loop-again-2 c = (pointed c .comes, pointed c .holds)
+loop-again-2 c = (pointed c .comes, pointed c .holds, length-set (point c .loop .gaps) _ _ ∙ point c .loop .inv .2)
 
 returns-2 : tie.Need-returns-2 Inv-loop μ-loop
 returns-2 c =
@@ -150,12 +155,22 @@ returns-4 c =
     let a = c .before .before in
     finished (turn a .loop .inv .0) (turn a .loop .inv .1) (answered a _ (c .enum-told .given .1))
 
+-- the table of gaps is as long as it was
+same-length : tie.Need-same-length Inv-loop μ-loop
+same-length c = turn (c .before .before .before .before) .loop .inv .2
+
+same-length-2 : tie.Need-same-length-2 Inv-loop μ-loop
+same-length-2 c = turn (c .before .before .before .before) .loop .inv .2
+
+same-length-3 : tie.Need-same-length-3 Inv-loop μ-loop
+same-length-3 c = turn (c .before .before) .loop .inv .2
+
 pub read-marking-spec : {M : Type 1} → statement M
 read-marking-spec =
     tie.close
     (tie.spec Inv-loop μ-loop (λ c κs. search needs) (λ c κs. search needs) returns loop-holds
     step-at-requires (λ c. search needs) (λ c. search needs) mul-order element-write-order
     cast-outcomes element-write-outcomes array-write-used add-filled loop-less loop-again
-    (λ c. search needs) mul-gaps element-write-gaps add-next loop-less-2 loop-again-2
-    (λ c. search needs) (λ c κs. search needs) returns-2 (λ c. search needs) (λ c κs. search needs)
-    returns-3 (λ c. search needs) returns-4)
+    (λ c. search needs) mul-gaps slice-write-gaps add-next loop-less-2 loop-again-2
+    (λ c. search needs) (λ c κs. search needs) same-length returns-2 (λ c. search needs) (λ c κs. search needs) same-length-2
+    returns-3 (λ c. search needs) same-length-3 returns-4)

@@ -17,26 +17,26 @@ asks s =
     askedBy (logged (a .log .now)) (a .begun) (a .used .now) (a .progress .filled) (a .progress .next)
 
 place-step-requires : tie.Need-place-step-requires
-place-step-requires c κs = few-begun (c .before .before .pre)
+place-step-requires c κs = few-begun (c .before .before .before .pre)
 
 returns : tie.Need-returns
 returns c =
-    let s = c .before .before .before in
+    let s = c .before .before .before .before in
     let a = s .args in
     c .place-step .ensures ∙ sym (body-place (asks s) (a .kind) (a .body .now) (a .end) (eq-eqb _ _ (c .before .if1 .taken)))
 
 point-step-requires : tie.Need-point-step-requires
-point-step-requires c κs = c .before .before .before .pre
+point-step-requires c κs = c .before .before .before .before .pre
 
 returns-2 : tie.Need-returns-2
 returns-2 c =
-    let s = c .before .before .before .before in
+    let s = c .before .before .before .before .before in
     let a = s .args in
     c .point-step .ensures ∙ sym (body-point (asks s) (a .kind) (a .body .now) (a .end) (eq-eqb _ _ (c .before .if2 .taken)))
 
 returns-3 : tie.Need-returns-3
 returns-3 c =
-    let s = c .before .before .before in
+    let s = c .before .before .before .before in
     let a = s .args in
     sym (body-other (asks s) (a .kind) (a .body .now) (a .end) (ne-eqb _ _ (c .before .if1 .left)) (ne-eqb _ _ (c .if2 .left)))
 

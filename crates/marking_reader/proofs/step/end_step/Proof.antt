@@ -22,20 +22,20 @@ unfolding endStep endQuestions refusal
 returns c = rw (ne-eqb _ _ (c .if1 .taken))
 
 every-pointed-requires : tie.Need-every-pointed-requires
-every-pointed-requires c κs = (c .before .pre .owned, few-events (c .before .pre))
+every-pointed-requires c κs = let s = c .before .before .before in (s .pre .0 .owned, s .pre .1)
 
 returns-2 : tie.Need-returns-2
 unfolding endStep endQuestions refusal
 returns-2 c =
     let p = c .before in
-    let q : allPointed (p .before .before) ≡ false = sym (p .every-pointed .ensures) ∙ not-true _ (c .if2 .taken) in
+    let q : allPointed (p .before .before .before .before) ≡ false = sym (p .every-pointed .ensures) ∙ not-true _ (c .if2 .taken) in
     rw (eq-eqb _ _ (p .before .if1 .left), q)
 
 returns-3 : tie.Need-returns-3
 unfolding endStep endQuestions refusal
 returns-3 c =
     let p = c .before in
-    let q : allPointed (p .before .before) ≡ true = sym (p .every-pointed .ensures) ∙ not-false _ (c .if2 .left) in
+    let q : allPointed (p .before .before .before .before) ≡ true = sym (p .every-pointed .ensures) ∙ not-false _ (c .if2 .left) in
     rw (eq-eqb _ _ (p .before .if1 .left), q)
 
 pub end-step-spec : {M : Type 1} → statement M

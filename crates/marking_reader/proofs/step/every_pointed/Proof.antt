@@ -27,31 +27,34 @@ holds s = pointBy (logged (s .args .log .now)) (s .args .gaps .now)
 abbrev turn : tie.In-loop Inv-loop μ-loop → tie.At-loop Inv-loop μ-loop
 turn c = c .before
 
-inside : (c : tie.In-loop Inv-loop μ-loop) → turn c .loop .i < length (logged (turn c .before .args .log .now))
-inside c = omega (arith, logged-length (turn c .before .args .log .now), c .loop-test .taken)
+abbrev entered : tie.At-loop Inv-loop μ-loop → tie.Start Inv-loop μ-loop
+entered l = l .before .before .before
+
+inside : (c : tie.In-loop Inv-loop μ-loop) → turn c .loop .i < length (logged (entered (turn c) .args .log .now))
+inside c = omega (arith, logged-length (entered (turn c) .args .log .now), c .loop-test .taken)
 
 loop-holds : tie.Need-loop-holds Inv-loop μ-loop
-loop-holds c = passing-first (holds c) (length (logged (c .args .log .now)))
+loop-holds c = let s = c .before .before in passing-first (holds s) (length (logged (s .args .log .now)))
 
 is-pointed-requires : tie.Need-is-pointed-requires Inv-loop μ-loop
-is-pointed-requires c κs = let s = turn c .before in (s .pre .0, (c .loop-test .taken, s .pre .1))
+is-pointed-requires c κs = let s = entered (turn c) in (s .pre .0, (c .loop-test .taken, s .pre .1))
 
 returns : tie.Need-returns Inv-loop μ-loop
 returns c =
     let p = c .before in
     let t = turn (p .before) in
-    not-every (holds (t .before)) (t .loop .inv) (inside (p .before)) (p .is-pointed .ensures) (not-true _ (c .if1 .taken))
+    not-every (holds (entered t)) (t .loop .inv) (inside (p .before)) (p .is-pointed .ensures) (not-true _ (c .if1 .taken))
 
 loop-again : tie.Need-loop-again Inv-loop μ-loop
 loop-again c =
     let p = c .before in
     let t = turn (p .before) in
-    passing-more (holds (t .before)) (t .loop .inv) (inside (p .before)) (p .is-pointed .ensures) (not-false _ (c .if1 .left))
+    passing-more (holds (entered t)) (t .loop .inv) (inside (p .before)) (p .is-pointed .ensures) (not-false _ (c .if1 .left))
 
 returns-2 : tie.Need-returns-2 Inv-loop μ-loop
 returns-2 c =
     let t = c .before in
-    every-one (holds (t .before)) (t .loop .inv) (omega (arith, logged-length (t .before .args .log .now), c .loop-test .left))
+    every-one (holds (entered t)) (t .loop .inv) (omega (arith, logged-length (entered t .args .log .now), c .loop-test .left))
 
 pub every-pointed-spec : {M : Type 1} → statement M
 every-pointed-spec =

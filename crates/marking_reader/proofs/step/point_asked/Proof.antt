@@ -23,7 +23,7 @@ reads s = isStoreRead (logged (s .args .log .now)) (s .args .e)
 
 -- where 28 has said yes, where the event is above the last point's, and where it is one of the history's
 abbrev start : tie.Else1 → tie.Start
-start c = c .before .before
+start c = c .before .before .before
 
 placed : (c : tie.Else1) → allPlaced (start c) ≡ true
 placed c = not-false _ (sym (c .before .is-early .ensures) ∙ c .if1 .left)
@@ -37,7 +37,7 @@ logs c = c .before .before
 returns : tie.Need-returns
 unfolding pointQuestions refusal _and_
 returns c =
-    let q : allPlaced (c .before .before) ≡ false = not-true _ (sym (c .before .is-early .ensures) ∙ c .if1 .taken) in
+    let q : allPlaced (c .before .before .before) ≡ false = not-true _ (sym (c .before .is-early .ensures) ∙ c .if1 .taken) in
     rw q
 
 returns-2 : tie.Need-returns-2
@@ -53,7 +53,7 @@ returns-3 c =
     rw (placed (above u), le-leb _ _ (u .if2 .left), r)
 
 is-store-read-requires : tie.Need-is-store-read-requires
-is-store-read-requires c κs = let s = start (above (c .before)) in (s .pre .owned, (c .if3 .left, few-events (s .pre)))
+is-store-read-requires c κs = let s = start (above (c .before)) in (s .pre .owned, c .if3 .left)
 
 returns-4 : tie.Need-returns-4
 unfolding pointQuestions refusal _and_

@@ -20,7 +20,7 @@ abbrev sized : tie.After-point-asked → tie.Else1
 sized c = c .before .before .before
 
 abbrev start : tie.After-point-asked → tie.Start
-start c = sized c .before .before
+start c = sized c .before .before .before
 
 -- the event and the gap that stand in it, and which question says no to them
 abbrev event : tie.After-point-asked → ℕ
@@ -40,7 +40,7 @@ unfolding pointStep
 returns c = rw (ne-eqb _ _ (c .if1 .taken))
 
 point-asked-requires : tie.Need-point-asked-requires
-point-asked-requires c κs = c .before .before .before .before .pre
+point-asked-requires c κs = c .before .before .before .before .before .pre
 
 returns-2 : tie.Need-returns-2
 unfolding pointStep

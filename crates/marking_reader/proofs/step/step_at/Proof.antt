@@ -12,7 +12,7 @@ use Rattle.marking_reader.proofs.step.step_at.Tie as tie
 
 -- the function's entry, when the record has been looked for
 abbrev start : tie.After-record-at → tie.Start
-start c = c .before .before
+start c = c .before .before .before .before
 
 abbrev there : tie.After-record-at → Found
 there c = recordAt (start c .args .file .now) (start c .args .progress .at)
@@ -27,7 +27,7 @@ whole c = sym (found c .before .before .record-at .ensures) ∙ found c .found .
 record-step-requires : tie.Need-record-step-requires
 record-step-requires c κs =
     let s = start (found c .before .before) in
-    (s .pre, whole-in (s .args .file .now) (s .args .progress .at) (found c .found .given .0 .0) (whole c) .1)
+    (s .pre .0, whole-in (s .args .file .now) (s .args .progress .at) (found c .found .given .0 .0) (whole c) .1)
 
 end-step-requires : tie.Need-end-step-requires
 end-step-requires c κs = start (c .before .before) .pre

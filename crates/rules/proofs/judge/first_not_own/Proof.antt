@@ -21,32 +21,36 @@ Inv-loop log own i₀ i = Passing (ownRight (logged log)) (length (logged log)) 
 abbrev μ-loop : tie.MeasureT-loop
 μ-loop log own i₀ i = length log - i
 
+-- the call
+abbrev entered : tie.At-loop Inv-loop μ-loop → tie.Start Inv-loop μ-loop
+entered l = l .before .before
+
 -- the rule, by what the function is given
 abbrev holds : tie.Start Inv-loop μ-loop → ℕ → Bool
 holds s = ownRight (logged (s .args .log .now))
 
-inside : (t : tie.In-loop Inv-loop μ-loop) → t .before .loop .i < length (logged (t .before .before .args .log .now))
-inside t = in-history (t .before .before .args .log .now) (t .loop-test .taken)
+inside : (t : tie.In-loop Inv-loop μ-loop) → t .before .loop .i < length (logged (entered (t .before) .args .log .now))
+inside t = in-history (entered (t .before) .args .log .now) (t .loop-test .taken)
 
 loop-holds : tie.Need-loop-holds Inv-loop μ-loop
-loop-holds c = passing-first (holds c) (length (logged (c .args .log .now)))
+loop-holds c = let s = c .before in passing-first (holds s) (length (logged (s .args .log .now)))
 
 own-right-requires : tie.Need-own-right-requires Inv-loop μ-loop
-own-right-requires c κs = let s = c .before .before in (s .pre .1, (c .loop-test .taken, log-most (s .args .log .now) (s .pre .0)))
+own-right-requires c κs = (entered (c .before) .pre .1, c .loop-test .taken)
 
 returns : tie.Need-returns Inv-loop μ-loop
 returns c =
     let t = c .before .before in
-    fails-here (holds (t .before .before)) (t .before .loop .inv) (inside t) (c .before .own-right .ensures) (not-true _ (c .if1 .taken))
+    fails-here (holds (entered (t .before))) (t .before .loop .inv) (inside t) (c .before .own-right .ensures) (not-true _ (c .if1 .taken))
 
 loop-again : tie.Need-loop-again Inv-loop μ-loop
 loop-again c =
     let t = c .before .before in
-    passing-more (holds (t .before .before)) (t .before .loop .inv) (inside t) (c .before .own-right .ensures) (not-false _ (c .if1 .left))
+    passing-more (holds (entered (t .before))) (t .before .loop .inv) (inside t) (c .before .own-right .ensures) (not-false _ (c .if1 .left))
 
 returns-2 : tie.Need-returns-2 Inv-loop μ-loop
 returns-2 c =
-    let s = c .before .before in
+    let s = entered (c .before) in
     let e = logged-length (s .args .log .now) in
     sym e ∙ none-fails (holds s) (c .before .loop .inv) (omega (arith, c .loop-test .left))
 

@@ -22,19 +22,19 @@ abbrev begun : tie.After-writers-of → tie.After-transactions-begun
 begun w = placed w .before
 
 abbrev entered : tie.After-writers-of → tie.Start
-entered w = begun w .before
+entered w = begun w .before .before .before .before
 
 -- after rules A and B: where the writers are known
 abbrev written : tie.After-judge-places → tie.After-writers-of
 written p = p .before .before
 
 places-of-requires : tie.Need-places-of-requires
-places-of-requires c κs = all-apart (c .before .pre .1) (c .transactions-begun .ensures)
+places-of-requires c κs = all-apart (c .before .before .before .before .pre .1) (c .transactions-begun .ensures)
 
 writers-of-requires : tie.Need-writers-of-requires
 writers-of-requires c κs =
     let b = c .before .before in
-    all-apart (b .before .pre .1) (b .transactions-begun .ensures)
+    all-apart (b .before .before .before .before .pre .1) (b .transactions-begun .ensures)
 
 judge-places-requires : tie.Need-judge-places-requires
 judge-places-requires c κs =

@@ -16,10 +16,10 @@ by s v =
     andThen v (readsVerdict (startOf (a .starts .now)) (logged (a .log .now)) (a .link .now) (a .writers .now) (a .place .now) (a .gaps .now))
 
 returns : tie.Need-returns
-returns c = sym (ap (by (c .before .before .before)) (c .before .placed .given .1))
+returns c = sym (ap (by (c .before .before .before .before .before .before)) (c .before .placed .given .1))
 
 returns-2 : tie.Need-returns-2
-returns-2 c = c .judge-reads .ensures ∙ sym (ap (by (c .before .before .before)) (c .before .enum-told .given .1))
+returns-2 c = c .judge-reads .ensures ∙ sym (ap (by (c .before .before .before .before .before .before)) (c .before .enum-told .given .1))
 
 pub judge-after-spec : {M : Type 1} → statement M
 judge-after-spec =

@@ -39,26 +39,30 @@ all s = readsVerdict (startOf (s .args .starts .now)) (logged (s .args .log .now
 beyond : (s : tie.Start) {x : ℕ} → length (s .args .log .now) ≤ x → length (history s) ≤ x
 beyond s l = rw (logged-length (s .args .log .now)) l
 
+-- the call
+abbrev entered : tie.After-first-not-own → tie.Start
+entered c = c .before .before .before .before
+
 -- where C holds, and where D holds too
-after-c : (c : tie.Else1) → all (c .before .before) ≡ tried (history (c .before .before)) D (points (c .before .before) D) (last (c .before .before))
+after-c : (c : tie.Else1) → let s = entered (c .before) in all s ≡ tried (history s) D (points s D) (last s)
 unfolding readsVerdict
 after-c c =
-    let s = c .before .before in
+    let s = entered (c .before) in
     broken-later (history s) C (ownRight (history s)) (tried (history s) D (points s D) (last s)) (c .before .first-not-own .ensures) (beyond s (c .if1 .left))
 
-after-d : (c : tie.Else2) → all (c .before .before .before .before) ≡ last (c .before .before .before .before)
+after-d : (c : tie.Else2) → let s = entered (c .before .before .before) in all s ≡ last s
 after-d c =
-    let s = c .before .before .before .before in
+    let s = entered (c .before .before .before) in
     after-c (c .before .before) ∙ broken-later (history s) D (points s D) (last s) (c .before .first-broken .ensures) (beyond s (c .if2 .left))
 
 first-not-own-requires : tie.Need-first-not-own-requires
-first-not-own-requires c κs = (c .pre .1 .walk .readable, c .pre .0)
+first-not-own-requires c κs = let s = c .before .before .before in (s .pre .1 .walk .readable, s .pre .0)
 
 returns : tie.Need-returns
 unfolding readsVerdict
 returns c =
     let o = c .before .before in
-    let s = o .before in
+    let s = entered o in
     c .broken-at .ensures
     ∙ sym (broken-here (history s) C (ownRight (history s)) (tried (history s) D (points s D) (last s)) (o .first-not-own .ensures) (in-history (s .args .log .now) (c .before .if1 .taken)))
 
@@ -66,7 +70,7 @@ returns-2 : tie.Need-returns-2
 unfolding readsVerdict
 returns-2 c =
     let d = c .before .before in
-    let s = d .before .before .before in
+    let s = entered (d .before .before) in
     c .broken-at2 .ensures
     ∙ sym (after-c (d .before) ∙ broken-here (history s) D (points s D) (last s) (d .first-broken .ensures) (in-history (s .args .log .now) (c .before .if2 .taken)))
 
@@ -74,7 +78,7 @@ returns-3 : tie.Need-returns-3
 unfolding readsVerdict
 returns-3 c =
     let e = c .before .before in
-    let s = e .before .before .before .before .before in
+    let s = entered (e .before .before .before .before) in
     c .broken-at3 .ensures
     ∙ sym (after-d (e .before) ∙ broken-here (history s) E (points s E) Accepted (e .first-broken2 .ensures) (in-history (s .args .log .now) (c .before .if3 .taken)))
 
@@ -82,7 +86,7 @@ returns-4 : tie.Need-returns-4
 unfolding readsVerdict
 returns-4 c =
     let e = c .before in
-    let s = e .before .before .before .before .before in
+    let s = entered (e .before .before .before .before) in
     sym (after-d (e .before) ∙ broken-later (history s) E (points s E) Accepted (e .first-broken2 .ensures) (beyond s (c .if3 .left)))
 
 pub judge-reads-spec : {M : Type 1} → statement M

@@ -22,33 +22,37 @@ Inv-loop rule starts log link writers place gaps i₀ i = Passing (pointRule (st
 abbrev μ-loop : tie.MeasureT-loop
 μ-loop rule starts log link writers place gaps i₀ i = length log - i
 
+-- the call
+abbrev entered : tie.At-loop Inv-loop μ-loop → tie.Start Inv-loop μ-loop
+entered l = l .before .before .before
+
 -- the rule, by what the function is given
 abbrev holds : tie.Start Inv-loop μ-loop → ℕ → Bool
 holds s =
     pointRule (startOf (s .args .starts .now)) (logged (s .args .log .now)) (s .args .link .now) (s .args .writers .now) (s .args .place .now) (s .args .gaps .now) (s .args .rule)
 
-inside : (t : tie.In-loop Inv-loop μ-loop) → t .before .loop .i < length (logged (t .before .before .args .log .now))
-inside t = in-history (t .before .before .args .log .now) (t .loop-test .taken)
+inside : (t : tie.In-loop Inv-loop μ-loop) → t .before .loop .i < length (logged (entered (t .before) .args .log .now))
+inside t = in-history (entered (t .before) .args .log .now) (t .loop-test .taken)
 
 loop-holds : tie.Need-loop-holds Inv-loop μ-loop
-loop-holds c = passing-first (holds c) (length (logged (c .args .log .now)))
+loop-holds c = let s = c .before .before in passing-first (holds s) (length (logged (s .args .log .now)))
 
 holds-at-requires : tie.Need-holds-at-requires Inv-loop μ-loop
-holds-at-requires c κs = (c .before .before .pre, c .loop-test .taken)
+holds-at-requires c κs = (entered (c .before) .pre, c .loop-test .taken)
 
 returns : tie.Need-returns Inv-loop μ-loop
 returns c =
     let t = c .before .before in
-    fails-here (holds (t .before .before)) (t .before .loop .inv) (inside t) (c .before .holds-at .ensures) (not-true _ (c .if1 .taken))
+    fails-here (holds (entered (t .before))) (t .before .loop .inv) (inside t) (c .before .holds-at .ensures) (not-true _ (c .if1 .taken))
 
 loop-again : tie.Need-loop-again Inv-loop μ-loop
 loop-again c =
     let t = c .before .before in
-    passing-more (holds (t .before .before)) (t .before .loop .inv) (inside t) (c .before .holds-at .ensures) (not-false _ (c .if1 .left))
+    passing-more (holds (entered (t .before))) (t .before .loop .inv) (inside t) (c .before .holds-at .ensures) (not-false _ (c .if1 .left))
 
 returns-2 : tie.Need-returns-2 Inv-loop μ-loop
 returns-2 c =
-    let s = c .before .before in
+    let s = entered (c .before) in
     let e = logged-length (s .args .log .now) in
     sym e ∙ none-fails (holds s) (c .before .loop .inv) (omega (arith, c .loop-test .left))
 

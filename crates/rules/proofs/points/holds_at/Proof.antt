@@ -8,6 +8,7 @@ use borrow.Author.Needs.{needs}
 use borrow.Author.Tests.{ne-eqb}
 use Rattle.opacity.specs.declared.verdict.Rule.{Rule}
 use Rattle.log.specs.Rows.{logged}
+use Rattle.log.proofs.RowLaws.{logged-length}
 use Rattle.log.specs.Starts.{startOf}
 use Rattle.links.proofs.LogLaws.{in-history, log-most, transaction-below, register-below}
 use Rattle.rules.specs.Walks.{hasPoint, pointHolds, pointRule}
@@ -18,7 +19,7 @@ use Rattle.rules.proofs.points.holds_at.Tie as tie
 
 -- where event, place and gap are known, and the function's entry
 abbrev entered : tie.After-index-of2 → tie.Start
-entered p = p .before .before .before .before .before .before
+entered p = p .before .before .before .before .before .before .before .before
 
 own-low : (p : tie.After-index-of2) → p .before .index-of .result < 64
 own-low p =
@@ -53,18 +54,20 @@ rule-at p e t =
     (p .before .before .before .before .if1 .left) (p .before .before .before .event-at .ensures) (p .before .index-of .ensures ∙ p .before .before .place-at .ensures) (p .index-of2 .ensures)
     (t ∙ ap (here p) (sym e))
 
-element-copy-out-gap : tie.Need-element-copy-out-gap
-element-copy-out-gap c = omega (arith, c .pre .1, log-most (c .args .log .now) (c .pre .0 .walk .readable))
+shared-slice-read-gap : tie.Need-shared-slice-read-gap
+shared-slice-read-gap c =
+    let s = c .before .before .before in
+    omega (arith, s .pre .1, logged-length (s .args .log .now), s .pre .0 .gaps-room)
 
 returns : tie.Need-returns
 returns c =
-    let s = c .before .before in
+    let s = c .before .before .before .before in
     no-point (startOf (s .args .starts .now)) (logged (s .args .log .now)) (s .args .link .now) (s .args .writers .now) (s .args .place .now) (s .args .gaps .now)
     (s .args .i) (s .args .rule) (c .if1 .taken)
 
 place-at-requires : tie.Need-place-at-requires
 place-at-requires c κs =
-    let s = c .before .before .before in
+    let s = c .before .before .before .before .before in
     transaction-below (s .args .log .now) (s .pre .0 .walk .readable) (s .pre .1) (c .event-at .ensures)
 
 no-writer-between-requires : tie.Need-no-writer-between-requires
@@ -94,7 +97,7 @@ returns-6 c = rule-at (c .before .before) (c .enum-told5 .given .1) refl
 pub holds-at-spec : {M : Type 1} → statement M
 holds-at-spec =
     tie.close
-    (tie.spec (λ c. search needs) element-copy-out-gap returns (λ c κs. search needs)
+    (tie.spec (λ c. search needs) shared-slice-read-gap returns (λ c κs. search needs)
     place-at-requires (λ c κs. search needs) (λ c κs. search needs) (λ c. search needs)
     no-writer-between-requires (λ c. search needs) value-at-gap-requires (λ c. search needs)
     (λ c. search needs) (λ c. search needs) returns-2 returns-3 returns-4 returns-5 returns-6)

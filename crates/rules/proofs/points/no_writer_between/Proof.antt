@@ -14,7 +14,7 @@ use Rattle.rules.proofs.points.no_writer_between.Tie as tie
 returns : tie.Need-returns
 unfolding noWriter
 returns c =
-    let s = c .before .before .before in
+    let s = c .before .before .before .before in
     let own = s .args .own in
     let g = s .args .g in
     let o = lastIn (logged (s .args .log .now)) (s .args .link .now) (s .args .writers .now) own (s .args .e .register) (min g own) (max g own) in

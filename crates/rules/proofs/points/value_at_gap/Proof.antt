@@ -16,7 +16,7 @@ returns : tie.Need-returns
 unfolding rightValue startOf
 returns c =
     let w = c .before .before .before .before in
-    let s = w .before in
+    let s = w .before .before in
     let start = startOf (s .args .starts .now) in
     let r = s .args .e .register in
     let o = lastIn (logged (s .args .log .now)) (s .args .link .now) (s .args .writers .now) (s .args .own) r 0 (s .args .g) in
@@ -26,7 +26,7 @@ returns c =
 returns-2 : tie.Need-returns-2
 unfolding rightValue
 returns-2 c =
-    let s = c .before .before .before in
+    let s = c .before .before .before .before in
     let r = s .args .e .register in
     let o = lastIn (logged (s .args .log .now)) (s .args .link .now) (s .args .writers .now) (s .args .own) r 0 (s .args .g) in
     sym (value-some o (c .before .before .last-writer .result) (c .stored .result) (s .args .e .value) (startOf (s .args .starts .now) r)

@@ -11,18 +11,18 @@ use Rattle.straighten.proofs.moves.gap_at.Statement.{statement}
 use Rattle.straighten.proofs.moves.gap_at.Tie as tie
 
 place-at-requires : tie.Need-place-at-requires
-place-at-requires c κs = let s = c .before in transaction-below (s .args .log .now) (s .pre .0) (s .pre .1) (c .event-at .ensures)
+place-at-requires c κs = let s = c .before .before .before in transaction-below (s .args .log .now) (s .pre .0) (s .pre .1 .0) (c .event-at .ensures)
 
-element-copy-out-if1 : tie.Need-element-copy-out-if1
-element-copy-out-if1 c = let s = c .before .before in omega (arith, s .pre .1, log-most (s .args .log .now) (s .pre .0))
+shared-slice-read-if1 : tie.Need-shared-slice-read-if1
+shared-slice-read-if1 c = let s = c .before .before .before .before .before in omega (arith, s .pre .1 .0, s .pre .1 .1)
 
 returns : tie.Need-returns
 returns c =
     let p = c .before .before in
-    rw (c .if1 .taken) (p .place-at .ensures ∙ ap (λ (e : Event). getD (p .before .before .args .place .now) (e .transaction) 0) (p .before .event-at .ensures))
+    rw (c .if1 .taken) (p .place-at .ensures ∙ ap (λ (e : Event). getD (p .before .before .before .before .args .place .now) (e .transaction) 0) (p .before .event-at .ensures))
 
-element-copy-out-result : tie.Need-element-copy-out-result
-element-copy-out-result c = let s = c .before .before .before .before in omega (arith, s .pre .1, log-most (s .args .log .now) (s .pre .0))
+shared-slice-read-result : tie.Need-shared-slice-read-result
+shared-slice-read-result c = let s = c .before .before .before .before .before .before .before in omega (arith, s .pre .1 .0, s .pre .1 .2)
 
 returns-2 : tie.Need-returns-2
 returns-2 c = rw (c .before .if1 .left)
@@ -30,5 +30,5 @@ returns-2 c = rw (c .before .if1 .left)
 pub gap-at-spec : {M : Type 1} → statement M
 gap-at-spec =
     tie.close
-    (tie.spec (λ c κs. search needs) place-at-requires element-copy-out-if1 returns
-    (λ c. search needs) element-copy-out-result returns-2)
+    (tie.spec (λ c κs. search needs) place-at-requires shared-slice-read-if1 returns
+    (λ c. search needs) shared-slice-read-result returns-2)

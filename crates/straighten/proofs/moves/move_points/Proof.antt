@@ -19,31 +19,38 @@ use Rattle.straighten.proofs.moves.move_points.Tie as tie
 
 abbrev Inv-loop : tie.InvT-loop
 Inv-loop log place moves gaps₀ i₀ gaps i =
-    (i ≤ length log) × (length gaps ≡ 2048)
+    (i ≤ length log) × (length gaps ≡ length gaps₀)
     × Front 0 (gapBy (logged log) place moves gaps₀) i gaps × ((k : ℕ) → i ≤ k → getD gaps k 0 ≡ getD gaps₀ k 0)
 
 abbrev μ-loop : tie.MeasureT-loop
 μ-loop log place moves gaps₀ i₀ gaps i = length log - i
 
-few : (c : tie.In-loop Inv-loop μ-loop) → c .before .loop .i < 2048
-few c = omega (arith, log-most (c .before .before .args .log .now) (c .before .before .pre .0))
+-- the call, and that an event has an entry
+abbrev entered : tie.At-loop Inv-loop μ-loop → tie.Start Inv-loop μ-loop
+entered l = l .before .before .before
+
+has-entry : (c : tie.In-loop Inv-loop μ-loop) → c .before .loop .i < length (c .before .loop .gaps)
+has-entry c = omega (arith, c .loop-test .taken, entered (c .before) .pre .1 .1, c .before .loop .inv .1)
 
 loop-holds : tie.Need-loop-holds Inv-loop μ-loop
-loop-holds c = (omega arith, c .pre .1, front-none _ _ _, λ k l. refl)
+loop-holds c = (omega arith, refl, front-none _ _ _, λ k l. refl)
 
 gap-at-requires : tie.Need-gap-at-requires Inv-loop μ-loop
-gap-at-requires c κs = (c .before .before .before .pre .0, c .before .loop-test .taken)
+gap-at-requires c κs =
+    let t = c .before in
+    let s = entered (t .before) in
+    (s .pre .0, (t .loop-test .taken, s .pre .1 .0, omega (arith, s .pre .1 .1, t .before .loop .inv .1)))
 
-element-write-gaps : tie.Need-element-write-gaps Inv-loop μ-loop
-element-write-gaps c = few (c .before .before)
+slice-write-gaps : tie.Need-slice-write-gaps Inv-loop μ-loop
+slice-write-gaps c = has-entry (c .before .before)
 
 loop-again : tie.Need-loop-again Inv-loop μ-loop
 loop-again c =
     let t = c .before .before .before in
-    let a = t .before .args in
+    let a = entered t .args in
     let i = t .loop .i in
     let h = logged (a .log .now) in
-    let room : i < length (t .loop .gaps) = omega (arith, few (c .before .before), t .loop .inv .1) in
+    let room = has-entry (c .before .before) in
     let gap : c .gap-at .result ≡ gapBy h (a .place .now) (a .moves .now) (a .gaps .now) i =
     c .gap-at .ensures
     ∙ ap (cond (getD (a .moves .now) i false) (getD (a .place .now) (eventAt h i .transaction) 0)) (t .loop .inv .3 i (omega arith)) in (
@@ -56,13 +63,13 @@ loop-again c =
 returns : tie.Need-returns Inv-loop μ-loop
 returns c =
     let t = c .before in
-    let a = t .before .args in
+    let a = entered t .args in
     let e : t .loop .i ≡ length (logged (a .log .now)) = omega (arith, logged-length (a .log .now)) in
     let gap = gapBy (logged (a .log .now)) (a .place .now) (a .moves .now) (a .gaps .now) in
-    (subst (λ (k : ℕ). Front 0 gap k (t .loop .gaps)) e (t .loop .inv .2), t .loop .inv .1)
+    subst (λ (k : ℕ). Front 0 gap k (t .loop .gaps)) e (t .loop .inv .2)
 
 pub move-points-spec : {M : Type 1} → statement M
 move-points-spec =
     tie.close
-    (tie.spec Inv-loop μ-loop loop-holds gap-at-requires (λ c. search needs) element-write-gaps
-    (λ c. search needs) (λ c. search needs) loop-again returns)
+    (tie.spec Inv-loop μ-loop loop-holds gap-at-requires (λ c. search needs) slice-write-gaps
+    (λ c. search needs) (λ c. search needs) loop-again (λ c. c .before .loop .inv .1) returns)
