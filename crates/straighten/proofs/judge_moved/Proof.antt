@@ -108,7 +108,8 @@ judge-places-requires c κs =
 
 judge-after-requires : tie.Need-judge-after-requires
 judge-after-requires c κs =
-    let p = c .before .before .before .before .before .before .before .before in
+    let j = c .before .before .before .before in
+    let p = j .before .before .before .before in
     let w = written p in
     let s = entered (linked w) in
     let facts = tabled w .tables-of .ensures in (

@@ -17,9 +17,12 @@ use borrow.Author.Needs.{needs}
 use Rattle.rules.proofs.points.holds_at.Statement.{statement}
 use Rattle.rules.proofs.points.holds_at.Tie as tie
 
--- where event, place and gap are known, and the function's entry
+-- where event, place and gap are known: where there is a point, and the function's entry
+abbrev there : tie.After-index-of2 → tie.Else1
+there p = p .before .before .before .before
+
 abbrev entered : tie.After-index-of2 → tie.Start
-entered p = p .before .before .before .before .before .before .before .before
+entered p = there p .before .before .before .before
 
 own-low : (p : tie.After-index-of2) → p .before .index-of .result < 64
 own-low p =
