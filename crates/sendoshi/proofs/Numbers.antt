@@ -60,25 +60,25 @@ pub widen : {low high low′ high′ count : ℕ} {r : Refusal} → low′ ≤ l
 widen {low} {high} {low′} {high′} {count} {r} a b w =
     record { number = record { least = omega (arith, w .number .least); most = omega (arith, w .number .most) }; place = w .place }
 
-columns-numbered : (p : Past) (e : Event) (n : ℕ) → refusal (columnQuestions p e) ≡ some n → Within 4 17 n
+columns-numbered : (edition : ℕ) (p : Past) (e : Event) (n : ℕ) → refusal (columnQuestions edition p e) ≡ some n → Within 4 17 n
 unfolding columnQuestions eventQuestions all _and_
-columns-numbered p e n x = numbered 4 17 (columnQuestions p e) refl n x
+columns-numbered edition p e n x = numbered 4 17 (columnQuestions edition p e) refl n x
 
 -- an event that a question refuses comes after at most 2,048 others: question 6 let the one before it pass
-early : (h : List Event) (i : ℕ) → i < length h → ((j : ℕ) → j < i → refusedAt edition h j ≡ none) → i ≤ 2048
+early : (edition : ℕ) (h : List Event) (i : ℕ) → i < length h → ((j : ℕ) → j < i → refusedAt edition h j ≡ none) → i ≤ 2048
 unfolding refusedAt
-early h zero l g = omega arith
-early h (suc i) l g =
-    let a = asked (past (take i h)) (eventAt h i) (fit (past (take i h)) (eventAt h i) (g i (omega arith)) .asks) in
+early edition h zero l g = omega arith
+early edition h (suc i) l g =
+    let a = asked (past (take i h)) (eventAt h i) (fit edition (past (take i h)) (eventAt h i) (g i (omega arith)) .asks) in
     omega (arith, a .room, length-take-le i h (omega arith))
 
 refused-with : (i : ℕ) (o : Option ℕ) → refusedWith i o ≡ none → o ≡ none
 refused-with i none e = refl
 refused-with i (some q) e = absurd (Option·none-ne-some (Checked.Refused (refuse q i)) (sym e))
 
-pub events-number : (h : List Event) (count : ℕ) (r : Refusal) → eventsAnswer h ≡ Checked.Refused r → Asked 4 17 count r
+pub events-number : (edition : ℕ) (h : List Event) (count : ℕ) (r : Refusal) → eventsAnswer edition h ≡ Checked.Refused r → Asked 4 17 count r
 unfolding eventsAnswer refusedAt
-events-number h count r x = go (lowest (λ i. refusedWith i (refusedAt edition h i)) (length h)) refl x
+events-number edition h count r x = go (lowest (λ i. refusedWith i (refusedAt edition h i)) (length h)) refl x
   where
     at-event : (i : ℕ) → i < length h → ((j : ℕ) → j < i → refusedAt edition h j ≡ none) → (o : Option ℕ) → refusedAt edition h i ≡ o
         → refusedWith i o ≡ some (Checked.Refused r) → Asked 4 17 count r
@@ -86,8 +86,8 @@ events-number h count r x = go (lowest (λ i. refusedWith i (refusedAt edition h
     at-event i l g (some n) w k =
         let s : Checked.Refused (refuse n i) ≡ Checked.Refused r = Option·some-injective (Checked.Refused (refuse n i)) (Checked.Refused r) k in
         let e : refuse n i ≡ r = cc in
-        let m = columns-numbered (past (take i h)) (eventAt h i) n w in
-        subst (Asked 4 17 count) e (record { number = m; place = inl (early h i l g) })
+        let m = columns-numbered edition (past (take i h)) (eventAt h i) n w in
+        subst (Asked 4 17 count) e (record { number = m; place = inl (early edition h i l g) })
 
     go : (o : Option Checked) → lowest (λ i. refusedWith i (refusedAt edition h i)) (length h) ≡ o → Option·getD o Checked.Readable ≡ Checked.Refused r → Asked 4 17 count r
     go none w k = let z : _≡_ {A = ℕ} 0 1 = cc in absurd (omega arith)

@@ -264,6 +264,8 @@ pub extern "C" fn sendoshi_straighten(
 // Counts the transactions that begin in the first `count` events, or gives the question and the event.
 #[no_mangle]
 pub extern "C" fn sendoshi_transactions(
+    edition: u16,
+    starts: &[u32; 32],
     kinds: &[u16],
     transactions: &[u16],
     registers: &[u16],
@@ -271,19 +273,30 @@ pub extern "C" fn sendoshi_transactions(
     threads: &[u16],
     count: u32,
 ) -> u64
-    ensures { λ r. ⌜ r ≡ transactionsCall (columns (now (kinds .entry)) (now (transactions .entry)) (now (registers .entry))
-        (now (values .entry)) (now (threads .entry))) count ⌝ }
-    ensures { λ r. ⌜ decoded oneValue never r ≡ countSaid (transactionsAnswer
+    ensures { λ r. ⌜ r ≡ transactionsCall edition (now (starts .entry)) (columns (now (kinds .entry)) (now (transactions .entry))
+        (now (registers .entry)) (now (values .entry)) (now (threads .entry))) count ⌝ }
+    ensures { λ r. ⌜ decoded oneValue never r ≡ countSaid (transactionsAnswer edition (now (starts .entry))
         (columns (now (kinds .entry)) (now (transactions .entry)) (now (registers .entry)) (now (values .entry))
         (now (threads .entry))) count) ⌝ }
 {
-    let answer = counts::count_transactions(kinds, transactions, registers, values, threads, count as usize);
+    let answer = counts::count_transactions(
+        edition,
+        starts,
+        kinds,
+        transactions,
+        registers,
+        values,
+        threads,
+        count as usize,
+    );
     count_code(answer)
 }
 
 // Counts the store reads of the first `count` events, or gives the question and the event.
 #[no_mangle]
 pub extern "C" fn sendoshi_store_reads(
+    edition: u16,
+    starts: &[u32; 32],
     kinds: &[u16],
     transactions: &[u16],
     registers: &[u16],
@@ -291,13 +304,22 @@ pub extern "C" fn sendoshi_store_reads(
     threads: &[u16],
     count: u32,
 ) -> u64
-    ensures { λ r. ⌜ r ≡ storeReadsCall (columns (now (kinds .entry)) (now (transactions .entry)) (now (registers .entry))
-        (now (values .entry)) (now (threads .entry))) count ⌝ }
-    ensures { λ r. ⌜ decoded oneValue never r ≡ countSaid (storeReadsAnswer
+    ensures { λ r. ⌜ r ≡ storeReadsCall edition (now (starts .entry)) (columns (now (kinds .entry)) (now (transactions .entry))
+        (now (registers .entry)) (now (values .entry)) (now (threads .entry))) count ⌝ }
+    ensures { λ r. ⌜ decoded oneValue never r ≡ countSaid (storeReadsAnswer edition (now (starts .entry))
         (columns (now (kinds .entry)) (now (transactions .entry)) (now (registers .entry)) (now (values .entry))
         (now (threads .entry))) count) ⌝ }
 {
-    let answer = counts::count_store_reads(kinds, transactions, registers, values, threads, count as usize);
+    let answer = counts::count_store_reads(
+        edition,
+        starts,
+        kinds,
+        transactions,
+        registers,
+        values,
+        threads,
+        count as usize,
+    );
     count_code(answer)
 }
 
@@ -305,6 +327,8 @@ pub extern "C" fn sendoshi_store_reads(
 // the question and the event.
 #[no_mangle]
 pub extern "C" fn sendoshi_tally(
+    edition: u16,
+    starts: &[u32; 32],
     kinds: &[u16],
     transactions: &[u16],
     registers: &[u16],
@@ -312,12 +336,21 @@ pub extern "C" fn sendoshi_tally(
     threads: &[u16],
     count: u32,
 ) -> u64
-    ensures { λ r. ⌜ r ≡ tallyCall (columns (now (kinds .entry)) (now (transactions .entry)) (now (registers .entry))
-        (now (values .entry)) (now (threads .entry))) count ⌝ }
-    ensures { λ r. ⌜ decoded fourValues never r ≡ tallySaid (tallyAnswer
+    ensures { λ r. ⌜ r ≡ tallyCall edition (now (starts .entry)) (columns (now (kinds .entry)) (now (transactions .entry))
+        (now (registers .entry)) (now (values .entry)) (now (threads .entry))) count ⌝ }
+    ensures { λ r. ⌜ decoded fourValues never r ≡ tallySaid (tallyAnswer edition (now (starts .entry))
         (columns (now (kinds .entry)) (now (transactions .entry)) (now (registers .entry)) (now (values .entry))
         (now (threads .entry))) count) ⌝ }
 {
-    let answer = counts::tally_transactions(kinds, transactions, registers, values, threads, count as usize);
+    let answer = counts::tally_transactions(
+        edition,
+        starts,
+        kinds,
+        transactions,
+        registers,
+        values,
+        threads,
+        count as usize,
+    );
     tally_code(answer)
 }
