@@ -136,6 +136,7 @@ struct History {
     transactions: [u16; 10],
     registers: [u16; 10],
     values: [u32; 10],
+    threads: [u16; 10],
     count: usize,
 }
 
@@ -146,6 +147,7 @@ fn check(label: &[u8], history: History, file: File) {
     let transactions = history.transactions;
     let registers = history.registers;
     let values = history.values;
+    let threads = history.threads;
     let size = file.size();
     let bytes = file.bytes;
     show(
@@ -157,6 +159,7 @@ fn check(label: &[u8], history: History, file: File) {
             &transactions,
             &registers,
             &values,
+            &threads,
             history.count,
             &bytes[..size],
         ),
@@ -168,8 +171,9 @@ fn h0_with(label: &[u8], value: u32, count: usize, file: File) {
     let history = History {
         kinds: [16, 19, 20, 16, 17, 18, 21, 22, 17, 18],
         transactions: [0, 0, 0, 1, 1, 1, 0, 0, 1, 1],
-        registers: [0, 3, 0, 1, 3, 3, 0, 0, 3, 3],
+        registers: [0, 3, 0, 0, 3, 3, 0, 0, 3, 3],
         values: [0, 7, 0, 0, 0, 0, 0, 0, 0, value],
+        threads: [0, 0, 0, 1, 0, 0, 0, 0, 0, 0],
         count,
     };
     check(label, history, file);
@@ -190,8 +194,9 @@ fn late(label: &[u8], file: File) {
     let history = History {
         kinds: [16, 19, 20, 21, 22, 16, 17, 18, 0, 0],
         transactions: [0, 0, 0, 0, 0, 1, 1, 1, 0, 0],
-        registers: [0, 0, 0, 0, 0, 1, 0, 0, 0, 0],
+        registers: [0; 10],
         values: [0, 1, 0, 0, 0, 0, 0, 0, 0, 0],
+        threads: [0, 0, 0, 0, 0, 1, 0, 0, 0, 0],
         count: 8,
     };
     check(label, history, file);
@@ -204,6 +209,7 @@ fn own(label: &[u8], file: File) {
         transactions: [0; 10],
         registers: [0, 2, 0, 2, 2, 0, 0, 0, 0, 0],
         values: [0, 5, 0, 0, 0, 0, 0, 0, 0, 0],
+        threads: [0; 10],
         count: 5,
     };
     check(label, history, file);
@@ -272,7 +278,7 @@ fn point_refusals() {
 fn length_refusal() {
     let starts = [0u32; 32];
     let long = [0u8; 32769];
-    let answer = check_marking(1, &starts, &[16u16], &[0u16], &[0u16], &[0u32], 1, &long);
+    let answer = check_marking(1, &starts, &[16u16], &[0u16], &[0u16], &[0u32], &[0u16], 1, &long);
     show(b"1, a byte too many", answer);
 }
 

@@ -107,6 +107,7 @@ module _ (file lent : List ℕ) (c : Columns) where
         × (drop n (readCall file lent c .columns .transactions) ≡ drop n (c .transactions))
         × (drop n (readCall file lent c .columns .registers) ≡ drop n (c .registers))
         × (drop n (readCall file lent c .columns .values) ≡ drop n (c .values))
+        × (drop n (readCall file lent c .columns .threads) ≡ drop n (c .threads))
     unfolding readCall filledWith
     read-behind =
         let w = was-read file c n (is-read .0) in
@@ -115,6 +116,7 @@ module _ (file lent : List ℕ) (c : Columns) where
           ap (λ (x : Columns). drop n (x .transactions)) (w .filled) ∙ behind (λ e. e .transaction) (c .transactions) h (w .count),
           ap (λ (x : Columns). drop n (x .registers)) (w .filled) ∙ behind (λ e. e .register) (c .registers) h (w .count),
           ap (λ (x : Columns). drop n (x .values)) (w .filled) ∙ behind (λ e. e .value) (c .values) h (w .count),
+          ap (λ (x : Columns). drop n (x .threads)) (w .filled) ∙ behind (λ e. e .thread) (c .threads) h (w .count),
         )
 
 -- ---- write
@@ -228,19 +230,19 @@ straighten-never-204 edition starts c count small file out list e t x =
 -- ---- the tally
 
 -- The four numbers of a tally add up to the number of transactions in the same columns.
-pub tally-adds-up : (c : Columns) (count : ℕ) → count ≤ most → (x : Tally)
-    → decoded fourValues never (tallyCall c count) ≡ done (x .committed ∷ x .aborted ∷ x .pending ∷ x .live ∷ [])
-    → decoded oneValue never (transactionsCall c count) ≡ done ((x .committed + x .aborted + x .pending + x .live) ∷ [])
+pub tally-adds-up : (edition : ℕ) (starts : List ℕ) (c : Columns) (count : ℕ) → count ≤ most → (x : Tally)
+    → decoded fourValues never (tallyCall edition starts c count) ≡ done (x .committed ∷ x .aborted ∷ x .pending ∷ x .live ∷ [])
+    → decoded oneValue never (transactionsCall edition starts c count) ≡ done ((x .committed + x .aborted + x .pending + x .live) ∷ [])
 unfolding tallyCall transactionsCall counts
-tally-adds-up c count small x t =
-    let w = tallied-exactly c count x .0 (sym (decodes fourValues never _ (tally-decodable c count small)) ∙ t) in
+tally-adds-up edition starts c count small x t =
+    let w = tallied-exactly edition starts c count x .0 (sym (decodes fourValues never _ (tally-decodable edition starts c count small)) ∙ t) in
     let s = ap (λ (y : Tally). y .committed + y .aborted + y .pending + y .live) (sym (w .1)) ∙ adds-up (history c count) in
-    decodes oneValue never _ (transactions-decodable c count small) ∙ transactions-exactly c count _ .1 (w .0, sym s)
+    decodes oneValue never _ (transactions-decodable edition starts c count small) ∙ transactions-exactly edition starts c count _ .1 (w .0, sym s)
 
 -- ---- buffers that are long enough
 
 -- an output of SENDOSHI_FILE_SIZE(count) bytes holds the file of any history of so many events,
-pub file-fits : (edition : ℕ) (starts : List ℕ) (c : Columns) (count : ℕ) → length (fileOf edition starts (history c count)) ≤ 6 + 10 * 32 + 12 * count
+pub file-fits : (edition : ℕ) (starts : List ℕ) (c : Columns) (count : ℕ) → length (fileOf edition starts (history c count)) ≤ 6 + 10 * 32 + 14 * count
 file-fits edition starts c count =
     omega (arith, length-file edition starts (history c count), starts-most starts 32, length-most (history c count), history-length c count)
 

@@ -194,6 +194,7 @@ pub calls-read-behind : (file lent : List ℕ) (c : Columns) (n edition : ℕ) �
     × (drop n (readCall file lent c .columns .transactions) ≡ drop n (c .transactions))
     × (drop n (readCall file lent c .columns .registers) ≡ drop n (c .registers))
     × (drop n (readCall file lent c .columns .values) ≡ drop n (c .values))
+    × (drop n (readCall file lent c .columns .threads) ≡ drop n (c .threads))
 calls-read-behind = calls.read-behind
 
 pub calls-write-behind : (edition : ℕ) (starts : List ℕ) (c : Columns) (count : ℕ) → count ≤ most → (out : List ℕ) (len : ℕ)

@@ -32,7 +32,7 @@ use Rattle.marking.proofs.Theorems.{history-refused}
 use Rattle.straighten.specs.declared.Straightening.{Straightening}
 use Rattle.straighten.specs.Answer.{straightenedAnswer}
 use Rattle.straighten.proofs.AnswerLaws.{answer-means as straight-means}
-use Rattle.sendoshi.proofs.Numbers.{Asked, widen, events-number, columns-number, call-number, asked-number, then-cases}
+use Rattle.sendoshi.proofs.Numbers.{Asked, widen, events-number, call-number, asked-number, then-cases}
 use Rattle.sendoshi.proofs.Files.{HistoryNumber, history-number, read-limits, MarkingNumber, marking-number}
 
 -- 1 to 14 and 41 to 43, of a file
@@ -89,7 +89,7 @@ find-refusal edition starts c count prefix room r x =
     (λ a.
     ⊎-elim
     (λ b. asked-number 3 32 count _ refl r b)
-    (λ b. widen (omega arith) (omega arith) (events-number (history c count) count r (b .1)))
+    (λ b. widen (omega arith) (omega arith) (events-number edition (history c count) count r (b .1)))
     (then-cases _ _ r a))
     (λ a. asked-number 3 32 count _ refl r (a .1))
     (then-cases _ _ r x)

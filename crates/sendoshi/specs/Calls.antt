@@ -77,11 +77,11 @@ checkCall edition starts c count file = coded (checkSaid (verdictAnswer edition 
 unfoldable pub straightenCall : ℕ → List ℕ → Columns → ℕ → List ℕ → List ℕ → List ℕ → FilledBoth
 straightenCall edition starts c count file output list = straightenFilled (straightenedAnswer edition starts c count file output list)
 
-unfoldable pub transactionsCall : Columns → ℕ → ℕ
-transactionsCall c count = coded (countSaid (transactionsAnswer c count))
+unfoldable pub transactionsCall : ℕ → List ℕ → Columns → ℕ → ℕ
+transactionsCall edition starts c count = coded (countSaid (transactionsAnswer edition starts c count))
 
-unfoldable pub storeReadsCall : Columns → ℕ → ℕ
-storeReadsCall c count = coded (countSaid (storeReadsAnswer c count))
+unfoldable pub storeReadsCall : ℕ → List ℕ → Columns → ℕ → ℕ
+storeReadsCall edition starts c count = coded (countSaid (storeReadsAnswer edition starts c count))
 
-unfoldable pub tallyCall : Columns → ℕ → ℕ
-tallyCall c count = coded (tallySaid (tallyAnswer c count))
+unfoldable pub tallyCall : ℕ → List ℕ → Columns → ℕ → ℕ
+tallyCall edition starts c count = coded (tallySaid (tallyAnswer edition starts c count))

@@ -3,8 +3,8 @@
 use mathlib.Core.Path.{_≡_, refl}
 use mathlib.Core.Bool.{true}
 use Rattle.lists.specs.Lists.{_and_, _or_, _implies_, any, all, keep, latest, every, lowest, first, last, range}
-use Rattle.events.specs.Events.{isKnown, isBegin, isRead, isWrite, isCall, namesRegister, asksCommit, isCommit, isAbort, isEnd, by, has, begins, ended, lastOf, pendingCall, pendingOf, latestOn}
-use Rattle.events.specs.Questions.{refusal, threadFree, due, fieldsDue, eventQuestions, columnQuestions, refusedAt, readable}
+use Rattle.events.specs.Events.{isKnown, isLone, isBegin, answersRead, isRead, isWrite, isCall, namesRegister, asksCommit, isCommit, isAbort, isEnd, by, has, begins, ended, lastOf, pendingCall, pendingOf, latestOn}
+use Rattle.events.specs.Questions.{refusal, threadFree, due, registerDue, fieldsDue, eventQuestions, columnQuestions, refusedAt}
 use Rattle.log.specs.Answer.{eventsAnswer, historyAnswer}
 use Rattle.log.specs.Answer.{said}
 use Rattle.log.specs.Starts.{startOf, allZero, admits}
@@ -26,8 +26,8 @@ use Rattle.worked.specs.Worked.{right, worked}
 pub worked-hold : all right worked ≡ true
 unfolding
     _and_ _or_ _implies_ any all keep latest every lowest first last range
-    isKnown isBegin isRead isWrite isCall namesRegister asksCommit isCommit isAbort isEnd by has begins ended lastOf
-    pendingCall pendingOf latestOn refusal threadFree due fieldsDue eventQuestions columnQuestions refusedAt readable
+    isKnown isLone isBegin answersRead isRead isWrite isCall namesRegister asksCommit isCommit isAbort isEnd by has begins ended lastOf
+    pendingCall pendingOf latestOn refusal threadFree due registerDue fieldsDue eventQuestions columnQuestions refusedAt
     eventsAnswer historyAnswer said startOf allZero admits history hold filledWith
     status allows precedes lastWrite ownWrite isOwnRead isStoreRead storeReads ownRight
     placed before outcome written contents distinct isOrder outcomeKept preceded legalOver realTimeKept

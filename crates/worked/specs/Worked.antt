@@ -1,6 +1,6 @@
 -- To be believed: the worked histories, as one list with what the definitions must say of each: the starred ones of the paper ("Histories
--- to try"), histories with start values, some that catch what those do not, marking files, markings with their points straightened,
--- tallies, and seven of the source document 001.
+-- to try"), histories with start values, histories with accesses outside transactions, some that catch what those do not, marking files,
+-- markings with their points straightened, tallies, and seven of the source document 001.
 -- Assumes nothing.
 use Prim.Native.Nat.{ℕ}
 use mathlib.Core.Bool.{Bool, true, false}
@@ -15,7 +15,6 @@ use Rattle.log.specs.Starts.{startOf, noStarts}
 use Rattle.log.specs.Columns.{Columns, columns, filledWith}
 use Rattle.events.specs.Said.{Said, done, nothing, faulted, broken, atEvent, atByte}
 use Rattle.log.specs.Answer.{said}
-use Rattle.events.specs.Questions.{readable}
 use Rattle.log.specs.Answer.{historyAnswer}
 use Rattle.opacity.specs.declared.verdict.Rule.the-variants.{A, B, C, D, E}
 use Rattle.opacity.specs.declared.verdict.Verdict.{Verdict}
@@ -37,11 +36,17 @@ use Rattle.straighten.specs.Straight.{straightened, movedEvents}
 -- ---- histories
 
 event : ℕ → ℕ → ℕ → ℕ → Event
-event k t r v = record { kind = k; transaction = t; register = r; value = v }
+event k t r v = record { kind = k; transaction = t; register = r; value = v; thread = 0 }
 
 beginOn : ℕ → ℕ → List Event
-unfolding event
-beginOn thread t = event 16 t thread 0 ∷ []
+beginOn thread t = record { kind = 16; transaction = t; register = 0; value = 0; thread = thread } ∷ []
+
+-- accesses outside transactions
+loneRead : ℕ → ℕ → ℕ → ℕ → List Event
+loneRead thread t r v = record { kind = 24; transaction = t; register = r; value = v; thread = thread } ∷ []
+
+loneWrite : ℕ → ℕ → ℕ → ℕ → List Event
+loneWrite thread t r v = record { kind = 25; transaction = t; register = r; value = v; thread = thread } ∷ []
 
 -- a begin on the thread of its own number
 begin : ℕ → List Event
@@ -188,7 +193,7 @@ pub record Case : Type 0 where
 
 -- the history in columns
 inColumns : Case → Columns
-inColumns c = filledWith (c .history) (columns [] [] [] [])
+inColumns c = filledWith (c .history) (columns [] [] [] [] [])
 
 -- what the questions of a call say: 17, 3, and each event's own
 asked : Case → Said
@@ -231,7 +236,7 @@ saysFrom a b h c = record { edition = 2; starts = startsWith a b; history = h; c
 -- a refusal is that of a call; of any other case no question says no to a call, and what is said of it holds
 unfoldable pub right : Case → Bool
 unfolding holds asked same
-right c = readable (c .history) and (isRefusal (c .claim) or same (asked c) (done [])) and holds c (startOf (c .starts)) (c .history) (c .claim)
+right c = (isRefusal (c .claim) or same (asked c) (done [])) and holds c (startOf (c .starts)) (c .history) (c .claim)
   where
     isRefusal : Claim → Bool
     isRefusal (refusedBy q i) = true
@@ -333,6 +338,70 @@ fromStarts =
     ∷ saysFrom 5 0 (then (begin 0 ∷ begin 1 ∷ write 0 0 7 ∷ commit 0 ∷ read 1 0 5 ∷ [])) (lowestIs (marking late (point 7 0 ∷ [])))
     ∷ saysFrom 5 0 (then (begin 0 ∷ begin 1 ∷ write 0 0 7 ∷ commit 0 ∷ read 1 0 5 ∷ []))
     (straight (marking late (point 7 2 ∷ [])) (marking late (point 7 0 ∷ [])) (7 ∷ []) Accepted)
+    ∷ []
+
+-- T0 writes r0 := 5 and calls commit, a lone read gets 5, and what follows
+pendingLone : List Event → List Event
+unfolding begin write callCommit loneRead then
+pendingLone more = then (begin 0 ∷ write 0 0 5 ∷ callCommit 0 ∷ loneRead 2 1 0 5 ∷ more ∷ [])
+
+-- T0 reads register 0 as a, a lone write puts 7 there, and T0 reads it as b
+around : ℕ → ℕ → List Event
+unfolding begin read loneWrite then
+around a b = then (begin 0 ∷ read 0 0 a ∷ loneWrite 2 1 0 7 ∷ read 0 0 b ∷ [])
+
+-- a lone write of 7 to register 0, and then a lone read of it as v
+loneAfter : ℕ → List Event
+unfolding loneRead loneWrite then
+loneAfter v = then (loneWrite 2 0 0 7 ∷ loneRead 2 1 0 v ∷ [])
+
+both : List Place
+both = place 0 true ∷ place 1 true ∷ []
+
+-- accesses outside transactions, each a committed transaction of one event
+alone : List Case
+unfolding says saysFrom startsWith event begin beginOn loneRead loneWrite read write callCommit commit then pendingLone around loneAfter both point marking
+alone =
+    -- a start value read bare; the same read of 0
+    saysFrom 5 0 (loneRead 2 0 0 5) (scanned Opaque)
+    ∷ saysFrom 5 0 (loneRead 2 0 0 5) (lowestIs (marking (place 0 true ∷ []) (point 0 0 ∷ [])))
+    ∷ saysFrom 5 0 (loneRead 2 0 0 5) (counted 1 1 1)
+    ∷ saysFrom 5 0 (loneRead 2 0 0 5) (tallied 1 0 0 0)
+    ∷ saysFrom 5 0 (loneRead 2 0 0 5) (runs (place 0 true ∷ []) true)
+    ∷ saysFrom 5 0 (loneRead 2 0 0 0) (scanned (Faulted 0 1))
+    -- it is recorded as committed: rule A names its event
+    ∷ saysFrom 5 0 (loneRead 2 0 0 5) (checked (marking (place 0 false ∷ []) (point 0 0 ∷ [])) (Broken A 0 0))
+    -- the value of a writer whose commit is pending; then the old value, with the commit unanswered and answered
+    ∷ saysFrom 0 0 (pendingLone []) (scanned Opaque)
+    ∷ saysFrom 0 0 (pendingLone []) (lowestIs (marking both (point 4 1 ∷ [])))
+    ∷ saysFrom 0 0 (pendingLone (loneRead 2 2 0 0)) (scanned (Faulted 5 1))
+    ∷ saysFrom 0 0 (pendingLone (event 22 0 0 0 ∷ loneRead 2 2 0 0)) (scanned (Faulted 6 1))
+    -- a lone write is read by a live transaction that began before it
+    ∷ saysFrom 0 0 (then (begin 0 ∷ loneWrite 2 1 0 7 ∷ read 0 0 7 ∷ [])) (scanned Opaque)
+    ∷ saysFrom 0 0 (then (begin 0 ∷ loneWrite 2 1 0 7 ∷ read 0 0 7 ∷ [])) (lowestIs (marking (place 1 true ∷ place 0 false ∷ []) (point 3 1 ∷ [])))
+    -- and one between two reads: old and then new is torn, old both times is not
+    ∷ saysFrom 0 0 (around 0 7) (scanned (Faulted 5 1))
+    ∷ saysFrom 0 0 (around 0 0) (scanned Opaque)
+    ∷ saysFrom 0 0 (around 7 7) (scanned (Faulted 2 1))
+    -- a lone access begins after what ended before it: rule B names its event; its point behind a writer breaks D, a wrong value E
+    ∷ saysFrom 0 0 (loneAfter 7) (checked (marking both (point 1 1 ∷ [])) Accepted)
+    ∷ saysFrom 0 0 (loneAfter 7) (checked (marking (place 1 true ∷ place 0 true ∷ []) (point 1 0 ∷ [])) (Broken B 1 1))
+    ∷ saysFrom 0 0 (loneAfter 7) (checked (marking both (point 1 0 ∷ [])) (Broken D 1 1))
+    ∷ saysFrom 0 0 (loneAfter 7) (straight (marking both (point 1 0 ∷ [])) (marking both (point 1 1 ∷ [])) (1 ∷ []) Accepted)
+    ∷ saysFrom 0 0 (loneAfter 0) (checked (marking both (point 1 1 ∷ [])) (Broken E 1 1))
+    ∷ saysFrom 0 0 (loneAfter 0) (scanned (Faulted 1 1))
+    -- its thread must be free, and is free again after it; kinds 24 and 25 are edition 2's
+    ∷ saysFrom 0 0 (begin 0 ++ loneRead 0 1 0 0) (refusedBy 10 1)
+    ∷ saysFrom 0 0 (then (loneRead 0 0 0 0 ∷ begin 1 ∷ beginOn 0 2 ∷ [])) (scanned Opaque)
+    ∷ says (loneRead 2 0 0 0) (refusedBy 4 0)
+    ∷ says (loneWrite 2 0 0 0) (refusedBy 4 0)
+    -- it has the next number, a thread below 16 and a register below 32; what begins has no other field, and what does not no thread
+    ∷ saysFrom 0 0 (loneRead 16 1 32 0) (refusedBy 8 0)
+    ∷ saysFrom 0 0 (loneRead 16 0 32 0) (refusedBy 9 0)
+    ∷ saysFrom 0 0 (loneWrite 15 0 32 0) (refusedBy 12 0)
+    ∷ saysFrom 0 0 (loneWrite 15 0 31 9) (scanned Opaque)
+    ∷ says (event 16 0 1 0 ∷ []) (refusedBy 16 0)
+    ∷ says (begin 0 ++ (record { kind = 21; transaction = 0; register = 0; value = 0; thread = 1 } ∷ [])) (refusedBy 16 1)
     ∷ []
 
 -- what the starred histories do not catch
@@ -452,5 +521,5 @@ printed =
     ∷ []
 
 unfoldable pub worked : List Case
-unfolding starred fromStarts further files straightenings tallies printed
-worked = starred ++ (fromStarts ++ (further ++ (files ++ (straightenings ++ (tallies ++ printed)))))
+unfolding starred fromStarts alone further files straightenings tallies printed
+worked = starred ++ (fromStarts ++ (alone ++ (further ++ (files ++ (straightenings ++ (tallies ++ printed))))))
