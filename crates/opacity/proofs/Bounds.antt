@@ -1,5 +1,5 @@
--- In a readable history the transactions are below 64 and the registers below 32, those of reads returned among them; its store reads are at
--- most 2,048.
+-- In a readable history the transactions are below 64 and the registers below 32, those of reads among them; its store reads are at most
+-- 2,048.
 -- Assumes nothing.
 use Prim.Native.Nat.{ℕ, zero, suc, _≤_, _<_}
 use native.Mathlib.Nat.{le-of-lt, le-refl}
@@ -15,9 +15,9 @@ use lib.Seq.{take-suc, take-all, getD-take, length-take-le}
 use borrow.Author.Tests.{eqb-true, eq-eqb}
 use Rattle.lists.specs.Lists.{_and_, _or_, keep, range}
 use Rattle.events.specs.declared.event.Event.{Event}
-use Rattle.events.specs.Events.{noEvent, eventAt, isBegin, isCall, namesRegister, begins, lastOf, pendingCall, pendingOf}
-use Rattle.events.specs.Questions.{due, fieldsDue, readable}
-use Rattle.lists.proofs.ListLaws.{and-l, keep-length, range-length}
+use Rattle.events.specs.Events.{noEvent, eventAt, isLone, isBegin, isCall, namesRegister, begins, lastOf, pendingCall, pendingOf}
+use Rattle.events.specs.Questions.{due, registerDue, fieldsDue, readable}
+use Rattle.lists.proofs.ListLaws.{and-l, and-r, or-l, or-r, keep-length, range-length}
 use Rattle.events.proofs.EventLaws.{begins-take, begins-snoc, begins-same}
 use Rattle.events.proofs.QuestionLaws.{fit-at, asked-at, begun}
 use Rattle.events.proofs.ReadableLaws.{readable-most}
@@ -84,8 +84,8 @@ pending-read h t q = go (lastOf t h) refl
     go (some x) e = called x e (isCall x) refl
 
 pub register-low : (h : List Event) → readable h ≡ true → (i : ℕ) → i < length h → eventAt h i .register < 32
-unfolding isBegin namesRegister due fieldsDue _or_
-register-low h r i l = go (eqb k 16) refl (eqb k 17) refl (eqb k 18) refl (eqb k 19) refl (fit-at h r i l .fields) (asked-at h r i l .in-turn)
+unfolding namesRegister due fieldsDue registerDue
+register-low h r i l = go (eqb k 17) refl (eqb k 18) refl (eqb k 19 or isLone e) refl (and-r _ _ (fit-at h r i l .fields)) (asked-at h r i l .in-turn)
   where
     e : Event
     e = eventAt h i
@@ -96,24 +96,23 @@ register-low h r i l = go (eqb k 16) refl (eqb k 17) refl (eqb k 18) refl (eqb k
     p : Event
     p = pendingOf (take i h) (e .transaction)
 
-    go : (b : Bool) → eqb k 16 ≡ b → (c : Bool) → eqb k 17 ≡ c → (d : Bool) → eqb k 18 ≡ d → (f : Bool) → eqb k 19 ≡ f
-        → cond (b or c) (eqb (e .value) 0) (cond d (eqb (e .register) (p .register)) (cond f true (eqb (e .register) 0 and eqb (e .value) 0))) ≡ true
+    go : (c : Bool) → eqb k 17 ≡ c → (d : Bool) → eqb k 18 ≡ d → (f : Bool) → (eqb k 19 or isLone e) ≡ f
+        → cond c (eqb (e .value) 0) (cond d (eqb (e .register) (p .register)) (cond f true (eqb (e .register) 0 and eqb (e .value) 0))) ≡ true
         → due (p .kind) k ≡ true → e .register < 32
-    go true x c y d z f w fields turn = omega (arith, asked-at h r i l .thread x)
-    go false x true y d z f w fields turn = asked-at h r i l .register (rw y refl)
-    go false x false y true z f w fields turn =
-        let n : p .kind ≡ 17 = eqb-true _ _ (rw (eqb-true k 18 z) at turn) in
+    go true y d z f w fields turn = asked-at h r i l .register (or-l _ _ y)
+    go false y true z f w fields turn =
+        let n : p .kind ≡ 17 = eqb-true _ _ (unfold _or_ in rw (eqb-true k 18 z) at turn) in
         let m = pending-read (take i h) (e .transaction) n in
         let j = m .0 in
         let lj : j < i = omega (arith, m .1, length-take-le i h (le-of-lt l)) in
         let q : eventAt h j ≡ p = sym (getD-take i h j noEvent lj) ∙ m .2 in
         let t : eqb (eventAt h j .kind) 17 ≡ true = eq-eqb _ _ (ap (λ (y : Event). y .kind) q ∙ n) in
-        let b : eventAt h j .register < 32 = asked-at h r j (omega arith) .register (rw t refl) in
+        let b : eventAt h j .register < 32 = asked-at h r j (omega arith) .register (or-l _ _ t) in
         let c : eventAt h j .register ≡ p .register = ap (λ (y : Event). y .register) q in
         let d : e .register ≡ p .register = eqb-true _ _ fields in
         omega arith
-    go false x false y false z true w fields turn = asked-at h r i l .register (rw (y, w) refl)
-    go false x false y false z false w fields turn = let o : e .register ≡ 0 = eqb-true _ _ (and-l _ _ fields) in omega arith
+    go false y false z true w fields turn = asked-at h r i l .register (or-r _ _ w)
+    go false y false z false w fields turn = let o : e .register ≡ 0 = eqb-true _ _ (and-l _ _ fields) in omega arith
 
 -- ---- store reads
 

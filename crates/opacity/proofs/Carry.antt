@@ -1,5 +1,5 @@
 -- In a readable history an order that justifies the first i events, carried on to event i, justifies them with it, if the question put to event i
--- says yes. It says yes of every begin, call and returned write.
+-- says yes. It says yes of every begin, call, returned write and lone write.
 -- Assumes nothing.
 use Prim.Native.Nat.{ℕ, suc, _<_}
 use native.Mathlib.Nat.{le-of-lt}
@@ -10,19 +10,20 @@ use lib.Dec.{eqb}
 use lib.ListN.{length, take}
 use lib.Seq.{take-suc}
 use borrow.Author.Tests.{eqb-true}
+use Rattle.lists.specs.Lists.{_implies_}
 use Rattle.events.specs.declared.event.Event.{Event}
-use Rattle.events.specs.Events.{noEvent, eventAt, isBegin, isRead, isCommit, isAbort, isEnd, begins}
+use Rattle.events.specs.Events.{noEvent, eventAt, isBegin, isRead, isCommit, isAbort, isEnd}
 use Rattle.events.specs.Questions.{readable}
-use Rattle.lists.proofs.ListLaws.{and-l, and-r, nor-i, or-l, or-r, not-true}
-use Rattle.events.proofs.KindLaws.{begin-not-end}
-use Rattle.events.proofs.QuestionLaws.{asked-at, begun}
-use Rattle.opacity.specs.Justification.{Place, outcome, Justified}
+use Rattle.lists.proofs.ListLaws.{and-l, imp-e, nor-i, or-l, or-r, clash, not-true}
+use Rattle.events.proofs.QuestionLaws.{asked-at, begun, eventless, unended}
+use Rattle.opacity.specs.Transactions.{status, allows}
+use Rattle.opacity.specs.Justification.{Place, outcome, contents, outcomeKept, Justified}
 use Rattle.opacity.specs.Lowest.{place}
 use Rattle.opacity.specs.Carry.{seen, carries, carried}
-use Rattle.opacity.proofs.EventKinds.{begin-no-write, begin-no-read}
+use Rattle.opacity.proofs.EventKinds.{access-open}
 use Rattle.opacity.proofs.Opacity.{begun-prefix}
 use Rattle.opacity.proofs.Pending.{named, stays-live}
-use Rattle.opacity.proofs.Kept.{quiet-justified, read-justified, end-justified}
+use Rattle.opacity.proofs.Kept.{kept-justified}
 use Rattle.opacity.proofs.Begin.{begin-justified}
 
 module _ (start : ℕ → ℕ) (h : List Event) (r : readable h ≡ true) (i : ℕ) (l : i < length h) (J : List Place) (j : Justified start (take i h) J) where
@@ -36,37 +37,47 @@ module _ (start : ℕ → ℕ) (h : List Event) (r : readable h ≡ true) (i : �
   With : List Place → Type 0
   With K = Justified start (take i h ++ (e ∷ [])) K
 
-  a-begin : isBegin e ≡ true → With (J ++ (place t false ∷ []))
+  -- an event that begins: where it reads, it reads what its register holds after all places
+  a-begin : isBegin e ≡ true → (isRead e implies eqb (contents start (take i h) J (e .register)) (e .value)) ≡ true → With (J ++ (place t (isCommit e) ∷ []))
   unfolding With
-  a-begin b =
-      let k = begin-no-read e b in
-      let q : t ≡ begins (take i h) = asked-at h r i l .next b in
-      rw q (begin-justified start (take i h) e J j (begun-prefix h (begun h r) i (le-of-lt l)) q b (k .0) (begin-no-write e b) (k .1) (k .2))
+  a-begin b y =
+      begin-justified start (take i h) e J j (begun-prefix h (begun h r) i (le-of-lt l)) (asked-at h r i l .next b) (eventless h r i l b) b
+      (λ n. sym (eqb-true _ _ (imp-e _ _ y n)))
 
-  a-quiet : isBegin e ≡ false → isRead e ≡ false → isCommit e ≡ false → isAbort e ≡ false → With J
-  unfolding With isEnd
-  a-quiet b n c a =
-      quiet-justified start (take i h) e J j b (named h r isBegin i t (le-of-lt l) (and-l _ _ (asked-at h r i l .lives b)))
-      (stays-live h r i l b (nor-i _ _ c a)) n c a
+  module _ (b : isBegin e ≡ false) where
+    -- the transaction of an event that neither begins nor ends one is aborted in J, since it is live
+    undone : isEnd e ≡ false → outcome t J ≡ false
+    unfolding outcomeKept allows
+    undone n =
+        let o : allows (status (take i h) t) (outcome t J) ≡ true =
+        j .outcomes t (named h r isBegin i t (le-of-lt l) (and-l _ _ (asked-at h r i l .lives b))) in
+        not-true _ (rw (stays-live h r i l b n) at o)
 
-  an-end : isEnd e ≡ true → outcome t J ≡ isCommit e → With J
-  unfolding With
-  an-end q o =
-      let b = begin-not-end e q in
-      end-justified start (take i h) e J j b (not-true _ (and-r _ _ (asked-at h r i l .lives b))) q o
+    -- any other event
+    no-begin : (isRead e ≡ true → e .value ≡ seen start (take i h) J t (e .register)) → (isEnd e ≡ true → outcome t J ≡ isCommit e) → With J
+    unfolding With
+    no-begin reads ends =
+        kept-justified start (take i h) e J j b (unended h r i l) reads (λ w. undone (access-open e b (or-r _ _ w))) ends
+
+    an-access : isRead e ≡ true → e .value ≡ seen start (take i h) J t (e .register) → With J
+    an-access n v = no-begin (λ _. v) (λ q. absurd (clash q (access-open e b (or-l _ _ n))))
+
+    another : isRead e ≡ false → (isEnd e ≡ true → outcome t J ≡ isCommit e) → With J
+    another n ends = no-begin (λ q. absurd (clash q n)) ends
 
   goes-on : carries start (take i h) J e ≡ true → With (carried J e)
   unfolding carries carried isEnd
   goes-on y = go (isBegin e) refl (isRead e) refl (isCommit e) refl (isAbort e) refl y
     where
       go : (b : Bool) → isBegin e ≡ b → (n : Bool) → isRead e ≡ n → (c : Bool) → isCommit e ≡ c → (a : Bool) → isAbort e ≡ a
-          → cond n (eqb (seen start (take i h) J t (e .register)) (e .value)) (cond c (outcome t J) (cond a (not (outcome t J)) true)) ≡ true
-          → With (cond b (J ++ (place t false ∷ [])) J)
-      go true b n m c d a f y′ = a-begin b
-      go false b true m c d a f y′ = unfold With in read-justified start (take i h) e J j b m (sym (eqb-true _ _ y′))
-      go false b false m true d a f y′ = an-end (or-l _ _ d) (y′ ∙ sym d)
-      go false b false m false d true f y′ = an-end (or-r _ _ f) (not-true _ y′ ∙ sym d)
-      go false b false m false d false f y′ = a-quiet b m d f
+          → cond b (isRead e implies eqb (contents start (take i h) J (e .register)) (e .value))
+          (cond n (eqb (seen start (take i h) J t (e .register)) (e .value)) (cond c (outcome t J) (cond a (not (outcome t J)) true))) ≡ true
+          → With (cond b (J ++ (place t (isCommit e) ∷ [])) J)
+      go true b n m c d a f y′ = a-begin b y′
+      go false b true m c d a f y′ = an-access b m (sym (eqb-true _ _ y′))
+      go false b false m true d a f y′ = another b m (λ _. y′ ∙ sym d)
+      go false b false m false d true f y′ = another b m (λ _. not-true _ y′ ∙ sym d)
+      go false b false m false d false f y′ = another b m (λ q. absurd (clash q (nor-i _ _ d f)))
 
   pub carried-justified : carries start (take i h) J e ≡ true → Justified start (take (suc i) h) (carried J e)
   unfolding With

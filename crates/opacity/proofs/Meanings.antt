@@ -1,4 +1,4 @@
--- What definitions that are folds and searches say, event by event: real time, last writes, the last event and the begin of a transaction.
+-- What definitions that are folds and searches say, event by event: real time, last writes, the last event of a transaction and the one that begins it.
 -- Assumes nothing.
 use Prim.Native.Nat.{ℕ, zero, suc, _≤_, _<_}
 use native.Mathlib.Nat.{not-suc-le-zero, le-of-suc-le-suc, suc-le-suc-iff, zero-lt-suc, le-step, le-of-lt, le-refl, lt-suc-self}
@@ -18,7 +18,7 @@ use Rattle.lists.specs.Lists.{_and_, _or_, orElse, any, keep, latest, first, la
 use Rattle.events.specs.declared.event.Event.{Event}
 use Rattle.events.specs.Events.{noEvent, eventAt, isBegin, isWrite, isEnd, by, has, begins}
 use Rattle.events.specs.Questions.{readable}
-use Rattle.lists.proofs.ListLaws.{and-l, and-r, and-i, or-l, or-r, or-cases, clash, below-cases, first-none, first-some}
+use Rattle.lists.proofs.ListLaws.{and-l, and-r, and-i, and-false-l, or-l, or-r, or-cases, nor-l, nor-r, clash, below-cases, first-none, first-some}
 use Rattle.events.proofs.EventLaws.{begins-snoc, begins-same}
 use Rattle.lists.proofs.ListLaws.{any-index}
 use Rattle.events.proofs.QuestionLaws.{asked-at}
@@ -115,6 +115,12 @@ no-value : (b : Bool) (v : ℕ) → cond b (some v) none ≡ none → b ≡ fals
 no-value true v e = absurd (Option·some-ne-none v e)
 no-value false v e = refl
 
+-- one that writes nothing has none
+pub unwritten : (h : List Event) (t r : ℕ) → has isWrite t h ≡ false → lastWrite h t r ≡ none
+unfolding has any lastWrite latest
+unwritten [] t r n = refl
+unwritten (e ∷ h) t r n = rw (unwritten h t r (nor-r _ _ n), and-false-l (by isWrite t e) (eqb (e .register) r) (nor-l _ _ n))
+
 module _ (h : List Event) (t r : ℕ) where
   written-by : Event → Option ℕ
   written-by e = cond (by isWrite t e and eqb (e .register) r) (some (e .value)) none
@@ -157,7 +163,7 @@ module _ (h : List Event) (t r : ℕ) where
       go none e a = absurd (clash (a .write) (no-write-means e (a .event) (a .inside)))
       go (some w) e a = e ∙ ap some (one-last w v (found-write w e) a)
 
--- ---- the last event and the begin of a transaction of a readable history
+-- ---- the last event of a transaction of a readable history, and the one that begins it
 
 record Last (p : ℕ → Bool) (n k : ℕ) : Type 0 where
   inside : k < n

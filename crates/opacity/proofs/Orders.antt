@@ -6,7 +6,7 @@ use native.Mathlib.Decide.{decLt}
 use native.Mathlib.Omega.{arith}
 use mathlib.Core.Path.{_≡_, refl, sym, ap, _∙_, subst}
 use mathlib.Core.Logic.{_⊎_, inl, inr, ⊎-elim}
-use mathlib.Core.Bool.{Bool, true, false, not, false≢true}
+use mathlib.Core.Bool.{Bool, true, false, not, cond, false≢true}
 use mathlib.Core.List.{List, [], _∷_, _++_, append-nil, append-assoc}
 use lib.Dec.{eqb, ltb}
 use lib.ListN.{length}
@@ -28,6 +28,16 @@ before-here [] p S f = rw (eqb-self (p .transaction))
 before-here (q ∷ P) p S f =
     let e : isOf (p .transaction) q ≡ false = nor-l _ _ f in
     rw e (ap (λ (l : List Place). q ∷ l) (before-here P p S (nor-r _ _ f)))
+
+-- a test that no place passes is passed by none before another place
+pub before-none : (q : Place → Bool) (u : ℕ) (J : List Place) → any q J ≡ false → any q (before u J) ≡ false
+unfolding any before
+before-none q u [] n = refl
+before-none q u (p ∷ J) n = go (isOf u p) (before-none q u J (nor-r _ _ n))
+  where
+    go : (b : Bool) → any q (before u J) ≡ false → any q (cond b [] (p ∷ before u J)) ≡ false
+    go true i = refl
+    go false i = nor-i _ _ (nor-l _ _ n) i
 
 -- a transaction without a place has no outcome committed
 pub no-outcome : (t : ℕ) (P : List Place) → Fresh t P → outcome t P ≡ false

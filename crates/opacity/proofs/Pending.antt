@@ -15,8 +15,9 @@ use Rattle.lists.specs.Lists.{_or_, any}
 use Rattle.events.specs.declared.event.Event.{Event}
 use Rattle.events.specs.Events.{noEvent, eventAt, isBegin, isCall, asksCommit, isEnd, by, has, begins, ended, lastOf, pendingCall, pendingOf}
 use Rattle.events.specs.Questions.{past, readable, due}
-use Rattle.lists.proofs.ListLaws.{and-false-r, and-false-l, and-false-e, and-l, and-r, nor-l, nor-r, clash, not-true, any-append, latest-snoc}
+use Rattle.lists.proofs.ListLaws.{and-false-r, and-false-l, and-false-e, and-l, nor-l, nor-r, clash, any-append, latest-snoc}
 use Rattle.events.proofs.EventLaws.{begins-take}
+use Rattle.events.proofs.QuestionLaws as asking
 use Rattle.events.proofs.QuestionLaws.{Fit, fit-at, asked, begun}
 use Rattle.lists.proofs.ListLaws.{any-index}
 use Rattle.opacity.specs.Transactions.{live, status}
@@ -36,7 +37,7 @@ unfolding has any
 has-last p t h e = any-append (by p t) h (e ∷ [])
 
 -- one event more
-module _ (h : List Event) (e : Event) (t : ℕ) (f : Fit (past h) e) (older : has asksCommit t h ≡ true → t < begins h)
+module _ (h : List Event) (e : Event) (t : ℕ) (f : Fit 2 (past h) e) (older : has asksCommit t h ≡ true → t < begins h)
     (ih : has asksCommit t h ≡ true → ended t h ≡ false → asksCommit (pendingOf h t) ≡ true)
     (c : has asksCommit t (h ++ (e ∷ [])) ≡ true) (u : ended t (h ++ (e ∷ [])) ≡ false) where
   unended : ended t h ≡ false
@@ -110,11 +111,11 @@ stays-live h r i l b n =
     let f = fit-at h r i l in
     let a = asked _ _ (f .asks) in
     let t = eventAt h i .transaction in
-    let u : ended t (take i h) ≡ false = not-true _ (and-r _ _ (a .lives b)) in
+    let u : ended t (take i h) ≡ false = asking.unended h r i l in
     let k : has asksCommit t (take i h) ≡ false = uncalled t f (a .in-turn) u (has asksCommit t (take i h)) refl in
     rw (not-committed t (take i h) u, not-aborted t (take i h) u, k)
   where
-    uncalled : (t : ℕ) → Fit (past (take i h)) (eventAt h i) → due (pendingOf (take i h) t .kind) (eventAt h i .kind) ≡ true
+    uncalled : (t : ℕ) → Fit 2 (past (take i h)) (eventAt h i) → due (pendingOf (take i h) t .kind) (eventAt h i .kind) ≡ true
         → ended t (take i h) ≡ false → (x : Bool) → has asksCommit t (take i h) ≡ x → has asksCommit t (take i h) ≡ false
     uncalled t f d u false q = q
     uncalled t f d u true q =

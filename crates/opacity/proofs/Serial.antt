@@ -72,8 +72,8 @@ serial-contents s h (p ∷ P) r =
     ∙ ap (Option·getD (latest (written h r) P)) (after-written h p s r)
     ∙ sym (orElse-getD (latest (written h r) P) (written h r p) (s r))
 
--- ---- the reads of one transaction: event i, if it is a read returned of t, gets its register's value in the view that t's events before
--- it leave
+-- ---- the reads of one transaction: event i, if it is a read of t, gets its register's value in the view that t's events before it
+-- leave
 
 Gets : ℕ → List Event → Store → ℕ → Type 0
 Gets t h s i = eventAt h i .transaction ≡ t → isRead (eventAt h i) ≡ true → eventAt h i .value ≡ run (eventsOf t (take i h)) s (eventAt h i .register)
@@ -121,7 +121,7 @@ runs-i h [] s f = refl
 runs-i h (p ∷ J) s f =
     and-i _ _ (f [] p J refl) (runs-i h J (after h p s) (λ P q S e. f (p ∷ P) q S (ap (λ (l : List Place). p ∷ l) e)))
 
--- ---- a read returned gets the latest own write, or what the register holds in the store: own reads and store reads in one
+-- ---- a read gets the latest own write, or what the register holds in the store: own reads and store reads in one
 
 both : (b : Bool) (o : Option ℕ) (v c : ℕ)
     → ((b and not (isNone o)) implies isValue v o) ≡ true → ((b and isNone o) implies eqb v c) ≡ true → b ≡ true → v ≡ Option·getD o c

@@ -14,40 +14,74 @@ use lib.Seq.{take-append-le, take-at, getD-append-seam}
 use borrow.Author.Tests.{eq-eqb}
 use Rattle.lists.specs.Lists.{_and_, _or_, isNone, orElse, any, latest}
 use Rattle.events.specs.declared.event.Event.{Event}
-use Rattle.events.specs.Events.{noEvent, eventAt, isBegin, isRead, isWrite, asksCommit, isCommit, isAbort, isEnd, by, has}
-use Rattle.lists.proofs.ListLaws.{and-l, and-r, and-false-r, imp-i, nor-i, nor-l, nor-r, or-l, latest-snoc, below-cases}
+use Rattle.events.specs.Events.{noEvent, eventAt, isBegin, isRead, isWrite, asksCommit, isCommit, isAbort, isEnd, by, has, ended}
+use Rattle.lists.proofs.ListLaws.{and-l, and-r, and-i, and-false-l, and-false-r, imp-i, nor-l, nor-r, or-l, or-r, or-cases, clash, eqb-self, eqb-sym, latest-snoc, below-cases}
 use Rattle.events.proofs.StateLaws.{has-snoc}
 use Rattle.opacity.specs.Transactions.{committed, aborted, pending, live, status, allows, precedes, lastWrite, ownWrite, isOwnRead, isStoreRead, isValue, ownRight}
-use Rattle.opacity.specs.Justification.{Place, before, written, contents, legalOver, legal}
+use Rattle.opacity.specs.Justification.{Place, before, outcome, written, contents, legalOver, legal}
+use Rattle.opacity.proofs.Statuses.{not-committed, not-aborted}
 
 pub or-none : (a b : Bool) → b ≡ false → (a or b) ≡ a
 unfolding _or_
 or-none true b e = refl
 or-none false b e = e
 
--- no place gets a write from an event that is none
-pub unwritten : (e : Event) (J : List Place) → isWrite e ≡ false → any (λ p. p .committed and by isWrite (p .transaction) e) J ≡ false
-unfolding any by
-unwritten e [] w = refl
-unwritten e (p ∷ J) w = nor-i _ _ (and-false-r _ _ (and-false-r _ _ w)) (unwritten e J w)
+-- e is a write of the place p, which is committed
+abbrev pub addsTo : Event → Place → Bool
+addsTo e p = p .committed and by isWrite (p .transaction) e
+
+-- an event that is no write adds to no place, nor does one whose transaction the order has aborted, or does not have
+pub adds-none : (e : Event) (J : List Place) → (isWrite e ≡ true → outcome (e .transaction) J ≡ false) → any (addsTo e) J ≡ false
+unfolding any by outcome
+adds-none e J n = go (any (addsTo e) J) refl
+  where
+    find : (K : List Place) → any (addsTo e) K ≡ true → (isWrite e ≡ true) × (outcome (e .transaction) K ≡ true)
+    find [] t = absurd (false≢true t)
+    find (p ∷ K) t =
+        ⊎-elim
+        (λ q. let w = and-r (p .committed) _ q in (and-r _ _ w, or-l _ _ (and-i _ _ (eqb-sym (e .transaction) (p .transaction) (and-l _ _ w)) (and-l _ _ q))))
+        (λ q. let w = find K q in (w .0, or-r _ _ (w .1)))
+        (or-cases _ _ t)
+
+    go : (b : Bool) → any (addsTo e) J ≡ b → b ≡ false
+    go false q = refl
+    go true q = let w = find J q in absurd (clash (w .1) (n (w .0)))
 
 module _ (h : List Event) (e : Event) where
   -- u has such an event with e if and only if without it, where e is none
   pub has-same : (p : Event → Bool) (u : ℕ) → by p u e ≡ false → has p u (h ++ (e ∷ [])) ≡ has p u h
   has-same p u n = has-snoc p h e u ∙ or-none _ _ n
 
-  pub has-quiet : (p : Event → Bool) (u : ℕ) → p e ≡ false → has p u (h ++ (e ∷ [])) ≡ has p u h
+  has-quiet : (p : Event → Bool) (u : ℕ) → p e ≡ false → has p u (h ++ (e ∷ [])) ≡ has p u h
   unfolding by
   has-quiet p u n = has-same p u (and-false-r _ _ n)
+
+  -- the status of another transaction stays
+  pub status-other : (u : ℕ) → eqb (e .transaction) u ≡ false → status (h ++ (e ∷ [])) u ≡ status h u
+  unfolding status by
+  status-other u n = rw (has-same isCommit u (and-false-l _ _ n), has-same isAbort u (and-false-l _ _ n), has-same asksCommit u (and-false-l _ _ n))
+
+  -- e's own allows the outcome that e records, aborted where e records none
+  pub status-own : ended (e .transaction) h ≡ false → allows (status (h ++ (e ∷ [])) (e .transaction)) (isCommit e) ≡ true
+  unfolding status allows by _or_ _and_
+  status-own u =
+      rw (has-snoc isCommit h e (e .transaction), has-snoc isAbort h e (e .transaction), not-committed (e .transaction) h u, not-aborted (e .transaction) h u, eqb-self (e .transaction))
+      (go (isCommit e) (isAbort e) (has asksCommit (e .transaction) (h ++ (e ∷ []))))
+    where
+      go : (c a d : Bool) → allows (cond c committed (cond a aborted (cond d pending live))) c ≡ true
+      go true a d = refl
+      go false true d = refl
+      go false false true = refl
+      go false false false = refl
 
   has-more : (p : Event → Bool) (u : ℕ) → has p u h ≡ true → has p u (h ++ (e ∷ [])) ≡ true
   has-more p u t = has-snoc p h e u ∙ or-l _ _ t
 
   -- an event that ends no transaction keeps the outcomes that are allowed
-  pub status-snoc : (u : ℕ) (c : Bool) → isCommit e ≡ false → isAbort e ≡ false → allows (status h u) c ≡ true → allows (status (h ++ (e ∷ [])) u) c ≡ true
-  unfolding status allows
-  status-snoc u c n m t =
-      rw (has-quiet isCommit u n, has-quiet isAbort u m)
+  pub status-snoc : (u : ℕ) (c : Bool) → isEnd e ≡ false → allows (status h u) c ≡ true → allows (status (h ++ (e ∷ [])) u) c ≡ true
+  unfolding status allows isEnd
+  status-snoc u c n t =
+      rw (has-quiet isCommit u (nor-l _ _ n), has-quiet isAbort u (nor-r _ _ n))
       (go (has isCommit u h) (has isAbort u h) (has asksCommit u h) (has asksCommit u (h ++ (e ∷ []))) (has-more asksCommit u) t)
     where
       go : (a b d d′ : Bool) → (d ≡ true → d′ ≡ true) → allows (cond a committed (cond b aborted (cond d pending live))) c ≡ true
@@ -59,7 +93,7 @@ module _ (h : List Event) (e : Event) where
       go false false false false f t′ = t′
 
   -- a place that the event gives no write to writes the same with it and without it
-  written-snoc : (r : ℕ) (p : Place) → (p .committed and by isWrite (p .transaction) e) ≡ false → written (h ++ (e ∷ [])) r p ≡ written h r p
+  written-snoc : (r : ℕ) (p : Place) → addsTo e p ≡ false → written (h ++ (e ∷ [])) r p ≡ written h r p
   unfolding written lastWrite _and_
   written-snoc r p n = go (p .committed) n
     where
@@ -70,12 +104,12 @@ module _ (h : List Event) (e : Event) where
       go false m = refl
       go true m = rw (latest-snoc f h e, m)
 
-  pub contents-snoc : (start : ℕ → ℕ) (P : List Place) → any (λ p. p .committed and by isWrite (p .transaction) e) P ≡ false → (r : ℕ)
+  pub contents-snoc : (start : ℕ → ℕ) (P : List Place) → any (addsTo e) P ≡ false → (r : ℕ)
       → contents start (h ++ (e ∷ [])) P r ≡ contents start h P r
   unfolding contents any latest
   contents-snoc start P n r = ap (λ (o : Option ℕ). Option·getD o (start r)) (go P n)
     where
-      go : (Q : List Place) → any (λ p. p .committed and by isWrite (p .transaction) e) Q ≡ false
+      go : (Q : List Place) → any (addsTo e) Q ≡ false
           → latest (written (h ++ (e ∷ [])) r) Q ≡ latest (written h r) Q
       go [] m = refl
       go (p ∷ Q) m = ap₂ orElse (go Q (nor-r _ _ m)) (written-snoc r p (nor-l _ _ m))

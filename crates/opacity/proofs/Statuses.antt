@@ -2,7 +2,6 @@
 -- Assumes nothing.
 use Prim.Native.Nat.{ℕ, zero, suc, _≤_, _<_}
 use native.Mathlib.Nat.{le-of-lt, le-refl}
-use native.Mathlib.Omega.{arith}
 use mathlib.Core.Path.{_≡_, refl, sym, ap, _∙_, subst}
 use mathlib.Core.Logic.{_↔_, ⊎-elim}
 use mathlib.Core.Bool.{Bool, true, false, cond, false≢true}
@@ -15,11 +14,11 @@ use Rattle.lists.specs.Lists.{_and_, _or_, any}
 use Rattle.events.specs.declared.event.Event.{Event}
 use Rattle.events.specs.Events.{noEvent, eventAt, asksCommit, isCommit, isAbort, isEnd, by, has, ended}
 use Rattle.events.specs.Questions.{readable}
-use Rattle.lists.proofs.ListLaws.{and-l, and-r, and-i, or-l, or-r, or-cases, nor-l, nor-r, nor-i, clash, not-true}
-use Rattle.events.proofs.KindLaws.{begin-not-end}
-use Rattle.events.proofs.QuestionLaws.{asked-at}
+use Rattle.lists.proofs.ListLaws.{and-l, and-r, and-i, or-l, or-r, or-cases, nor-l, nor-r, nor-i, clash}
+use Rattle.events.proofs.QuestionLaws.{unended}
 use Rattle.events.proofs.StateLaws.{has-snoc}
 use Rattle.opacity.specs.Transactions.{Status, committed, aborted, pending, live, HasStatus, status}
+use Rattle.opacity.proofs.EventKinds.{commit-no-abort}
 
 -- a transaction has ended if it is committed or aborted
 pub ended-by : (t : ℕ) (h : List Event) → ended t h ≡ (has isCommit t h or has isAbort t h)
@@ -44,12 +43,11 @@ module _ (h : List Event) (r : readable h ≡ true) (t : ℕ) where
       go false q = refl
       go true q =
           let e : eventAt h n .transaction ≡ t = eqb-true _ _ (and-l _ _ q) in
-          let alive : ended (eventAt h n .transaction) (take n h) ≡ false = not-true _ (and-r _ _ (asked-at h r n l .lives (begin-not-end (eventAt h n) (and-r _ _ q)))) in
-          absurd (clash u (rw e at alive))
+          absurd (clash u (rw e at (unended h r n l)))
 
   -- no transaction is both
   not-both : (n : ℕ) → n ≤ length h → has isCommit t (take n h) ≡ true → has isAbort t (take n h) ≡ true → ⊥
-  unfolding has any by isEnd isCommit isAbort
+  unfolding has any by isEnd
   not-both zero l c a = false≢true c
   not-both (suc n) l c a =
       let s : take (suc n) h ≡ take n h ++ (eventAt h n ∷ []) = take-suc h n noEvent l in
@@ -57,15 +55,12 @@ module _ (h : List Event) (r : readable h ≡ true) (t : ℕ) where
       let y = rw (s, has-snoc isAbort (take n h) (eventAt h n) t) at a in
       ⊎-elim
       (λ old. ⊎-elim (not-both n (le-of-lt l) old) (λ new. later (or-l _ _ old) (or-r _ _ (and-r _ _ new)) (and-l _ _ new)) (or-cases _ _ y))
-      (λ new. ⊎-elim (λ old. later (or-r _ _ old) (or-l _ _ (and-r _ _ new)) (and-l _ _ new)) (λ also. apart (and-r _ _ new) (and-r _ _ also)) (or-cases _ _ y))
+      (λ new. ⊎-elim (λ old. later (or-r _ _ old) (or-l _ _ (and-r _ _ new)) (and-l _ _ new)) (λ also. clash (and-r _ _ also) (commit-no-abort (eventAt h n) (and-r _ _ new))) (or-cases _ _ y))
       (or-cases _ _ x)
     where
       later : (has isCommit t (take n h) or has isAbort t (take n h)) ≡ true → (isCommit (eventAt h n) or isAbort (eventAt h n)) ≡ true
           → eqb (eventAt h n .transaction) t ≡ true → ⊥
       later u w e = clash (and-i _ _ e w) (no-second n l (ended-by t (take n h) ∙ u))
-
-      apart : eqb (eventAt h n .kind) 22 ≡ true → eqb (eventAt h n .kind) 23 ≡ true → ⊥
-      apart c a = omega (arith, eqb-true (eventAt h n .kind) 22 c, eqb-true (eventAt h n .kind) 23 a)
 
 pub not-committed : (t : ℕ) (h : List Event) → ended t h ≡ false → has isCommit t h ≡ false
 not-committed t h u = nor-l _ _ (sym (ended-by t h) ∙ u)

@@ -135,7 +135,7 @@ module _ (start : ℕ → ℕ) (h : List Event) (r : readable h ≡ true) where
     λ w. names-broken start h m q (w .0) (w .1) ∙ ap (λ (x : ℕ). Broken q x (namedTransaction h q (w .0))) (sym (w .2)) ∙ ap (Broken q i) (sym (w .3)),
   )
 
-  -- Rule A names the last event of its transaction, and rule B the begin of its.
+  -- Rule A names the last event of its transaction, and rule B the event that begins its.
   pub A-names-last : (m : Marking) (i t : ℕ) → verdict start h m ≡ Broken A i t → LastOf h t i
   A-names-last m i t e =
       let n = broken-names start h m A i t e in
@@ -214,6 +214,6 @@ module _ (start : ℕ → ℕ) (h : List Event) (r : readable h ≡ true) where
       serial : (n : ℕ) → n ≤ length h → (J : List Place) → Justified start (take n h) J ↔ Serial start (take n h) J
       serial = prefix-is-serial start h (begun h r)
 
-  -- No history is faulted by a begin, a call or a returned write.
+  -- No history is faulted by a begin, a call, a returned write or a lone write.
   pub cause-never-four : (i : ℕ) → scan start h ≡ Faulted i 4 → ⊥
   cause-never-four i = never-four start h r i

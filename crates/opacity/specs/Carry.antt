@@ -3,10 +3,11 @@
 -- that event alone.
 -- Assumes nothing.
 use Prim.Native.Nat.{ℕ}
-use mathlib.Core.Bool.{Bool, true, false, not, cond}
+use mathlib.Core.Bool.{Bool, true, not, cond}
 use mathlib.Core.List.{List, [], _∷_, _++_}
 use mathlib.Core.Option.{Option·getD}
 use lib.Dec.{eqb}
+use Rattle.lists.specs.Lists.{_implies_}
 use Rattle.events.specs.declared.event.Event.{Event}
 use Rattle.events.specs.Events.{isBegin, isRead, isCommit, isAbort}
 use Rattle.opacity.specs.Transactions.{lastWrite}
@@ -17,14 +18,17 @@ use Rattle.opacity.specs.Lowest.{place}
 unfoldable pub seen : (ℕ → ℕ) → List Event → List Place → ℕ → ℕ → ℕ
 seen start h J t r = Option·getD (lastWrite h t r) (contents start h (before t J) r)
 
--- with a begin the new transaction comes last, aborted
+-- with an event that begins, the new transaction comes last, with the outcome that the event records: a begin aborted, a lone access
+-- committed
 unfoldable pub carried : List Place → Event → List Place
-carried J e = cond (isBegin e) (J ++ (place (e .transaction) false ∷ [])) J
+carried J e = cond (isBegin e) (J ++ (place (e .transaction) (isCommit e) ∷ [])) J
 
--- a read returns what its transaction reads there, and an end is the outcome that the order has
+-- a lone read returns what its register holds after all places, any other read what its transaction reads there, and an end is the outcome
+-- that the order has
 unfoldable pub carries : (ℕ → ℕ) → List Event → List Place → Event → Bool
 carries start h J e =
-    cond (isRead e) (eqb (seen start h J (e .transaction) (e .register)) (e .value))
+    cond (isBegin e) (isRead e implies eqb (contents start h J (e .register)) (e .value))
+    (cond (isRead e) (eqb (seen start h J (e .transaction) (e .register)) (e .value))
     (cond (isCommit e) (outcome (e .transaction) J)
     (cond (isAbort e) (not (outcome (e .transaction) J))
-    true))
+    true)))

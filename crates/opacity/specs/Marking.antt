@@ -126,8 +126,8 @@ ruleHolds start h m C k = ownRight h k
 ruleHolds start h m D k = noWriterBetween h (m .places) (gapOf (m .points) k) k
 ruleHolds start h m E k = valueAtGap start h (m .places) (gapOf (m .points) k) k
 
--- the event that is named where the rule is broken at k: the transaction's last (A), the begin of the transaction that began after the
--- other's end (B), or k itself
+-- the event that is named where the rule is broken at k: the transaction's last (A), the one that begins the transaction that began after
+-- the other's end (B), or k itself
 abbrev pub namedEvent : List Event → Rule → ℕ → ℕ
 namedEvent h A k = lastEvent h k
 namedEvent h B k = beginOf h k

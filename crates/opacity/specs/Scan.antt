@@ -10,13 +10,13 @@ pub use Rattle.opacity.specs.declared.verdict.Scanned.{Scanned}
 pub use Rattle.opacity.specs.declared.verdict.Scanned.the-variants.{Opaque, Faulted}
 use Rattle.lists.specs.Lists.{isNone, first}
 use Rattle.events.specs.declared.event.Event.{Event}
-use Rattle.events.specs.Events.{eventAt, isRead, isCommit, isAbort}
+use Rattle.events.specs.Events.{eventAt, isBegin, isRead, isCommit, isAbort}
 use Rattle.opacity.specs.Justification.{Place, Justified}
 use Rattle.opacity.specs.Lowest.{lowestOf}
 
--- by the kind: 1 read returned, 2 committed, 3 aborted, 4 any other
+-- by the kind: 1 read returned or lone read, 2 committed, 3 aborted, 4 any other, a lone write among them
 unfoldable pub cause : Event → ℕ
-cause e = cond (isRead e) 1 (cond (isCommit e) 2 (cond (isAbort e) 3 4))
+cause e = cond (isRead e) 1 (cond (isBegin e) 4 (cond (isCommit e) 2 (cond (isAbort e) 3 4)))
 
 abbrev pub answer : List Event → Option ℕ → Scanned
 answer h none = Opaque

@@ -30,7 +30,7 @@ unfoldable pub run : List Event → Store → Store
 run [] view = view
 run (e ∷ es) view = run es (does e view)
 
--- while the events es run, every read returned gets the value of its register in the view
+-- while the events es run, every read gets the value of its register in the view
 unfoldable pub readsRight : List Event → Store → Bool
 readsRight [] view = true
 readsRight (e ∷ es) view = (isRead e implies eqb (e .value) (view (e .register))) and readsRight es (does e view)
@@ -44,8 +44,8 @@ unfoldable pub serialStore : Store → List Event → List Place → Store
 serialStore store h [] = store
 serialStore store h (p ∷ P) = serialStore (after h p store) h P
 
--- while the places J run one at a time, every read returned, those of aborted transactions included, gets the value of its
--- register in the view of its transaction, which begins as the store
+-- while the places J run one at a time, every read, those of aborted transactions included, gets the value of its register in the view of
+-- its transaction, which begins as the store
 unfoldable pub runsRight : Store → List Event → List Place → Bool
 runsRight store h [] = true
 runsRight store h (p ∷ J) = readsRight (eventsOf (p .transaction) h) store and runsRight (after h p store) h J

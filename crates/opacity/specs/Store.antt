@@ -19,7 +19,7 @@ Store = ℕ → ℕ
 unfoldable pub put : ℕ → ℕ → Store → Store
 put r v s q = cond (eqb r q) v (s q)
 
--- the writes of t, in the order of its calls
+-- the writes of t, in the order of the log
 unfoldable pub writesOf : List Event → ℕ → List Event
 writesOf h t = keep (by isWrite t) h
 

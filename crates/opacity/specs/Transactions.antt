@@ -12,7 +12,8 @@ use Rattle.lists.specs.Lists.{_and_, _or_, _implies_, keep, latest, isNone, ran
 use Rattle.events.specs.declared.event.Event.{Event}
 use Rattle.events.specs.Events.{eventAt, isBegin, isRead, isWrite, asksCommit, isCommit, isAbort, isEnd, by, has, ended}
 
--- How a transaction stands: committed or aborted as recorded, pending after a commit called and unanswered, else live.
+-- How a transaction stands: committed or aborted as recorded, a lone access committed; pending after a commit called and unanswered; else
+-- live.
 pub data Status : Type 0 where
   committed aborted pending live : Status
 
@@ -46,12 +47,12 @@ allows aborted c = not c
 allows pending c = true
 allows live c = not c
 
--- T precedes U in real time: t ended before u began
+-- T precedes U in real time: t ended before u began. A lone access begins and ends at its one event.
 unfoldable pub precedes : List Event → ℕ → ℕ → Bool
 precedes [] t u = false
 precedes (e ∷ h) t u = by isEnd t e and has isBegin u h or precedes h t u
 
--- the same event by event: an event that ends t stands before the begin of u
+-- the same event by event: an event that ends t stands before one that begins u
 pub record EndedBefore (h : List Event) (t u : ℕ) : Type 0 where
   pub ending : ℕ
   pub beginning : ℕ
@@ -80,7 +81,7 @@ pub record LastWrite (h : List Event) (t r v : ℕ) : Type 0 where
 unfoldable pub ownWrite : List Event → ℕ → Option ℕ
 ownWrite h i = lastWrite (take i h) (eventAt h i .transaction) (eventAt h i .register)
 
--- an own read is a read returned whose transaction earlier wrote that register; any other read returned is a store read
+-- an own read is a read whose transaction earlier wrote that register; any other read is a store read, as every lone read is
 unfoldable pub isOwnRead : List Event → ℕ → Bool
 isOwnRead h i = isRead (eventAt h i) and not (isNone (ownWrite h i))
 

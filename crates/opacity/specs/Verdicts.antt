@@ -32,7 +32,7 @@ pub record LastOf (h : List Event) (t i : ℕ) : Type 0 where
   pub names : eventAt h i .transaction ≡ t
   pub later : (j : ℕ) → i < j → j < length h → eventAt h j .transaction ≡ t → ⊥
 
--- i is the begin of t
+-- i is the event that begins t
 pub record BeginOf (h : List Event) (t i : ℕ) : Type 0 where
   pub inside : i < length h
   pub begins : isBegin (eventAt h i) ≡ true
