@@ -17,7 +17,7 @@ use Rattle.log.specs.declared.admit.Checked.{Checked}
 use Rattle.events.specs.Events.{begins}
 use Rattle.log.specs.Columns.{Columns, history}
 use Rattle.events.specs.Questions.{readable}
-use Rattle.log.specs.Answer.{columnsAnswer}
+use Rattle.log.specs.Answer.{historyAnswer}
 use Rattle.lists.proofs.ListLaws.{and-false-l, eqb-self, keep-both}
 use Rattle.opacity.specs.Transactions.{Status, committed, aborted, pending, live, HasStatus, statusNumber, status}
 use Rattle.opacity.specs.Counts.{one, counts}
@@ -118,10 +118,10 @@ module _ (h : List Event) where
       passes false q e = absurd (omega (arith, e))
 
 -- where there is a tally there is a count of the transactions, and the four add up to it
-pub tally-adds-up : (c : Columns) (count : ℕ) (x : Tally) → tallyAnswer c count ≡ Tallying.Tallied x
-    → transactionsAnswer c count ≡ Counting.Counted (x .committed + x .aborted + x .pending + x .live)
+pub tally-adds-up : (edition : ℕ) (starts : List ℕ) (c : Columns) (count : ℕ) (x : Tally) → tallyAnswer edition starts c count ≡ Tallying.Tallied x
+    → transactionsAnswer edition starts c count ≡ Counting.Counted (x .committed + x .aborted + x .pending + x .live)
 unfolding tallyAnswer transactionsAnswer counts
-tally-adds-up c count x e = go (columnsAnswer c count) e
+tally-adds-up edition starts c count x e = go (historyAnswer edition starts c count) e
   where
     go : (y : Checked) → tallied y (tally (history c count)) ≡ Tallying.Tallied x
         → counted y (begins (history c count)) ≡ Counting.Counted (x .committed + x .aborted + x .pending + x .live)

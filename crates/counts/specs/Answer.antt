@@ -7,7 +7,7 @@ use Rattle.events.specs.declared.event.Event.{Event}
 use Rattle.log.specs.declared.admit.Checked.{Checked}
 use Rattle.log.specs.Columns.{Columns, history}
 use Rattle.events.specs.Said.{Said, done, eventRefused}
-use Rattle.log.specs.Answer.{columnsAnswer}
+use Rattle.log.specs.Answer.{historyAnswer}
 use Rattle.opacity.specs.Counts.{counts}
 use Rattle.counts.specs.declared.Counting.{Counting}
 use Rattle.counts.specs.declared.Tallying.{Tallying}
@@ -25,11 +25,11 @@ transactionsOf x h = counted x (counts h .transactions)
 abbrev pub storeReadsOf : Checked → List Event → Counting
 storeReadsOf x h = counted x (counts h .reads)
 
-unfoldable pub transactionsAnswer : Columns → ℕ → Counting
-transactionsAnswer c count = transactionsOf (columnsAnswer c count) (history c count)
+unfoldable pub transactionsAnswer : ℕ → List ℕ → Columns → ℕ → Counting
+transactionsAnswer edition starts c count = transactionsOf (historyAnswer edition starts c count) (history c count)
 
-unfoldable pub storeReadsAnswer : Columns → ℕ → Counting
-storeReadsAnswer c count = storeReadsOf (columnsAnswer c count) (history c count)
+unfoldable pub storeReadsAnswer : ℕ → List ℕ → Columns → ℕ → Counting
+storeReadsAnswer edition starts c count = storeReadsOf (historyAnswer edition starts c count) (history c count)
 
 -- the same for a tally
 abbrev pub tallied : Checked → Tally → Tallying
@@ -39,8 +39,8 @@ tallied (Checked.Refused r) x = Tallying.Refused r
 abbrev pub tallyOf : Checked → List Event → Tallying
 tallyOf x h = tallied x (tally h)
 
-unfoldable pub tallyAnswer : Columns → ℕ → Tallying
-tallyAnswer c count = tallyOf (columnsAnswer c count) (history c count)
+unfoldable pub tallyAnswer : ℕ → List ℕ → Columns → ℕ → Tallying
+tallyAnswer edition starts c count = tallyOf (historyAnswer edition starts c count) (history c count)
 
 -- what a count says: the number counted, or the question with its event
 unfoldable pub countSaid : Counting → Said

@@ -1,5 +1,5 @@
 // The counts of the report's first line and the tally of its second, of columns that no one has put a
-// question to yet: 17 and each event's own questions come first, then the events are counted.
+// question to yet: 17, 3 and each event's own questions come first, then the events are counted.
 ghost use mathlib.Core.Path.{_≡_};
 ghost use lib.ListN.{take};
 ghost use Rattle.log.specs.Columns.{columns};
@@ -18,7 +18,6 @@ use log::rows::MOST;
 use log::rows::Row;
 use log::rows::SHORT;
 use log::rows::transactions_begun;
-use records::record::Record;
 
 // A count's answer: the number, or the question that says no with its event.
 pub enum Counting {
@@ -69,25 +68,28 @@ fn tally_rows(checked: Checked, rows: &[Row], count: usize) -> Tallying
 
 // How many transactions begin in the first `count` events.
 pub fn count_transactions(
+    edition: u16,
+    starts: &[u32; 32],
     kinds: &[u16],
     transactions: &[u16],
     registers: &[u16],
     values: &[u32],
+    threads: &[u16],
     count: usize,
 ) -> Counting
-    ensures { λ r. ⌜ r ≡ transactionsAnswer (columns (now (kinds .entry)) (now (transactions .entry)) (now (registers .entry))
-        (now (values .entry))) count ⌝ }
+    ensures { λ r. ⌜ r ≡ transactionsAnswer edition (now (starts .entry)) (columns (now (kinds .entry)) (now (transactions .entry))
+        (now (registers .entry)) (now (values .entry)) (now (threads .entry))) count ⌝ }
 {
-    let starts = [0u32; 32];
     if count <= SHORT {
         let mut few = [BLANK; SHORT];
         let checked = admit(
-            Record::STARTS_EDITION,
-            &starts,
+            edition,
+            starts,
             kinds,
             transactions,
             registers,
             values,
+            threads,
             count,
             &mut few,
         );
@@ -95,12 +97,13 @@ pub fn count_transactions(
     }
     let mut rows = [BLANK; MOST];
     let checked = admit(
-        Record::STARTS_EDITION,
-        &starts,
+        edition,
+        starts,
         kinds,
         transactions,
         registers,
         values,
+        threads,
         count,
         &mut rows,
     );
@@ -109,25 +112,28 @@ pub fn count_transactions(
 
 // How many store reads the first `count` events have.
 pub fn count_store_reads(
+    edition: u16,
+    starts: &[u32; 32],
     kinds: &[u16],
     transactions: &[u16],
     registers: &[u16],
     values: &[u32],
+    threads: &[u16],
     count: usize,
 ) -> Counting
-    ensures { λ r. ⌜ r ≡ storeReadsAnswer (columns (now (kinds .entry)) (now (transactions .entry)) (now (registers .entry))
-        (now (values .entry))) count ⌝ }
+    ensures { λ r. ⌜ r ≡ storeReadsAnswer edition (now (starts .entry)) (columns (now (kinds .entry)) (now (transactions .entry))
+        (now (registers .entry)) (now (values .entry)) (now (threads .entry))) count ⌝ }
 {
-    let starts = [0u32; 32];
     if count <= SHORT {
         let mut few = [BLANK; SHORT];
         let checked = admit(
-            Record::STARTS_EDITION,
-            &starts,
+            edition,
+            starts,
             kinds,
             transactions,
             registers,
             values,
+            threads,
             count,
             &mut few,
         );
@@ -135,12 +141,13 @@ pub fn count_store_reads(
     }
     let mut rows = [BLANK; MOST];
     let checked = admit(
-        Record::STARTS_EDITION,
-        &starts,
+        edition,
+        starts,
         kinds,
         transactions,
         registers,
         values,
+        threads,
         count,
         &mut rows,
     );
@@ -149,25 +156,28 @@ pub fn count_store_reads(
 
 // How many of the transactions in the first `count` events are committed, aborted, pending and live.
 pub fn tally_transactions(
+    edition: u16,
+    starts: &[u32; 32],
     kinds: &[u16],
     transactions: &[u16],
     registers: &[u16],
     values: &[u32],
+    threads: &[u16],
     count: usize,
 ) -> Tallying
-    ensures { λ r. ⌜ r ≡ tallyAnswer (columns (now (kinds .entry)) (now (transactions .entry)) (now (registers .entry))
-        (now (values .entry))) count ⌝ }
+    ensures { λ r. ⌜ r ≡ tallyAnswer edition (now (starts .entry)) (columns (now (kinds .entry)) (now (transactions .entry))
+        (now (registers .entry)) (now (values .entry)) (now (threads .entry))) count ⌝ }
 {
-    let starts = [0u32; 32];
     if count <= SHORT {
         let mut few = [BLANK; SHORT];
         let checked = admit(
-            Record::STARTS_EDITION,
-            &starts,
+            edition,
+            starts,
             kinds,
             transactions,
             registers,
             values,
+            threads,
             count,
             &mut few,
         );
@@ -175,12 +185,13 @@ pub fn tally_transactions(
     }
     let mut rows = [BLANK; MOST];
     let checked = admit(
-        Record::STARTS_EDITION,
-        &starts,
+        edition,
+        starts,
         kinds,
         transactions,
         registers,
         values,
+        threads,
         count,
         &mut rows,
     );

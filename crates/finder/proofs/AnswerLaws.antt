@@ -16,7 +16,7 @@ use Rattle.records.specs.Bytes.{over}
 use Rattle.events.specs.Events.{begins}
 use Rattle.log.specs.Columns.{Columns, history, hold}
 use Rattle.log.specs.Starts.{startOf, admits}
-use Rattle.events.specs.Questions.{readable}
+use Rattle.events.specs.Questions.{readableIn}
 use Rattle.log.specs.Answer.{eventsAnswer, columnsAnswer, historyAnswer}
 use Rattle.log.proofs.ColumnLaws.{hold-e}
 use Rattle.log.proofs.AnswerLaws.{answer-readable, readable-columns}
@@ -131,7 +131,7 @@ module _ (edition : ℕ) (starts : List ℕ) (c : Columns) (count prefix : ℕ) 
     pub held : hold c count ≡ true
     pub admitted : admits edition starts ≡ true
     pub inside : prefix ≤ count
-    pub readable : readable (history c count) ≡ true
+    pub readable : readableIn edition (history c count) ≡ true
 
   called : callRefusal edition starts c count prefix ≡ Checked.Readable → Called
   unfolding callRefusal
@@ -140,7 +140,7 @@ module _ (edition : ℕ) (starts : List ℕ) (c : Columns) (count prefix : ℕ) 
       let d = asked-e count 17 _ _ (a .0) in
       let g = asked-e count 3 _ _ (d .1) in
       let f = asked-e count 18 _ _ (g .1) in
-      record { held = d .0; admitted = g .0; inside = leb-true _ _ (f .0); readable = answer-readable (history c count) (a .1) }
+      record { held = d .0; admitted = g .0; inside = leb-true _ _ (f .0); readable = answer-readable edition (history c count) (a .1) }
 
   -- one after the other, as they are put
   pub not-held : hold c count ≡ false → Checked.Refused (refuse 17 count) ≡ callRefusal edition starts c count prefix
@@ -156,11 +156,11 @@ module _ (edition : ℕ) (starts : List ℕ) (c : Columns) (count prefix : ℕ) 
   too-long e a l =
       sym (then-refused _ (asked-yes count 17 _ _ e ∙ asked-yes count 3 _ _ a ∙ asked-no count 18 _ _ (lt-leb prefix count l)))
 
-  held-events : hold c count ≡ true → columnsAnswer c count ≡ eventsAnswer (history c count)
+  held-events : hold c count ≡ true → columnsAnswer edition c count ≡ eventsAnswer edition (history c count)
   unfolding columnsAnswer
   held-events e = rw e
 
-  pub events-asked : hold c count ≡ true → admits edition starts ≡ true → prefix ≤ count → columnsAnswer c count ≡ callRefusal edition starts c count prefix
+  pub events-asked : hold c count ≡ true → admits edition starts ≡ true → prefix ≤ count → columnsAnswer edition c count ≡ callRefusal edition starts c count prefix
   unfolding callRefusal
   events-asked e a l =
       held-events e
@@ -172,7 +172,7 @@ module _ (edition : ℕ) (starts : List ℕ) (c : Columns) (count prefix : ℕ) 
   call-answers l = go (hold c count) refl (admits edition starts) refl
     where
       go : (x : Bool) → hold c count ≡ x → (y : Bool) → admits edition starts ≡ y
-          → callRefusal edition starts c count prefix ≡ cond x (cond y (eventsAnswer (history c count)) (Checked.Refused (refuse 3 count))) (Checked.Refused (refuse 17 count))
+          → callRefusal edition starts c count prefix ≡ cond x (cond y (eventsAnswer edition (history c count)) (Checked.Refused (refuse 3 count))) (Checked.Refused (refuse 17 count))
       go false e y a = sym (not-held e)
       go true e false a = sym (not-admitted e a)
       go true e true a = sym (events-asked e a l) ∙ held-events e
@@ -208,7 +208,7 @@ module _ (edition : ℕ) (starts : List ℕ) (c : Columns) (count prefix room : 
   pub passes : Passed edition starts c count prefix room → findRefusal edition starts c count prefix room ≡ Checked.Readable
   unfolding findRefusal
   passes p =
-      let k : columnsAnswer c count ≡ Checked.Readable = readable-columns c count (hold-e c count (p .held)) (p .readable) in
+      let k : columnsAnswer edition c count ≡ Checked.Readable = readable-columns edition c count (hold-e c count (p .held)) (p .readable) in
       then-readable _ (sym (events-asked edition starts c count prefix (p .held) (p .admitted) (p .inside)) ∙ k)
       ∙ passes-31-32 (take prefix (history c count)) count room (p .few) (p .fits)
 

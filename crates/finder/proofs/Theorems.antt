@@ -18,7 +18,7 @@ use Rattle.log.specs.Starts.{startOf, noStarts}
 use Rattle.events.specs.Questions.{Question, ask, readable}
 use Rattle.log.specs.Answer.{eventsAnswer}
 use Rattle.log.proofs.ColumnLaws.{history-length}
-use Rattle.events.proofs.QuestionLaws.{readable-take}
+use Rattle.events.proofs.QuestionLaws.{readable-in, readable-take}
 use Rattle.log.proofs.StartLaws.{no-starts, first-admitted}
 use Rattle.opacity.specs.Justification.{Place, Justified}
 use Rattle.opacity.specs.Lowest.{LowestJustified}
@@ -44,8 +44,11 @@ module _ (edition : ℕ) (starts : List ℕ) (c : Columns) (count prefix : ℕ) 
   inside : Passes edition starts c count prefix output → prefix ≤ length (history c count)
   inside x = rw (history-length c count) (passed edition starts c count prefix (length output) x .inside)
 
+  whole-readable : Passes edition starts c count prefix output → readable (history c count) ≡ true
+  whole-readable x = readable-in edition (history c count) (passed edition starts c count prefix (length output) x .readable)
+
   judged-readable : Passes edition starts c count prefix output → readable judged ≡ true
-  judged-readable x = readable-take (history c count) prefix (inside x) (passed edition starts c count prefix (length output) x .readable)
+  judged-readable x = readable-take (history c count) prefix (inside x) (whole-readable x)
 
   -- A question refuses exactly where it is the first that says no, and then the output is as it was.
   pub refused-exactly : (r : Refusal)
@@ -120,14 +123,14 @@ module _ (edition : ℕ) (starts : List ℕ) (c : Columns) (count prefix : ℕ) 
       → foundAnswer edition starts c count prefix output ≡ gives (Finding.Marking (length (markingBytes (marked judged J)))) (over (markingBytes (marked judged J)) output)
   unfolding foundAnswer
   lowest-serial-written x J s =
-      let e = prefix-lowest-serial (startOf starts) (history c count) (passed edition starts c count prefix (length output) x .readable) prefix (inside x) J .1 s in
+      let e = prefix-lowest-serial (startOf starts) (history c count) (whole-readable x) prefix (inside x) J .1 s in
       sym (decided-marking _ output _ x (some-marking (startOf starts) judged e) refl refl)
 
   pub none-serial : Passes edition starts c count prefix output
       → (foundAnswer edition starts c count prefix output .result ≡ Finding.None) ↔ ((K : List Place) → Serial (startOf starts) judged K → ⊥)
   unfolding foundAnswer
   none-serial x =
-      let e = prefix-none-serial (startOf starts) (history c count) (passed edition starts c count prefix (length output) x .readable) prefix (inside x) in (
+      let e = prefix-none-serial (startOf starts) (history c count) (whole-readable x) prefix (inside x) in (
         λ w. e .0 (marking-none (startOf starts) judged (none-e _ _ output w .1)),
         λ f. ap (λ (v : Given). v .result) (sym (decided-none output x (none-marking (startOf starts) judged (e .1 f)))),
       )
@@ -219,6 +222,6 @@ first-edition c count prefix output =
   where
     asked : findRefusal 1 noStarts c count prefix (length output) ≡ firstEditionRefusal c count prefix (length output)
     asked =
-        ap (λ (x : Checked). thenChecked (thenChecked x (eventsAnswer (history c count))) (prefixRefusal (take prefix (history c count)) count (length output)))
+        ap (λ (x : Checked). thenChecked (thenChecked x (eventsAnswer 1 (history c count))) (prefixRefusal (take prefix (history c count)) count (length output)))
         (left-out count 3 _ _ _ first-admitted)
         ∙ then-then _ _ _

@@ -15,7 +15,7 @@ use Rattle.events.specs.Events.{begins}
 use Rattle.log.specs.Columns.{Columns, history, hold}
 use Rattle.log.specs.Starts.{startOf, admits}
 use Rattle.events.specs.Said.{Said, done, nothing, eventRefused}
-use Rattle.events.specs.Questions.{ask, readable}
+use Rattle.events.specs.Questions.{ask, readableIn}
 use Rattle.log.specs.Answer.{eventsAnswer}
 use Rattle.opacity.specs.Transactions.{storeReads}
 use Rattle.opacity.specs.Justification.{Place, zeros}
@@ -51,7 +51,7 @@ prefixRefusal h count room =
 unfoldable pub callRefusal : ℕ → List ℕ → Columns → ℕ → ℕ → Checked
 callRefusal edition starts c count prefix =
     thenChecked (askedOf count (ask 17 (hold c count) ∷ ask 3 (admits edition starts) ∷ ask 18 (leb prefix count) ∷ []))
-    (eventsAnswer (history c count))
+    (eventsAnswer edition (history c count))
 
 -- the call and its events; 31 and 32: the first that says no, with its event
 unfoldable pub findRefusal : ℕ → List ℕ → Columns → ℕ → ℕ → ℕ → Checked
@@ -65,7 +65,7 @@ pub record Passed (edition : ℕ) (starts : List ℕ) (c : Columns) (count prefi
   pub held : hold c count ≡ true
   pub admitted : admits edition starts ≡ true
   pub inside : prefix ≤ count
-  pub readable : readable (history c count) ≡ true
+  pub readable : readableIn edition (history c count) ≡ true
   pub few : begins (take prefix (history c count)) ≤ 10
   pub fits : markingSize (take prefix (history c count)) ≤ room
 
@@ -93,7 +93,7 @@ foundAnswer edition starts c count prefix output =
 unfoldable pub firstEditionRefusal : Columns → ℕ → ℕ → ℕ → Checked
 firstEditionRefusal c count prefix room =
     thenChecked (askedOf count (ask 17 (hold c count) ∷ ask 18 (leb prefix count) ∷ []))
-    (thenChecked (eventsAnswer (history c count))
+    (thenChecked (eventsAnswer 1 (history c count))
     (prefixRefusal (take prefix (history c count)) count room))
 
 unfoldable pub firstEditionAnswer : Columns → ℕ → ℕ → List ℕ → Given

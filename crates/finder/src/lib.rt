@@ -145,6 +145,7 @@ pub fn find_marking(
     transactions: &[u16],
     registers: &[u16],
     values: &[u32],
+    threads: &[u16],
     count: usize,
     prefix: usize,
     output: &mut [u8],
@@ -152,11 +153,12 @@ pub fn find_marking(
     ensures { λ r. ⌜
         gives r (now (output .exit))
         ≡ foundAnswer edition (now (starts .entry))
-        (columns (now (kinds .entry)) (now (transactions .entry)) (now (registers .entry)) (now (values .entry))) count prefix
+        (columns (now (kinds .entry)) (now (transactions .entry)) (now (registers .entry)) (now (values .entry))
+        (now (threads .entry))) count prefix
         (now (output .entry)) ⌝ }
 {
     if prefix > count {
-        let held = columns_hold(kinds, transactions, registers, values, count);
+        let held = columns_hold(kinds, transactions, registers, values, threads, count);
         let admitted = is_admitted(edition, starts);
         return Finding::Refused(prefix_refused(held, admitted, count));
     }
@@ -169,6 +171,7 @@ pub fn find_marking(
             transactions,
             registers,
             values,
+            threads,
             count,
             &mut few,
         );
@@ -182,6 +185,7 @@ pub fn find_marking(
         transactions,
         registers,
         values,
+        threads,
         count,
         &mut rows,
     );

@@ -44,7 +44,7 @@ verdictAnswer edition starts c n file = afterColumns (startOf starts) (history c
 
 -- the answer of edition 1, where every register starts at 0, as it was before there were start values
 unfoldable pub firstEditionAnswer : Columns → ℕ → List ℕ → Checking
-firstEditionAnswer c n file = afterColumns zeros (history c n) file (columnsAnswer c n)
+firstEditionAnswer c n file = afterColumns zeros (history c n) file (columnsAnswer 1 c n)
 
 -- what a verdict says: accepted, or the rule (1 for A to 5 for E) with its event and transaction
 abbrev pub verdictSaid : Verdict → Said

@@ -123,11 +123,12 @@ pub fn check_marking(
     transactions: &[u16],
     registers: &[u16],
     values: &[u32],
+    threads: &[u16],
     count: usize,
     file: &[u8],
 ) -> Checking
     ensures { λ r. ⌜ r ≡ verdictAnswer edition (now (starts .entry))
-        (columns (now (kinds .entry)) (now (transactions .entry)) (now (registers .entry)) (now (values .entry)))
+        (columns (now (kinds .entry)) (now (transactions .entry)) (now (registers .entry)) (now (values .entry)) (now (threads .entry)))
         count (now (file .entry)) ⌝ }
 {
     if count <= SHORT {
@@ -139,6 +140,7 @@ pub fn check_marking(
             transactions,
             registers,
             values,
+            threads,
             count,
             &mut few,
         );
@@ -152,6 +154,7 @@ pub fn check_marking(
         transactions,
         registers,
         values,
+        threads,
         count,
         &mut rows,
     );

@@ -12,7 +12,7 @@ use Rattle.log.specs.declared.admit.Checked.the-variants.{Readable, Refused as 
 use Rattle.events.specs.Said.{refuse}
 use Rattle.records.specs.Bytes.{over}
 use Rattle.log.specs.Columns.{Columns, history, hold, filledWith}
-use Rattle.log.specs.Answer.{columnsAnswer, historyAnswer}
+use Rattle.log.specs.Answer.{historyAnswer}
 use Rattle.reader.specs.declared.HistoryRead.{HistoryRead}
 use Rattle.reader.specs.Reading.{Log, Outcome, readable, refused, historyOf, historyRead, notRead, answered as filledIn, filled, readAnswer}
 use Rattle.writer.specs.declared.Writing.{Writing}
@@ -23,10 +23,6 @@ use Rattle.counts.specs.Answer.{transactionsAnswer, storeReadsAnswer, tallyAnsw
 
 -- two columns that hold the same events below the count
 module _ (c d : Columns) (count : ℕ) (same-room : hold c count ≡ hold d count) (same-events : history c count ≡ history d count) where
-  pub columns-past : columnsAnswer c count ≡ columnsAnswer d count
-  unfolding columnsAnswer
-  columns-past = rw (same-room, same-events)
-
   pub history-past : (edition : ℕ) (starts : List ℕ) → historyAnswer edition starts c count ≡ historyAnswer edition starts d count
   unfolding historyAnswer
   history-past edition starts = rw (same-room, same-events)
@@ -35,17 +31,17 @@ module _ (c d : Columns) (count : ℕ) (same-room : hold c count ≡ hold d coun
   unfolding verdictAnswer
   checker-past edition starts file = rw (history-past edition starts, same-events)
 
-  pub transactions-past : transactionsAnswer c count ≡ transactionsAnswer d count
+  pub transactions-past : (edition : ℕ) (starts : List ℕ) → transactionsAnswer edition starts c count ≡ transactionsAnswer edition starts d count
   unfolding transactionsAnswer
-  transactions-past = rw (columns-past, same-events)
+  transactions-past edition starts = rw (history-past edition starts, same-events)
 
-  pub store-reads-past : storeReadsAnswer c count ≡ storeReadsAnswer d count
+  pub store-reads-past : (edition : ℕ) (starts : List ℕ) → storeReadsAnswer edition starts c count ≡ storeReadsAnswer edition starts d count
   unfolding storeReadsAnswer
-  store-reads-past = rw (columns-past, same-events)
+  store-reads-past edition starts = rw (history-past edition starts, same-events)
 
-  pub tally-past : tallyAnswer c count ≡ tallyAnswer d count
+  pub tally-past : (edition : ℕ) (starts : List ℕ) → tallyAnswer edition starts c count ≡ tallyAnswer edition starts d count
   unfolding tallyAnswer
-  tally-past = rw (columns-past, same-events)
+  tally-past edition starts = rw (history-past edition starts, same-events)
 
   -- and two outputs of one length
   pub writer-past : (edition : ℕ) (starts out before : List ℕ) → length out ≡ length before → writtenAnswer edition starts c count out .result ≡ writtenAnswer edition starts d count before .result

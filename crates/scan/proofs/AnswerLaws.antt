@@ -88,13 +88,13 @@ module _ (edition : ℕ) (starts : List ℕ) (c : Columns) (count : ℕ) where
   passed x =
       let a = then-e _ _ x in
       let f = fine edition starts c count (a .0) in
-      let b = columns-readable c count (f .columns) in
+      let b = columns-readable edition c count (f .columns) in
       record { held = hold-i c count (b .0); admitted = f .admitted; readable = b .1; few = passes-31-e (history c count) count (a .1) }
 
   pub passes : Passed edition starts c count → scanRefusal edition starts c count ≡ Checked.Readable
   unfolding scanRefusal
   passes p =
-      then-readable _ (fine-answer edition starts c count (p .admitted) (readable-columns c count (hold-e c count (p .held)) (p .readable)))
+      then-readable _ (fine-answer edition starts c count (p .admitted) (readable-columns edition c count (hold-e c count (p .held)) (p .readable)))
       ∙ passes-31 (history c count) count (p .few)
 
 -- a refusal is the answer, whatever the scan would say

@@ -11,7 +11,7 @@ use Rattle.events.specs.Events.{begins}
 use Rattle.log.specs.Columns.{Columns, history, hold}
 use Rattle.log.specs.Starts.{startOf, admits}
 use Rattle.events.specs.Said.{Said, done, faulted, eventRefused}
-use Rattle.events.specs.Questions.{ask, readable}
+use Rattle.events.specs.Questions.{ask, readableIn}
 use Rattle.log.specs.Answer.{columnsAnswer, historyAnswer}
 use Rattle.opacity.specs.declared.verdict.Scanned.{Scanned}
 use Rattle.opacity.specs.Justification.{zeros}
@@ -42,7 +42,7 @@ scanRefusal edition starts c count = thenChecked (historyAnswer edition starts c
 pub record Passed (edition : ℕ) (starts : List ℕ) (c : Columns) (count : ℕ) : Type 0 where
   pub held : hold c count ≡ true
   pub admitted : admits edition starts ≡ true
-  pub readable : readable (history c count) ≡ true
+  pub readable : readableIn edition (history c count) ≡ true
   pub few : begins (history c count) ≤ 10
 
 abbrev pub Passes : ℕ → List ℕ → Columns → ℕ → Type 0
@@ -60,4 +60,4 @@ scanAnswer edition starts c count = decided (scanRefusal edition starts c count)
 -- register before any writer.
 unfoldable pub firstEditionAnswer : Columns → ℕ → Scanning
 firstEditionAnswer c count =
-    decided (thenChecked (columnsAnswer c count) (sizeRefusal (history c count) count)) (scan zeros (history c count))
+    decided (thenChecked (columnsAnswer 1 c count) (sizeRefusal (history c count) count)) (scan zeros (history c count))

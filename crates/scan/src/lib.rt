@@ -123,11 +123,13 @@ pub fn scan_history(
     transactions: &[u16],
     registers: &[u16],
     values: &[u32],
+    threads: &[u16],
     count: usize,
 ) -> Scanning
     ensures { λ r. ⌜
         r ≡ scanAnswer edition (now (starts .entry))
-        (columns (now (kinds .entry)) (now (transactions .entry)) (now (registers .entry)) (now (values .entry))) count ⌝ }
+        (columns (now (kinds .entry)) (now (transactions .entry)) (now (registers .entry)) (now (values .entry))
+        (now (threads .entry))) count ⌝ }
 {
     if count <= SHORT {
         let mut few = [BLANK; SHORT];
@@ -138,6 +140,7 @@ pub fn scan_history(
             transactions,
             registers,
             values,
+            threads,
             count,
             &mut few,
         );
@@ -151,6 +154,7 @@ pub fn scan_history(
         transactions,
         registers,
         values,
+        threads,
         count,
         &mut rows,
     );

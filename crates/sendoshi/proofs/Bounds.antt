@@ -19,7 +19,7 @@ use Rattle.events.specs.Events.{isRead, isCommit, isAbort, begins}
 use Rattle.log.specs.Columns.{Columns, history}
 use Rattle.log.specs.Starts.{startOf}
 use Rattle.events.specs.Questions.{readable}
-use Rattle.log.specs.Answer.{columnsAnswer, historyAnswer}
+use Rattle.log.specs.Answer.{historyAnswer}
 use Rattle.log.proofs.ColumnLaws.{history-length}
 use Rattle.events.proofs.QuestionLaws.{readable-take}
 use Rattle.log.proofs.AnswerLaws.{columns-readable}
@@ -284,20 +284,20 @@ module _ (edition : ℕ) (starts : List ℕ) (c : Columns) (count : ℕ) (small 
 
 -- ---- the counts and the tally
 
-module _ (c : Columns) (count : ℕ) (small : count ≤ most) where
-  count-decodable : (n : ℕ) → (readable (history c count) ≡ true → n ≤ most) → Decodable oneValue never (countSaid (counted (columnsAnswer c count) n))
+module _ (edition : ℕ) (starts : List ℕ) (c : Columns) (count : ℕ) (small : count ≤ most) where
+  count-decodable : (n : ℕ) → (readable (history c count) ≡ true → n ≤ most) → Decodable oneValue never (countSaid (counted (historyAnswer edition starts c count) n))
   unfolding countSaid place
-  count-decodable n f = go (columnsAnswer c count) refl
+  count-decodable n f = go (historyAnswer edition starts c count) refl
     where
-      go : (y : Checked) → columnsAnswer c count ≡ y → Decodable oneValue never (countSaid (counted y n))
-      go Checked.Readable w = (f (columns-readable c count w .1), refl)
-      go (Checked.Refused r) w = event-decodable small (columns-number c count r w) oneValue (omega arith) (omega arith)
+      go : (y : Checked) → historyAnswer edition starts c count ≡ y → Decodable oneValue never (countSaid (counted y n))
+      go Checked.Readable w = (f (history-readable edition starts c count w .1), refl)
+      go (Checked.Refused r) w = event-decodable small (call-number edition starts c count r w) oneValue (omega arith) (omega arith)
 
-  pub transactions-decodable : Decodable oneValue never (countSaid (transactionsAnswer c count))
+  pub transactions-decodable : Decodable oneValue never (countSaid (transactionsAnswer edition starts c count))
   unfolding transactionsAnswer counts
   transactions-decodable = count-decodable (begins (history c count)) (λ r. omega (arith, at-most-64 (history c count) r))
 
-  pub store-reads-decodable : Decodable oneValue never (countSaid (storeReadsAnswer c count))
+  pub store-reads-decodable : Decodable oneValue never (countSaid (storeReadsAnswer edition starts c count))
   unfolding storeReadsAnswer counts
   store-reads-decodable = count-decodable (length (storeReads (history c count))) (λ r. omega (arith, reads-low (history c count) r))
 
@@ -317,10 +317,10 @@ module _ (c : Columns) (count : ℕ) (small : count ≤ most) where
         fourth = omega (arith, status-few r live);
       }
 
-  pub tally-decodable : Decodable fourValues never (tallySaid (tallyAnswer c count))
+  pub tally-decodable : Decodable fourValues never (tallySaid (tallyAnswer edition starts c count))
   unfolding tallySaid tallyAnswer
-  tally-decodable = go (columnsAnswer c count) refl
+  tally-decodable = go (historyAnswer edition starts c count) refl
     where
-      go : (y : Checked) → columnsAnswer c count ≡ y → Decodable fourValues never (tallySaid (tallied y (tally (history c count))))
-      go Checked.Readable w = let q = tally-quarters (columns-readable c count w .1) in (q, four-back _ _ _ _ q)
-      go (Checked.Refused r) w = event-decodable small (columns-number c count r w) fourValues (omega arith) (omega arith)
+      go : (y : Checked) → historyAnswer edition starts c count ≡ y → Decodable fourValues never (tallySaid (tallied y (tally (history c count))))
+      go Checked.Readable w = let q = tally-quarters (history-readable edition starts c count w .1) in (q, four-back _ _ _ _ q)
+      go (Checked.Refused r) w = event-decodable small (call-number edition starts c count r w) fourValues (omega arith) (omega arith)

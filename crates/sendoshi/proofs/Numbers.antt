@@ -20,10 +20,9 @@ use Rattle.events.specs.Events.{eventAt}
 use Rattle.log.specs.Columns.{Columns, history, hold}
 use Rattle.log.specs.Starts.{admits}
 use Rattle.events.specs.Questions.{Question, refusal, Past, past, eventQuestions, columnQuestions, refusedAt, readable}
-use Rattle.log.specs.Answer.{refusedWith, eventsAnswer, columnsAnswer, historyAnswer}
+use Rattle.log.specs.Answer.{refusedWith, eventsAnswer, historyAnswer}
 use Rattle.lists.proofs.ListLaws.{and-l, and-r, lowest-some, Lowest}
 use Rattle.events.proofs.QuestionLaws.{asked, fit}
-use Rattle.log.proofs.AnswerLaws.{columns-readable}
 use Rattle.log.proofs.StartLaws.{fine}
 use Rattle.log.specs.Calls.{askedOf, thenChecked}
 use Rattle.codes.specs.Codes.{Within}
@@ -66,7 +65,7 @@ unfolding columnQuestions eventQuestions all _and_
 columns-numbered p e n x = numbered 4 17 (columnQuestions p e) refl n x
 
 -- an event that a question refuses comes after at most 2,048 others: question 6 let the one before it pass
-early : (h : List Event) (i : ℕ) → i < length h → ((j : ℕ) → j < i → refusedAt h j ≡ none) → i ≤ 2048
+early : (h : List Event) (i : ℕ) → i < length h → ((j : ℕ) → j < i → refusedAt edition h j ≡ none) → i ≤ 2048
 unfolding refusedAt
 early h zero l g = omega arith
 early h (suc i) l g =
@@ -79,9 +78,9 @@ refused-with i (some q) e = absurd (Option·none-ne-some (Checked.Refused (refus
 
 pub events-number : (h : List Event) (count : ℕ) (r : Refusal) → eventsAnswer h ≡ Checked.Refused r → Asked 4 17 count r
 unfolding eventsAnswer refusedAt
-events-number h count r x = go (lowest (λ i. refusedWith i (refusedAt h i)) (length h)) refl x
+events-number h count r x = go (lowest (λ i. refusedWith i (refusedAt edition h i)) (length h)) refl x
   where
-    at-event : (i : ℕ) → i < length h → ((j : ℕ) → j < i → refusedAt h j ≡ none) → (o : Option ℕ) → refusedAt h i ≡ o
+    at-event : (i : ℕ) → i < length h → ((j : ℕ) → j < i → refusedAt edition h j ≡ none) → (o : Option ℕ) → refusedAt edition h i ≡ o
         → refusedWith i o ≡ some (Checked.Refused r) → Asked 4 17 count r
     at-event i l g none w k = absurd (Option·none-ne-some (Checked.Refused r) k)
     at-event i l g (some n) w k =
@@ -90,11 +89,11 @@ events-number h count r x = go (lowest (λ i. refusedWith i (refusedAt h i)) (le
         let m = columns-numbered (past (take i h)) (eventAt h i) n w in
         subst (Asked 4 17 count) e (record { number = m; place = inl (early h i l g) })
 
-    go : (o : Option Checked) → lowest (λ i. refusedWith i (refusedAt h i)) (length h) ≡ o → Option·getD o Checked.Readable ≡ Checked.Refused r → Asked 4 17 count r
+    go : (o : Option Checked) → lowest (λ i. refusedWith i (refusedAt edition h i)) (length h) ≡ o → Option·getD o Checked.Readable ≡ Checked.Refused r → Asked 4 17 count r
     go none w k = let z : _≡_ {A = ℕ} 0 1 = cc in absurd (omega arith)
     go (some y) w k =
-        let f : Lowest (λ i. refusedWith i (refusedAt h i)) (length h) y = lowest-some (λ i. refusedWith i (refusedAt h i)) (length h) w in
-        at-event (f .at) (f .inside) (λ j l. refused-with j (refusedAt h j) (f .least j l)) (refusedAt h (f .at)) refl (f .answer ∙ ap some k)
+        let f : Lowest (λ i. refusedWith i (refusedAt edition h i)) (length h) y = lowest-some (λ i. refusedWith i (refusedAt edition h i)) (length h) w in
+        at-event (f .at) (f .inside) (λ j l. refused-with j (refusedAt edition h j) (f .least j l)) (refusedAt edition h (f .at)) refl (f .answer ∙ ap some k)
 
 -- a question whose event is the count
 at-count : (low high count q : ℕ) (r : Refusal) → Within low high q → Checked.Refused (refuse q count) ≡ Checked.Refused r → Asked low high count r
@@ -102,26 +101,18 @@ at-count low high count q r w k =
     let e : refuse q count ≡ r = cc in
     subst (Asked low high count) e (record { number = w; place = inr refl })
 
-pub columns-number : (c : Columns) (count : ℕ) (r : Refusal) → columnsAnswer c count ≡ Checked.Refused r → Asked 4 17 count r
-unfolding columnsAnswer
-columns-number c count r x = go (hold c count) x
-  where
-    go : (b : Bool) → cond b (eventsAnswer (history c count)) (Checked.Refused (refuse 17 count)) ≡ Checked.Refused r → Asked 4 17 count r
-    go true k = events-number (history c count) count r k
-    go false k = at-count 4 17 count 17 r (record { least = omega arith; most = omega arith }) k
-
--- with the edition and the start values, 3 comes between
+-- 17, 3 and each event's own
 pub call-number : (edition : ℕ) (starts : List ℕ) (c : Columns) (count : ℕ) (r : Refusal) → historyAnswer edition starts c count ≡ Checked.Refused r → Asked 3 17 count r
-unfolding historyAnswer columnsAnswer
+unfolding historyAnswer
 call-number edition starts c count r x = go (hold c count) (admits edition starts) x
   where
-    go : (b a : Bool) → cond b (cond a (eventsAnswer (history c count)) (Checked.Refused (refuse 3 count))) (Checked.Refused (refuse 17 count)) ≡ Checked.Refused r → Asked 3 17 count r
-    go true true k = widen (omega arith) (omega arith) (events-number (history c count) count r k)
+    go : (b a : Bool) → cond b (cond a (eventsAnswer edition (history c count)) (Checked.Refused (refuse 3 count))) (Checked.Refused (refuse 17 count)) ≡ Checked.Refused r → Asked 3 17 count r
+    go true true k = widen (omega arith) (omega arith) (events-number edition (history c count) count r k)
     go true false k = at-count 3 17 count 3 r (record { least = omega arith; most = omega arith }) k
     go false a k = at-count 3 17 count 17 r (record { least = omega arith; most = omega arith }) k
 
 pub call-readable : (edition : ℕ) (starts : List ℕ) (c : Columns) (count : ℕ) → historyAnswer edition starts c count ≡ Checked.Readable → readable (history c count) ≡ true
-call-readable edition starts c count x = columns-readable c count (fine edition starts c count x .columns) .1
+call-readable edition starts c count x = history-readable edition starts c count x .1
 
 -- ---- questions of a call: the count is their event
 

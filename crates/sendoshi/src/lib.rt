@@ -62,14 +62,17 @@ pub extern "C" fn sendoshi_read(
     transactions: &mut [u16],
     registers: &mut [u16],
     values: &mut [u32],
+    threads: &mut [u16],
 ) -> u64
     ensures { λ r. ⌜ filled r (now (starts .exit)) (columns (now (kinds .exit)) (now (transactions .exit)) (now (registers .exit))
-        (now (values .exit))) ≡ readCall (now (file .entry)) (now (starts .entry))
-        (columns (now (kinds .entry)) (now (transactions .entry)) (now (registers .entry)) (now (values .entry))) ⌝ }
+        (now (values .exit)) (now (threads .exit))) ≡ readCall (now (file .entry)) (now (starts .entry))
+        (columns (now (kinds .entry)) (now (transactions .entry)) (now (registers .entry)) (now (values .entry))
+        (now (threads .entry))) ⌝ }
     ensures { λ r. ⌜ decoded twoValues always r ≡ readSaid (readAnswer (now (file .entry))
-        (columns (now (kinds .entry)) (now (transactions .entry)) (now (registers .entry)) (now (values .entry))) .result) ⌝ }
+        (columns (now (kinds .entry)) (now (transactions .entry)) (now (registers .entry)) (now (values .entry))
+        (now (threads .entry))) .result) ⌝ }
 {
-    let answer = reader::read_history(file, kinds, transactions, registers, values);
+    let answer = reader::read_history(file, kinds, transactions, registers, values, threads);
     hand_over(answer, starts);
     read_code(answer)
 }
@@ -83,14 +86,17 @@ pub extern "C" fn sendoshi_write(
     transactions: &[u16],
     registers: &[u16],
     values: &[u32],
+    threads: &[u16],
     count: u32,
     output: &mut [u8],
 ) -> u64
     ensures { λ r. ⌜ put r (now (output .exit)) ≡ writeCall edition (now (starts .entry))
-        (columns (now (kinds .entry)) (now (transactions .entry)) (now (registers .entry)) (now (values .entry))) count
+        (columns (now (kinds .entry)) (now (transactions .entry)) (now (registers .entry)) (now (values .entry))
+        (now (threads .entry))) count
         (now (output .entry)) ⌝ }
     ensures { λ r. ⌜ decoded oneValue never r ≡ writtenSaid (writtenAnswer edition (now (starts .entry))
-        (columns (now (kinds .entry)) (now (transactions .entry)) (now (registers .entry)) (now (values .entry))) count
+        (columns (now (kinds .entry)) (now (transactions .entry)) (now (registers .entry)) (now (values .entry))
+        (now (threads .entry))) count
         (now (output .entry)) .result) ⌝ }
 {
     let answer = writer::write_history(
@@ -100,6 +106,7 @@ pub extern "C" fn sendoshi_write(
         transactions,
         registers,
         values,
+        threads,
         count as usize,
         output,
     );
@@ -116,15 +123,18 @@ pub extern "C" fn sendoshi_find(
     transactions: &[u16],
     registers: &[u16],
     values: &[u32],
+    threads: &[u16],
     count: u32,
     prefix: u32,
     output: &mut [u8],
 ) -> u64
     ensures { λ r. ⌜ put r (now (output .exit)) ≡ findCall edition (now (starts .entry))
-        (columns (now (kinds .entry)) (now (transactions .entry)) (now (registers .entry)) (now (values .entry))) count prefix
+        (columns (now (kinds .entry)) (now (transactions .entry)) (now (registers .entry)) (now (values .entry))
+        (now (threads .entry))) count prefix
         (now (output .entry)) ⌝ }
     ensures { λ r. ⌜ decoded oneValue never r ≡ foundSaid (foundAnswer edition (now (starts .entry))
-        (columns (now (kinds .entry)) (now (transactions .entry)) (now (registers .entry)) (now (values .entry))) count prefix
+        (columns (now (kinds .entry)) (now (transactions .entry)) (now (registers .entry)) (now (values .entry))
+        (now (threads .entry))) count prefix
         (now (output .entry)) .result) ⌝ }
 {
     let answer = finder::find_marking(
@@ -134,6 +144,7 @@ pub extern "C" fn sendoshi_find(
         transactions,
         registers,
         values,
+        threads,
         count as usize,
         prefix as usize,
         output,
@@ -151,12 +162,14 @@ pub extern "C" fn sendoshi_scan(
     transactions: &[u16],
     registers: &[u16],
     values: &[u32],
+    threads: &[u16],
     count: u32,
 ) -> u64
     ensures { λ r. ⌜ r ≡ scanCall edition (now (starts .entry)) (columns (now (kinds .entry)) (now (transactions .entry))
-        (now (registers .entry)) (now (values .entry))) count ⌝ }
+        (now (registers .entry)) (now (values .entry)) (now (threads .entry))) count ⌝ }
     ensures { λ r. ⌜ decoded noValue never r ≡ scanSaid (scanAnswer edition (now (starts .entry))
-        (columns (now (kinds .entry)) (now (transactions .entry)) (now (registers .entry)) (now (values .entry))) count) ⌝ }
+        (columns (now (kinds .entry)) (now (transactions .entry)) (now (registers .entry)) (now (values .entry))
+        (now (threads .entry))) count) ⌝ }
 {
     let answer = scan::scan_history(
         edition,
@@ -165,6 +178,7 @@ pub extern "C" fn sendoshi_scan(
         transactions,
         registers,
         values,
+        threads,
         count as usize,
     );
     scan_code(answer)
@@ -180,13 +194,15 @@ pub extern "C" fn sendoshi_check(
     transactions: &[u16],
     registers: &[u16],
     values: &[u32],
+    threads: &[u16],
     count: u32,
     file: &[u8],
 ) -> u64
     ensures { λ r. ⌜ r ≡ checkCall edition (now (starts .entry)) (columns (now (kinds .entry)) (now (transactions .entry))
-        (now (registers .entry)) (now (values .entry))) count (now (file .entry)) ⌝ }
+        (now (registers .entry)) (now (values .entry)) (now (threads .entry))) count (now (file .entry)) ⌝ }
     ensures { λ r. ⌜ decoded noValue ofMarking r ≡ checkSaid (verdictAnswer edition (now (starts .entry))
-        (columns (now (kinds .entry)) (now (transactions .entry)) (now (registers .entry)) (now (values .entry))) count
+        (columns (now (kinds .entry)) (now (transactions .entry)) (now (registers .entry)) (now (values .entry))
+        (now (threads .entry))) count
         (now (file .entry))) ⌝ }
 {
     let answer = marking::check::check_marking(
@@ -196,6 +212,7 @@ pub extern "C" fn sendoshi_check(
         transactions,
         registers,
         values,
+        threads,
         count as usize,
         file,
     );
@@ -213,16 +230,19 @@ pub extern "C" fn sendoshi_straighten(
     transactions: &[u16],
     registers: &[u16],
     values: &[u32],
+    threads: &[u16],
     count: u32,
     file: &[u8],
     output: &mut [u8],
     moved: &mut [u32],
 ) -> u64
     ensures { λ r. ⌜ putBoth r (now (output .exit)) (now (moved .exit)) ≡ straightenCall edition (now (starts .entry))
-        (columns (now (kinds .entry)) (now (transactions .entry)) (now (registers .entry)) (now (values .entry))) count
+        (columns (now (kinds .entry)) (now (transactions .entry)) (now (registers .entry)) (now (values .entry))
+        (now (threads .entry))) count
         (now (file .entry)) (now (output .entry)) (now (moved .entry)) ⌝ }
     ensures { λ r. ⌜ decoded twoValues ofMarking r ≡ straightSaid (straightenedAnswer edition (now (starts .entry))
-        (columns (now (kinds .entry)) (now (transactions .entry)) (now (registers .entry)) (now (values .entry))) count
+        (columns (now (kinds .entry)) (now (transactions .entry)) (now (registers .entry)) (now (values .entry))
+        (now (threads .entry))) count
         (now (file .entry)) (now (output .entry)) (now (moved .entry)) .result) ⌝ }
 {
     let answer = straighten::straighten(
@@ -232,6 +252,7 @@ pub extern "C" fn sendoshi_straighten(
         transactions,
         registers,
         values,
+        threads,
         count as usize,
         file,
         output,
@@ -247,14 +268,16 @@ pub extern "C" fn sendoshi_transactions(
     transactions: &[u16],
     registers: &[u16],
     values: &[u32],
+    threads: &[u16],
     count: u32,
 ) -> u64
     ensures { λ r. ⌜ r ≡ transactionsCall (columns (now (kinds .entry)) (now (transactions .entry)) (now (registers .entry))
-        (now (values .entry))) count ⌝ }
+        (now (values .entry)) (now (threads .entry))) count ⌝ }
     ensures { λ r. ⌜ decoded oneValue never r ≡ countSaid (transactionsAnswer
-        (columns (now (kinds .entry)) (now (transactions .entry)) (now (registers .entry)) (now (values .entry))) count) ⌝ }
+        (columns (now (kinds .entry)) (now (transactions .entry)) (now (registers .entry)) (now (values .entry))
+        (now (threads .entry))) count) ⌝ }
 {
-    let answer = counts::count_transactions(kinds, transactions, registers, values, count as usize);
+    let answer = counts::count_transactions(kinds, transactions, registers, values, threads, count as usize);
     count_code(answer)
 }
 
@@ -265,14 +288,16 @@ pub extern "C" fn sendoshi_store_reads(
     transactions: &[u16],
     registers: &[u16],
     values: &[u32],
+    threads: &[u16],
     count: u32,
 ) -> u64
     ensures { λ r. ⌜ r ≡ storeReadsCall (columns (now (kinds .entry)) (now (transactions .entry)) (now (registers .entry))
-        (now (values .entry))) count ⌝ }
+        (now (values .entry)) (now (threads .entry))) count ⌝ }
     ensures { λ r. ⌜ decoded oneValue never r ≡ countSaid (storeReadsAnswer
-        (columns (now (kinds .entry)) (now (transactions .entry)) (now (registers .entry)) (now (values .entry))) count) ⌝ }
+        (columns (now (kinds .entry)) (now (transactions .entry)) (now (registers .entry)) (now (values .entry))
+        (now (threads .entry))) count) ⌝ }
 {
-    let answer = counts::count_store_reads(kinds, transactions, registers, values, count as usize);
+    let answer = counts::count_store_reads(kinds, transactions, registers, values, threads, count as usize);
     count_code(answer)
 }
 
@@ -284,13 +309,15 @@ pub extern "C" fn sendoshi_tally(
     transactions: &[u16],
     registers: &[u16],
     values: &[u32],
+    threads: &[u16],
     count: u32,
 ) -> u64
     ensures { λ r. ⌜ r ≡ tallyCall (columns (now (kinds .entry)) (now (transactions .entry)) (now (registers .entry))
-        (now (values .entry))) count ⌝ }
+        (now (values .entry)) (now (threads .entry))) count ⌝ }
     ensures { λ r. ⌜ decoded fourValues never r ≡ tallySaid (tallyAnswer
-        (columns (now (kinds .entry)) (now (transactions .entry)) (now (registers .entry)) (now (values .entry))) count) ⌝ }
+        (columns (now (kinds .entry)) (now (transactions .entry)) (now (registers .entry)) (now (values .entry))
+        (now (threads .entry))) count) ⌝ }
 {
-    let answer = counts::tally_transactions(kinds, transactions, registers, values, count as usize);
+    let answer = counts::tally_transactions(kinds, transactions, registers, values, threads, count as usize);
     tally_code(answer)
 }

@@ -43,7 +43,7 @@ module _ (f : Event → ℕ) where
         long = length-set d n (f e) ∙ w .long;
       }
 
--- ---- the four
+-- ---- the five
 
 -- the columns hold the events h over what they held before
 pub record Filled (h : List Event) (before after : Columns) : Type 0 where
@@ -51,9 +51,11 @@ pub record Filled (h : List Event) (before after : Columns) : Type 0 where
   pub transactions : Column (λ e. e .transaction) h (before .transactions) (after .transactions)
   pub registers : Column (λ e. e .register) h (before .registers) (after .registers)
   pub values : Column (λ e. e .value) h (before .values) (after .values)
+  pub threads : Column (λ e. e .thread) h (before .threads) (after .threads)
 
 filled-none : (c : Columns) → Filled [] c c
-filled-none c = record { kinds = column-none _ _; transactions = column-none _ _; registers = column-none _ _; values = column-none _ _ }
+filled-none c =
+    record { kinds = column-none _ _; transactions = column-none _ _; registers = column-none _ _; values = column-none _ _; threads = column-none _ _ }
 
 -- the event's fields are put at the entry n
 abbrev pub putAt : Columns → ℕ → Event → Columns
@@ -63,6 +65,7 @@ putAt c n e =
       transactions = set (c .transactions) n (e .transaction);
       registers = set (c .registers) n (e .register);
       values = set (c .values) n (e .value);
+      threads = set (c .threads) n (e .thread);
     }
 
 filled-more : (h : List Event) (before after : Columns) (e : Event) (n : ℕ) → n ≡ length h → Held before (suc n) → Filled h before after
@@ -73,12 +76,19 @@ filled-more h before after e n k room w =
       transactions = column-more (λ x. x .transaction) h _ _ e n k (room .transactions) (w .transactions);
       registers = column-more (λ x. x .register) h _ _ e n k (room .registers) (w .registers);
       values = column-more (λ x. x .value) h _ _ e n k (room .values) (w .values);
+      threads = column-more (λ x. x .thread) h _ _ e n k (room .threads) (w .threads);
     }
 
 filled-whole : (h : List Event) (before after : Columns) → Filled h before after → after ≡ filledWith h before
 unfolding filledWith
 filled-whole h before after w =
-    λ i. record { kinds = w .kinds .holds i; transactions = w .transactions .holds i; registers = w .registers .holds i; values = w .values .holds i }
+    λ i. record {
+      kinds = w .kinds .holds i;
+      transactions = w .transactions .holds i;
+      registers = w .registers .holds i;
+      values = w .values .holds i;
+      threads = w .threads .holds i;
+    }
 
 -- ---- from a log
 
@@ -100,6 +110,7 @@ module _ (log : List (List ℕ)) (before after : Columns) (i : ℕ) (room : Held
         transactions = omega (arith, room .transactions);
         registers = omega (arith, room .registers);
         values = omega (arith, room .values);
+        threads = omega (arith, room .threads);
       } in
       let s : logged (take (i + 1) log) ≡ logged (take i log) ++ (e ∷ []) = rw p (logged-more log i l) in
       record { within = omega arith; columns = rw s (filled-more (logged (take i log)) before after e i n h (w .columns)) }
@@ -113,6 +124,7 @@ module _ (log : List (List ℕ)) (before after : Columns) (i : ℕ) (room : Held
         transactions = omega (arith, room .transactions, f .transactions .long);
         registers = omega (arith, room .registers, f .registers .long);
         values = omega (arith, room .values, f .values .long);
+        threads = omega (arith, room .threads, f .threads .long);
       }
 
   pub spilling-done : length log ≤ i → after ≡ spilled (logged log) before

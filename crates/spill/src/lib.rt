@@ -15,14 +15,16 @@ pub fn spill(
     transactions: &mut [u16],
     registers: &mut [u16],
     values: &mut [u32],
+    threads: &mut [u16],
 ) -> bool
-    ensures { λ r. ⌜ r ≡ hold (columns (now (kinds .entry)) (now (transactions .entry)) (now (registers .entry)) (now (values .entry)))
-        (length (now (log .entry))) ⌝ }
-    ensures { λ _. ⌜ columns (now (kinds .exit)) (now (transactions .exit)) (now (registers .exit)) (now (values .exit))
+    ensures { λ r. ⌜ r ≡ hold (columns (now (kinds .entry)) (now (transactions .entry)) (now (registers .entry)) (now (values .entry))
+        (now (threads .entry))) (length (now (log .entry))) ⌝ }
+    ensures { λ _. ⌜ columns (now (kinds .exit)) (now (transactions .exit)) (now (registers .exit)) (now (values .exit)) (now (threads .exit))
         ≡ spilled (logged (now (log .entry)))
-        (columns (now (kinds .entry)) (now (transactions .entry)) (now (registers .entry)) (now (values .entry))) ⌝ }
+        (columns (now (kinds .entry)) (now (transactions .entry)) (now (registers .entry)) (now (values .entry))
+        (now (threads .entry))) ⌝ }
 {
-    if !columns_hold(kinds, transactions, registers, values, log.len()) {
+    if !columns_hold(kinds, transactions, registers, values, threads, log.len()) {
         return false;
     }
     let mut i: usize = 0;
@@ -32,6 +34,7 @@ pub fn spill(
         transactions[i] = e.transaction;
         registers[i] = e.register;
         values[i] = e.value;
+        threads[i] = e.thread;
         i += 1;
     }
     true

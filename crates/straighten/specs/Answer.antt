@@ -64,7 +64,7 @@ straightenedAnswer edition starts c n file output list = afterColumns (startOf s
 
 -- the answer of edition 1, where every register starts at 0, as it was before there were start values
 unfoldable pub firstEditionAnswer : Columns → ℕ → List ℕ → List ℕ → List ℕ → Given
-firstEditionAnswer c n file output list = afterColumns zeros (history c n) n file output list (columnsAnswer c n)
+firstEditionAnswer c n file output list = afterColumns zeros (history c n) n file output list (columnsAnswer 1 c n)
 
 -- what the straightening says: the length of the marking and how many points were moved, or the rule with its event and transaction, or the
 -- question about history or buffers with its event, or the marking's with its byte

@@ -242,6 +242,7 @@ pub fn straighten(
     transactions: &[u16],
     registers: &[u16],
     values: &[u32],
+    threads: &[u16],
     count: usize,
     file: &[u8],
     output: &mut [u8],
@@ -249,7 +250,7 @@ pub fn straighten(
 ) -> Straightening
     ensures { λ r. ⌜ gives r (now (output .exit)) (now (moved .exit))
         ≡ straightenedAnswer edition (now (starts .entry))
-        (columns (now (kinds .entry)) (now (transactions .entry)) (now (registers .entry)) (now (values .entry)))
+        (columns (now (kinds .entry)) (now (transactions .entry)) (now (registers .entry)) (now (values .entry)) (now (threads .entry)))
         count (now (file .entry)) (now (output .entry)) (now (moved .entry)) ⌝ }
 {
     if count <= SHORT {
@@ -261,6 +262,7 @@ pub fn straighten(
             transactions,
             registers,
             values,
+            threads,
             count,
             &mut few,
         );
@@ -274,6 +276,7 @@ pub fn straighten(
         transactions,
         registers,
         values,
+        threads,
         count,
         &mut rows,
     );

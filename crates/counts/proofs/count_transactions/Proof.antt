@@ -10,7 +10,7 @@ use Rattle.counts.proofs.count_transactions.Tie as tie
 
 -- the columns given
 abbrev given : tie.Start → Columns
-given s = columns (s .args .kinds .now) (s .args .transactions .now) (s .args .registers .now) (s .args .values .now)
+given s = columns (s .args .kinds .now) (s .args .transactions .now) (s .args .registers .now) (s .args .values .now) (s .args .threads .now)
 
 abbrev tested : tie.After-admit → tie.Then1
 tested a = a .before .before .before

@@ -12,7 +12,7 @@ abbrev entered : tie.After-slice-known → tie.Start
 entered a = a .before .before .before .before .before
 
 abbrev given : tie.Start → Columns
-given s = columns (s .args .kinds .now) (s .args .transactions .now) (s .args .registers .now) (s .args .values .now)
+given s = columns (s .args .kinds .now) (s .args .transactions .now) (s .args .registers .now) (s .args .values .now) (s .args .threads .now)
 
 -- the prefix is one of the history, where few and where many rows are taken in
 abbrev inside : tie.After-admit → tie.Else1

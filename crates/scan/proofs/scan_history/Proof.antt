@@ -19,7 +19,7 @@ abbrev entered : tie.After-shared-slice-known4 → tie.Start
 entered a = a .before .before .before .before
 
 abbrev given : tie.Start → Columns
-given s = columns (s .args .kinds .now) (s .args .transactions .now) (s .args .registers .now) (s .args .values .now)
+given s = columns (s .args .kinds .now) (s .args .transactions .now) (s .args .registers .now) (s .args .values .now) (s .args .threads .now)
 
 -- the entry, from where few and where many rows are taken in
 abbrev few : tie.After-admit → tie.Start

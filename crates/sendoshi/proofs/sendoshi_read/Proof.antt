@@ -15,7 +15,7 @@ use Rattle.sendoshi.proofs.sendoshi_read.Tie as tie
 
 -- the columns as they are lent
 abbrev lent : tie.Start → Columns
-lent s = columns (now (s .args .kinds)) (now (s .args .transactions)) (now (s .args .registers)) (now (s .args .values))
+lent s = columns (now (s .args .kinds)) (now (s .args .transactions)) (now (s .args .registers)) (now (s .args .values)) (now (s .args .threads))
 
 -- where the columns are known, and where the answer is given
 abbrev known : tie.After-slice-known4 → tie.Start

@@ -16,7 +16,7 @@ use Rattle.sendoshi.proofs.sendoshi_write.Tie as tie
 
 -- the columns as they are lent
 abbrev lent : tie.Start → Columns
-lent s = columns (now (s .args .kinds)) (now (s .args .transactions)) (now (s .args .registers)) (now (s .args .values))
+lent s = columns (now (s .args .kinds)) (now (s .args .transactions)) (now (s .args .registers)) (now (s .args .values)) (now (s .args .threads))
 
 -- the call, from where the answer is given
 abbrev entered : tie.After-write-history → tie.Start

@@ -15,7 +15,7 @@ use Rattle.straighten.proofs.straighten.Statement.{statement}
 use Rattle.straighten.proofs.straighten.Tie as tie
 
 abbrev given : tie.Start → Columns
-given s = columns (s .args .kinds .now) (s .args .transactions .now) (s .args .registers .now) (s .args .values .now)
+given s = columns (s .args .kinds .now) (s .args .transactions .now) (s .args .registers .now) (s .args .values .now) (s .args .threads .now)
 
 -- where the columns were taken in, into 64 rows or into 2,048: the function's entry
 abbrev lent : tie.After-slice-known2 → tie.Start

@@ -15,7 +15,7 @@ use Rattle.marking.proofs.check.check_marking.Statement.{statement}
 use Rattle.marking.proofs.check.check_marking.Tie as tie
 
 abbrev given : tie.Start → Columns
-given s = columns (s .args .kinds .now) (s .args .transactions .now) (s .args .registers .now) (s .args .values .now)
+given s = columns (s .args .kinds .now) (s .args .transactions .now) (s .args .registers .now) (s .args .values .now) (s .args .threads .now)
 
 -- where columns of few events, and of more, have been taken in
 abbrev asked : tie.After-shared-slice-known5 → tie.Start
