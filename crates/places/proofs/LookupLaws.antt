@@ -10,7 +10,7 @@ use lib.ListN.{drop, getD}
 use lib.Seq.{getD-drop}
 use lib.Dec.{eqb}
 use borrow.Author.Tests.{eq-eqb, ne-eqb}
-use Rattle.lists.specs.Lists.{_and_, orElse, latest}
+use Rattle.lists.specs.Lists.{_and_, _or_, orElse, latest}
 use Rattle.events.specs.declared.event.Event.{Event}
 use Rattle.events.specs.Events.{isWrite, by}
 use Rattle.opacity.specs.Transactions.{lastWrite}
@@ -29,7 +29,7 @@ entry (suc v) = some v
 module _ (u q : ℕ) where
   -- one entry more in front
   last-cons : (t r v : ℕ) (h : List Event) → lastWrite (consWrite t r v h) u q ≡ orElse (lastWrite h u q) (cond ((eqb t u and true) and eqb r q) (entry v) none)
-  unfolding lastWrite latest by isWrite
+  unfolding lastWrite latest by isWrite _or_
   last-cons t r zero h = go ((eqb t u and true) and eqb r q) (lastWrite h u q)
     where
       go : (b : Bool) (o : Option ℕ) → o ≡ orElse o (cond b none none)

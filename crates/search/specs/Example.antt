@@ -4,7 +4,7 @@ use mathlib.Core.Path.{_≡_, refl}
 use mathlib.Core.List.{[], _∷_}
 use mathlib.Core.Option.{some}
 use lib.ListN.{replicate}
-use Rattle.lists.specs.Lists.{_and_, all, latest}
+use Rattle.lists.specs.Lists.{_and_, _or_, all, latest}
 use Rattle.log.specs.Starts.{startOf}
 use Rattle.events.specs.Events.{isWrite, by}
 use Rattle.opacity.specs.Transactions.{lastWrite}
@@ -21,6 +21,6 @@ h0 = constraints (replicate 32 0) (put (put (put (put (put (replicate 11 (replic
 h0-lowest : firstCompletion h0 2 ≡ some (2 ∷ 1 ∷ [])
 unfolding
     h0 firstCompletion fromCandidates firstOf tryBoth tryOne fitsAt endsAt ruleNext allowsOutcome noneIn legalReads legalAt
-    contents written latest lastWrite by isWrite _and_ all startOf
+    contents written latest lastWrite by isWrite _and_ _or_ all startOf
     decode writesIn writesFrom rowFrom remove upFrom bitAt members membersIn
 h0-lowest = refl
