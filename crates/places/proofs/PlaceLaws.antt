@@ -14,7 +14,7 @@ use Rattle.lists.proofs.ListLaws.{and-l, and-r, every-e, any-append, all-append
 use Rattle.opacity.specs.Justification.{Place, isOf, placed, before, outcome, distinct, isOrder}
 use Rattle.opacity.proofs.Orders.{before-here, outcome-here, distinct-at}
 use Rattle.places.specs.Places.{codesOf, coded, decode}
-use Rattle.places.specs.State.{Ordered, PlaceOf}
+use Rattle.places.specs.State.{Coded, Ordered, PlaceOf}
 use Rattle.places.proofs.StateLaws.{length-codes}
 use Rattle.places.proofs.LookupLaws.{decode-snoc}
 
@@ -24,6 +24,12 @@ unfolding all decode
 codes-known n [] a i l = absurd (not-suc-le-zero l)
 codes-known n (c ∷ p) a zero l = ltb-true _ _ (and-l _ _ a)
 codes-known n (c ∷ p) a (suc i) l = codes-known n p (and-r _ _ a) i (le-of-suc-le-suc l)
+
+-- an order holds the code of a transaction at each place
+pub ordered-coded : (n order : ℕ) → Ordered n order → Coded n order
+unfolding isOrder
+ordered-coded n order o =
+    record { few = o .few; codes = λ i l. omega (arith, o .few, codes-known n (codesOf n order) (and-l _ _ (o .is-order)) i (rw (length-codes n order) l)) }
 
 -- the places behind those that are left are of others
 pub record Looking (n order t left rest : ℕ) : Type 0 where

@@ -1,7 +1,7 @@
 -- Laws of the witness: what the code computes of it is what the definitions say, and where it is kept it justifies one event more.
 -- Assumes nothing.
-use mathlib.Core.Path.{_≡_, refl, sym, ap, _∙_}
-use Prim.Native.Nat.{ℕ, suc, _+_, _*_, _-_, _/_, _%_, _^_, _≤_, _<_}
+use mathlib.Core.Path.{_≡_, refl, sym, ap, ap₂, _∙_}
+use Prim.Native.Nat.{ℕ, _+_, _*_, _-_, _/_, _%_, _^_, _≤_, _<_}
 use native.Mathlib.Nat.{le-of-lt}
 use native.Mathlib.Numerals.{add-one}
 use native.Mathlib.Omega.{arith}
@@ -9,10 +9,10 @@ use mathlib.Core.Bool.{Bool, true, false, not, cond, false≢true}
 use mathlib.Core.List.{List, [], _∷_, _++_}
 use mathlib.Core.Option.{Option, none, some, Option·getD}
 use lib.Dec.{eqb, ltb}
-use lib.ListN.{length, take, getD}
+use lib.ListN.{length, take}
 use lib.Pow.{pow-add, pow-mono}
-use borrow.Author.Tests.{ne-eqb, ltb-true, lt-ltb}
-use Rattle.lists.specs.Lists.{_or_, all}
+use borrow.Author.Tests.{eq-eqb, ne-eqb, ltb-true, lt-ltb}
+use Rattle.lists.specs.Lists.{_or_, _implies_, all}
 use Rattle.events.specs.declared.event.Event.{Event}
 use Rattle.events.specs.Events.{eventAt, isBegin, isRead, isCommit, isAbort, isEnd, begins}
 use Rattle.log.specs.Starts.{startOf}
@@ -22,22 +22,21 @@ use Rattle.events.proofs.QuestionLaws as asking
 use Rattle.opacity.specs.Transactions.{lastWrite}
 use Rattle.opacity.specs.Justification.{Place, isOf, before, outcome, contents, isOrder, Justified}
 use Rattle.opacity.specs.Lowest.{place}
+use Rattle.opacity.specs.Marking.{outcomeNumber}
 use Rattle.opacity.specs.Carry.{seen, carries, carried}
-use Rattle.opacity.proofs.EventKinds.{begin-no-read}
 use Rattle.opacity.proofs.Carry.{carried-justified}
 use Rattle.places.specs.Facts.{writtenOf}
-use Rattle.places.specs.Places.{codesOf, decode, plus, writesIn}
+use Rattle.places.specs.Places.{codesOf, coded, decode, plus, writesIn}
 use Rattle.places.specs.Tree.{Completion, Answers}
 use Rattle.places.proofs.StateLaws.{one-more}
 use Rattle.places.proofs.LookupLaws.{held, decode-snoc}
 use Rattle.tables.specs.Tables.{Tabled, tablesOf}
 use Rattle.lowest.specs.Order.{Judged}
 use Rattle.tables.proofs.TableLaws.{take-more}
-use Rattle.lowest.proofs.Meaning.{Good}
 use Rattle.lowest.proofs.GoodHistory.{good, tabled}
 use Rattle.lowest.proofs.LookupLink.{last-held, contents-held}
 use Rattle.lowest.proofs.JudgedLaws.{judged-prefix}
-use Rattle.witness.specs.Witness.{carriedCode, kept, Carryable, Judges}
+use Rattle.witness.specs.Witness.{codeOf, carriedCode, kept, Carryable, Judges}
 
 -- ---- what a transaction reads
 
@@ -61,10 +60,16 @@ module _ (start : ℕ → ℕ) (w : List (List ℕ)) (J : List Place) (t r : ℕ
 -- ---- what an event leaves of the witness
 
 module _ (starts : List ℕ) (w : List (List ℕ)) (n order : ℕ) (e : Event) where
-  -- one that begins has not read or ended yet
-  pub kept-begin : isBegin e ≡ true → order * 32 + e .transaction * 2 ≡ kept starts w n order e
-  unfolding kept carries carriedCode
-  kept-begin b = let x = begin-no-read e b in rw (b, x .0, x .1, x .2)
+  -- one that begins reads what its register holds after the order
+  module _ (b : isBegin e ≡ true) (code : ℕ) (its : code ≡ codeOf e) where
+    pub kept-lone-read : isRead e ≡ true → (v x : ℕ) → v ≡ contents (startOf starts) (writesIn w) (decode (codesOf n order)) (e .register) → x ≡ e .value
+        → cond (eqb v x) (order * 32 + code) 0 ≡ kept starts w n order e
+    unfolding kept carries carriedCode _implies_
+    kept-lone-read r v x p q = rw (its, p, q, b, r)
+
+    pub kept-begin : isRead e ≡ false → order * 32 + code ≡ kept starts w n order e
+    unfolding kept carries carriedCode _implies_
+    kept-begin r = rw (its, b, r)
 
   module _ (b : isBegin e ≡ false) where
     pub kept-read : isRead e ≡ true → cond (eqb (seen (startOf starts) (writesIn w) (decode (codesOf n order)) (e .transaction) (e .register)) (e .value)) order 0 ≡ kept starts w n order e
@@ -110,15 +115,29 @@ before-all q u (p ∷ J) a = go (isOf u p) (before-all q u J (and-r _ _ a))
     go true i = refl
     go false i = and-i _ _ (and-l _ _ a) i
 
--- one place more in the number
-code-more : (n order t : ℕ) → t < 10 → decode (codesOf (n + 1) (order * 32 + t * 2)) ≡ decode (codesOf n order) ++ (place t false ∷ [])
-code-more n order t l =
-    let a : t * 2 / 2 ≡ t = omega arith in
-    let b : eqb (t * 2 % 2) 1 ≡ false = ne-eqb (t * 2 % 2) 1 (λ q. omega arith) in
-    rw (one-more n order (t * 2) (omega arith), decode-snoc (codesOf n order) (t * 2), a, b)
+-- the code of a place, from its transaction and its outcome
+pub code-low : (t : ℕ) (c : Bool) → t < 10 → t * 2 + outcomeNumber c < 20
+code-low t true l = omega arith
+code-low t false l = omega arith
 
-room-after : (n order t : ℕ) → t < 10 → order < 2 ^ (n * 5 + 1) → order * 32 + t * 2 < 2 ^ ((n + 1) * 5 + 1)
-room-after n order t l h =
+-- one place more in the number
+code-more : (n order t : ℕ) (c : Bool) → t < 10
+    → decode (codesOf (n + 1) (order * 32 + (t * 2 + outcomeNumber c))) ≡ decode (codesOf n order) ++ (place t c ∷ [])
+code-more n order t c l =
+    rw (one-more n order (t * 2 + outcomeNumber c) (omega (arith, code-low t c l)), decode-snoc (codesOf n order) (t * 2 + outcomeNumber c)) (go c)
+  where
+    go : (c : Bool) → decode (codesOf n order) ++ (coded (t * 2 + outcomeNumber c) ∷ []) ≡ decode (codesOf n order) ++ (place t c ∷ [])
+    go true =
+        let a : (t * 2 + 1) / 2 ≡ t = omega arith in
+        let b : eqb ((t * 2 + 1) % 2) 1 ≡ true = eq-eqb ((t * 2 + 1) % 2) 1 (omega arith) in
+        rw (a, b)
+    go false =
+        let a : (t * 2 + 0) / 2 ≡ t = omega arith in
+        let b : eqb ((t * 2 + 0) % 2) 1 ≡ false = ne-eqb ((t * 2 + 0) % 2) 1 (λ q. omega arith) in
+        rw (a, b)
+
+room-after : (n order code : ℕ) → code < 32 → order < 2 ^ (n * 5 + 1) → order * 32 + code < 2 ^ ((n + 1) * 5 + 1)
+room-after n order code l h =
     let p : 2 ^ (n * 5 + 1 + 5) ≡ 2 ^ (n * 5 + 1) * 2 ^ 5 = pow-add 2 (n * 5 + 1) 5 in
     let q : (n + 1) * 5 + 1 ≡ n * 5 + 1 + 5 = omega arith in
     rw (q, p) (omega arith)
@@ -161,19 +180,22 @@ module _ (o : List ℕ) (h : List Event) (j : Judged h) (i : ℕ) (l : i < lengt
       its-own : e .transaction < begins (take (i + 1) h)
       its-own = rw (same, add-one i) (asking.begun h (j .readable) i l)
 
-  -- the tables say of the transaction of event i what the events say
-  seen-same : (w : List (List ℕ)) → w ≡ tablesOf (take i h) .facts → (t r : ℕ) → t < 10 → r < 32 → seen (startOf o) (writesIn w) J t r ≡ seen (startOf o) (take i h) J t r
-  unfolding seen
-  seen-same w q t r lt lr =
-      let g : Good (take i h) = good (take i h) (earlier .readable) (earlier .few) in
-      rw (q, last-held (take i h) g r lr t lt, contents-held (take i h) g r lr (startOf o) (before t J) few)
-    where
-      few : all (λ p. ltb (p .transaction) 10) (before t J) ≡ true
-      few =
-          before-all _ t J
-          (all-weaken (λ p. ltb (p .transaction) (begins (take i h))) (λ p. ltb (p .transaction) 10) J
-          (λ p k. lt-ltb (p .transaction) 10 (omega (arith, earlier .few, ltb-true (p .transaction) (begins (take i h)) k)))
-          (unfold isOrder J in and-l _ _ (witness .order)))
+  few : all (λ p. ltb (p .transaction) 10) J ≡ true
+  unfolding isOrder J
+  few =
+      all-weaken (λ p. ltb (p .transaction) (begins (take i h))) (λ p. ltb (p .transaction) 10) J
+      (λ p k. lt-ltb (p .transaction) 10 (omega (arith, earlier .few, ltb-true (p .transaction) (begins (take i h)) k)))
+      (and-l _ _ (witness .order))
+
+  -- the tables say of the registers and of the transaction of event i what the events say
+  module _ (w : List (List ℕ)) (q : w ≡ tablesOf (take i h) .facts) (r : ℕ) (lr : r < 32) where
+    contents-same : (P : List Place) → all (λ p. ltb (p .transaction) 10) P ≡ true → contents (startOf o) (writesIn w) P r ≡ contents (startOf o) (take i h) P r
+    contents-same P a = rw (q, contents-held (take i h) (good (take i h) (earlier .readable) (earlier .few)) r lr (startOf o) P a)
+
+    seen-same : (t : ℕ) → t < 10 → seen (startOf o) (writesIn w) J t r ≡ seen (startOf o) (take i h) J t r
+    unfolding seen
+    seen-same t lt =
+        rw (contents-same (before t J) (before-all _ t J few), q, last-held (take i h) (good (take i h) (earlier .readable) (earlier .few)) r lr t lt)
 
   module _ (w : List (List ℕ)) (its : w ≡ tablesOf (take i h) .facts) (k : ℕ) (keeps : k ≡ kept o w begun order e) (some : k ≡ 0 → ⊥) where
     -- the order was kept
@@ -188,8 +210,12 @@ module _ (o : List ℕ) (h : List Event) (j : Judged h) (i : ℕ) (l : i < lengt
     passes : carries (startOf o) (take i h) J e ≡ true
     unfolding carries
     passes =
-        ap (λ (x : ℕ). cond (isRead e) (eqb x (e .value)) (cond (isCommit e) (outcome (e .transaction) J) (cond (isAbort e) (not (outcome (e .transaction) J)) true)))
-        (sym (seen-same w its (e .transaction) (e .register) (fits .transaction) (fits .register)))
+        ap₂
+        (λ (x y : ℕ).
+        cond (isBegin e) (isRead e implies eqb x (e .value))
+        (cond (isRead e) (eqb y (e .value)) (cond (isCommit e) (outcome (e .transaction) J) (cond (isAbort e) (not (outcome (e .transaction) J)) true))))
+        (sym (contents-same w its (e .register) (fits .register) J few))
+        (sym (seen-same w its (e .register) (fits .register) (e .transaction) (fits .transaction)))
         ∙ was-kept .0
 
     goes-on : Justified (startOf o) (take (i + 1) h) (carried J e)
@@ -203,9 +229,9 @@ module _ (o : List ℕ) (h : List Event) (j : Judged h) (i : ℕ) (l : i < lengt
       unfolding carried carriedCode J
       code = go (isBegin e) counts (was-kept .1)
         where
-          go : (b : Bool) → begun′ ≡ cond b (begun + 1) begun → k ≡ cond b (order * 32 + e .transaction * 2) order
-              → cond b (decode (codesOf begun order) ++ (place (e .transaction) false ∷ [])) (decode (codesOf begun order)) ≡ decode (codesOf begun′ k)
-          go true x y = rw (x, y) (sym (code-more begun order (e .transaction) (fits .transaction)))
+          go : (b : Bool) → begun′ ≡ cond b (begun + 1) begun → k ≡ cond b (order * 32 + codeOf e) order
+              → cond b (decode (codesOf begun order) ++ (place (e .transaction) (isCommit e) ∷ [])) (decode (codesOf begun order)) ≡ decode (codesOf begun′ k)
+          go true x y = rw (x, y) (sym (code-more begun order (e .transaction) (isCommit e) (fits .transaction)))
           go false x y = rw (x, y)
 
       pub carried-on : Justified (startOf o) (take (i + 1) h) (decode (codesOf begun′ k))
@@ -215,6 +241,6 @@ module _ (o : List ℕ) (h : List Event) (j : Judged h) (i : ℕ) (l : i < lengt
       unfolding carriedCode
       room-on = go (isBegin e) counts (was-kept .1)
         where
-          go : (b : Bool) → begun′ ≡ cond b (begun + 1) begun → k ≡ cond b (order * 32 + e .transaction * 2) order → k < 2 ^ (begun′ * 5 + 1)
-          go true x y = rw (x, y) (room-after begun order (e .transaction) (fits .transaction) room)
+          go : (b : Bool) → begun′ ≡ cond b (begun + 1) begun → k ≡ cond b (order * 32 + codeOf e) order → k < 2 ^ (begun′ * 5 + 1)
+          go true x y = rw (x, y) (room-after begun order (codeOf e) (omega (arith, code-low (e .transaction) (isCommit e) (fits .transaction))) room)
           go false x y = rw (x, y) room

@@ -6,16 +6,21 @@ use Prim.Native.Nat.{ℕ, _+_, _*_, _^_, _<_}
 use mathlib.Core.Bool.{true, false, cond}
 use mathlib.Core.List.{List}
 use Rattle.events.specs.declared.event.Event.{Event}
-use Rattle.events.specs.Events.{isBegin}
+use Rattle.events.specs.Events.{isBegin, isCommit}
 use Rattle.log.specs.Starts.{startOf}
+use Rattle.opacity.specs.Marking.{outcomeNumber}
 use Rattle.opacity.specs.Carry.{carries}
 use Rattle.places.specs.Places.{codesOf, decode, writesIn}
 use Rattle.places.specs.State.{Ordered}
 use Rattle.places.specs.Tree.{Completion, Answers}
 
--- with a begin the new transaction comes last, aborted
+-- the code of the place of a transaction that begins: its number times 2, plus the outcome that the event records
+abbrev pub codeOf : Event → ℕ
+codeOf e = e .transaction * 2 + outcomeNumber (isCommit e)
+
+-- with an event that begins, the new transaction comes last
 unfoldable pub carriedCode : ℕ → Event → ℕ
-carriedCode order e = cond (isBegin e) (order * 32 + e .transaction * 2) order
+carriedCode order e = cond (isBegin e) (order * 32 + codeOf e) order
 
 -- the order of n places with the event e, if it justifies e too, and else 0; f is the table of facts
 unfoldable pub kept : List ℕ → List (List ℕ) → ℕ → ℕ → Event → ℕ

@@ -1,11 +1,10 @@
 -- `witness::carry` meets its contract: by the tests. Assumes nothing.
-use Prim.Native.Nat.{ℕ, _<_, _^_}
+use Prim.Native.Nat.{ℕ}
 use mathlib.Core.Path.{_≡_, sym, ap, ap₂, _∙_}
 use mathlib.Core.Bool.{Bool, true, false, cond}
-use native.Mathlib.Omega.{arith}
 use lib.Dec.{eqb}
 use Rattle.events.specs.Events.{isBegin, isRead}
-use Rattle.witness.proofs.WitnessLaws.{kept-begin, kept-read, kept-end, kept-other, room-more}
+use Rattle.witness.proofs.WitnessLaws.{kept-read, kept-end, kept-other}
 use borrow.Author.Needs.{needs}
 use Rattle.witness.proofs.carry.Statement.{statement}
 use Rattle.witness.proofs.carry.Tie as tie
@@ -20,22 +19,11 @@ not-begin a = sym (a .before .is-begin .ensures) ∙ a .if1 .left
 not-read : (a : tie.Else2) → isRead (a .before .before .before .before .args .e) ≡ false
 not-read a = sym (a .before .is-read .ensures) ∙ a .if2 .left
 
--- there is room for one place more
-room : (a : tie.Then1) → a .before .before .args .order < 2 ^ 46
-room a =
-    let s = a .before .before in
-    room-more (s .args .count) (s .args .order) (s .pre .another (begins-here a)) (s .pre .room)
-
-mul-result : tie.Need-mul-result
-mul-result c = omega (arith, room c)
-
-add-result : tie.Need-add-result
-add-result c = omega (arith, room (c .before), c .before .before .before .pre .transaction)
+place-last-requires : tie.Need-place-last-requires
+place-last-requires c κs = (c .before .before .pre, begins-here c)
 
 returns : tie.Need-returns
-returns c =
-    let a = c .before .before .before .args in
-    kept-begin (a .starts .now) (a .facts .now) (a .count) (a .order) (a .e) (begins-here (c .before))
+returns c = c .place-last .ensures
 
 seen-by-requires : tie.Need-seen-by-requires
 seen-by-requires c κs =
@@ -76,6 +64,5 @@ returns-4 c =
 pub carry-spec : {M : Type 1} → statement M
 carry-spec =
     tie.close
-    (tie.spec (λ c κs. search needs) mul-result (λ c. search needs) (λ c. search needs) add-result
-    returns (λ c κs. search needs) seen-by-requires (λ c κs. search needs) (λ c κs. search needs)
+    (tie.spec (λ c κs. search needs) place-last-requires returns (λ c κs. search needs) seen-by-requires (λ c κs. search needs) (λ c κs. search needs)
     returns-2 (λ c κs. search needs) ends-so-requires (λ c κs. search needs) returns-3 returns-4)
