@@ -15,14 +15,13 @@ use Rattle.log.specs.declared.admit.Checked.{Checked}
 use Rattle.events.specs.declared.refusal.Refusal.{Refusal}
 use Rattle.events.specs.Said.{Said, eventRefused, byteRefused}
 use Rattle.lists.specs.Lists.{_or_}
-use Rattle.events.specs.Events.{isRead, isCommit, isAbort, begins}
+use Rattle.events.specs.Events.{isBegin, isRead, isCommit, isAbort, begins}
 use Rattle.log.specs.Columns.{Columns, history}
 use Rattle.log.specs.Starts.{startOf}
 use Rattle.events.specs.Questions.{readable}
 use Rattle.log.specs.Answer.{historyAnswer}
 use Rattle.log.proofs.ColumnLaws.{history-length}
-use Rattle.events.proofs.QuestionLaws.{readable-take}
-use Rattle.log.proofs.AnswerLaws.{columns-readable}
+use Rattle.events.proofs.QuestionLaws.{readable-in, readable-take}
 use Rattle.events.proofs.ReadableLaws.{readable-most}
 use Rattle.opacity.specs.declared.verdict.Rule.{Rule}
 use Rattle.opacity.specs.declared.verdict.Verdict.{Verdict}
@@ -50,7 +49,7 @@ use Rattle.finder.proofs.AnswerLaws.{marking-e, refused-e, marking-some, passed
 use Rattle.finder.proofs.OrderLaws.{room-is}
 use Rattle.scan.specs.declared.Scanning.{Scanning}
 use Rattle.scan.specs.Answer.{scanAnswer, said as scanSaid}
-use Rattle.scan.proofs.AnswerLaws.{scanned-e, passed as scan-passed}
+use Rattle.scan.proofs.AnswerLaws.{scanned-e, passed-readable as scan-readable}
 use Rattle.scan.proofs.Theorems.{faulted-exactly}
 use Rattle.marking.specs.declared.check.Checking.{Checking}
 use Rattle.marking_reader.specs.File.{known, FileRead, content, refused, fileRead}
@@ -69,7 +68,7 @@ use Rattle.straighten.proofs.AnswerLaws.{answer-means}
 use Rattle.codes.specs.Codes.{most, place, Within, Halves, Quarters, Known}
 use Rattle.codes.specs.Decoded.{noValue, oneValue, twoValues, fourValues, always, never, ofMarking}
 use Rattle.codes.proofs.CodeLaws.{two-back, four-back, Decodable}
-use Rattle.sendoshi.proofs.Numbers.{Asked, columns-number, call-readable}
+use Rattle.sendoshi.proofs.Numbers.{Asked, call-number, call-readable}
 use Rattle.sendoshi.proofs.Files.{read-limits, MarkingNumber}
 use Rattle.sendoshi.proofs.Refusals.{read-refusal, write-refusal, find-refusal, scan-refusal, check-history, OfMarking, check-marking, straighten-refusal, straighten-marking}
 
@@ -144,7 +143,7 @@ module _ (edition : ℕ) (starts : List ℕ) (c : Columns) (count : ℕ) (small 
       go (Writing.Written n) w =
           let a = was-written edition starts c count output n w in
           let h = history c count in
-          (omega (arith, a .length-is, length-file edition starts h, starts-most starts 32, length-most h, readable-most h (a .events)), refl)
+          (omega (arith, a .length-is, length-file edition starts h, starts-most starts 32, length-most h, readable-most h (readable-in edition h (a .events))), refl)
       go (Writing.Refused r) w = event-decodable small (write-refusal edition starts c count output r w) oneValue (omega arith) (omega arith)
 
   -- ---- the finder
@@ -157,7 +156,7 @@ module _ (edition : ℕ) (starts : List ℕ) (c : Columns) (count : ℕ) (small 
       let a = marking-e _ _ output n x in
       let p = passed edition starts c count prefix (length output) (a .passes) in
       let i : prefix ≤ length (history c count) = omega (arith, p .inside, history-length c count) in
-      let r : readable h ≡ true = readable-take (history c count) prefix i (p .readable) in
+      let r : readable h ≡ true = readable-take (history c count) prefix i (readable-in edition (history c count) (p .readable)) in
       let j = marking-some (startOf starts) h (a .found) in
       let o = lowest-some (startOf starts) h r (j .0) .0 (j .1) in
       let s : length (a .bytes) ≡ markingSize h = ap length (j .2) ∙ room-is h (j .0) (places-are-n (begins h) (j .0) (o .justifies .order)) in
@@ -177,13 +176,14 @@ module _ (edition : ℕ) (starts : List ℕ) (c : Columns) (count : ℕ) (small 
 
   its-cause : (e : Event) → Within 1 4 (cause e)
   unfolding cause
-  its-cause e = go (isRead e) (isCommit e) (isAbort e)
+  its-cause e = go (isRead e) (isBegin e) (isCommit e) (isAbort e)
     where
-      go : (a b d : Bool) → Within 1 4 (cond a 1 (cond b 2 (cond d 3 4)))
-      go true b d = record { least = omega arith; most = omega arith }
-      go false true d = record { least = omega arith; most = omega arith }
-      go false false true = record { least = omega arith; most = omega arith }
-      go false false false = record { least = omega arith; most = omega arith }
+      go : (r n c a : Bool) → Within 1 4 (cond r 1 (cond n 4 (cond c 2 (cond a 3 4))))
+      go true n c a = record { least = omega arith; most = omega arith }
+      go false true c a = record { least = omega arith; most = omega arith }
+      go false false true a = record { least = omega arith; most = omega arith }
+      go false false false true = record { least = omega arith; most = omega arith }
+      go false false false false = record { least = omega arith; most = omega arith }
 
   pub scan-decodable : Decodable noValue never (scanSaid (scanAnswer edition starts c count))
   unfolding scanSaid scanAnswer
@@ -195,7 +195,7 @@ module _ (edition : ℕ) (starts : List ℕ) (c : Columns) (count : ℕ) (small 
           let p = scanned-e _ _ _ w .0 in
           let f = faulted-exactly edition starts c count p e k .0 w in
           let x : Within 1 4 k = rw (f .why) (its-cause _) in
-          ((x, omega (arith, f .inside, readable-most (history c count) (scan-passed edition starts c count p .readable))), tt)
+          ((x, omega (arith, f .inside, readable-most (history c count) (scan-readable edition starts c count p))), tt)
       go (Scanning.Refused r) w = event-decodable small (scan-refusal edition starts c count r w) noValue (omega arith) (omega arith)
 
 -- ---- the checker
@@ -290,7 +290,7 @@ module _ (edition : ℕ) (starts : List ℕ) (c : Columns) (count : ℕ) (small 
   count-decodable n f = go (historyAnswer edition starts c count) refl
     where
       go : (y : Checked) → historyAnswer edition starts c count ≡ y → Decodable oneValue never (countSaid (counted y n))
-      go Checked.Readable w = (f (history-readable edition starts c count w .1), refl)
+      go Checked.Readable w = (f (call-readable edition starts c count w), refl)
       go (Checked.Refused r) w = event-decodable small (call-number edition starts c count r w) oneValue (omega arith) (omega arith)
 
   pub transactions-decodable : Decodable oneValue never (countSaid (transactionsAnswer edition starts c count))
@@ -322,5 +322,5 @@ module _ (edition : ℕ) (starts : List ℕ) (c : Columns) (count : ℕ) (small 
   tally-decodable = go (historyAnswer edition starts c count) refl
     where
       go : (y : Checked) → historyAnswer edition starts c count ≡ y → Decodable fourValues never (tallySaid (tallied y (tally (history c count))))
-      go Checked.Readable w = let q = tally-quarters (history-readable edition starts c count w .1) in (q, four-back _ _ _ _ q)
+      go Checked.Readable w = let q = tally-quarters (call-readable edition starts c count w) in (q, four-back _ _ _ _ q)
       go (Checked.Refused r) w = event-decodable small (call-number edition starts c count r w) fourValues (omega arith) (omega arith)

@@ -18,7 +18,7 @@ use Rattle.lists.specs.Lists.{_and_, _or_, all}
 use Rattle.events.specs.Questions.{Question, refusal, Past, past, eventQuestions}
 use Rattle.records.specs.Bytes.{pick}
 use Rattle.records.specs.Records.{recordAt, bodyOf}
-use Rattle.steps.specs.Steps.{eventIn, recordQuestions, unless, stepOn, isStart, startQuestions, startRefusal, startOn, recordOn, recordStep}
+use Rattle.steps.specs.Steps.{eventIn, recordQuestions, unless, eventOn, isStart, startQuestions, startRefusal, startOn, recordOn, recordStep}
 use Rattle.lists.proofs.ListLaws.{and-l, and-r, or-cases}
 use Rattle.events.proofs.QuestionLaws.{asked, head-yes}
 use Rattle.records.proofs.RecordLaws.{whole-in}
@@ -64,9 +64,9 @@ step-number edition s at next p q x = go (recordAt s at) x
     its qs a none w y other k = absurd (other q k)
     its qs a (some n) w y other k = let e : n ≡ q = cc in of-file q (ap ofFile (sym e) ∙ numbered-by ofFile qs a n w)
 
-    whole : (r : Record) (b : Bool) → pick b (startOn (p .count) next s r) (stepOn p s (Found.Whole r)) ≡ Step.Refused q → HistoryNumber 13 q
+    whole : (r : Record) (b : Bool) → pick b (startOn (p .count) next s r) (eventOn edition p s r) ≡ Step.Refused q → HistoryNumber 13 q
     whole r true k = its _ refl (startRefusal (p .count) next s r) refl _ (λ n w. let z : _≡_ {A = ℕ} 0 1 = cc in omega arith) k
-    whole r false k = its _ refl (refusal (recordQuestions p r (eventIn p s r))) refl _ (λ n w. let z : _≡_ {A = ℕ} 0 1 = cc in omega arith) k
+    whole r false k = its _ refl (refusal (recordQuestions edition p r (eventIn p s r))) refl _ (λ n w. let z : _≡_ {A = ℕ} 0 1 = cc in omega arith) k
 
     go : (f : Found) → recordOn edition next p s f ≡ Step.Refused q → HistoryNumber 13 q
     go (Found.Whole r) k = whole r (isStart edition (r .kind)) k

@@ -23,7 +23,7 @@ use Rattle.events.specs.Questions.{Question, refusal, Past, past, eventQuestion
 use Rattle.log.specs.Answer.{refusedWith, eventsAnswer, historyAnswer}
 use Rattle.lists.proofs.ListLaws.{and-l, and-r, lowest-some, Lowest}
 use Rattle.events.proofs.QuestionLaws.{asked, fit}
-use Rattle.log.proofs.StartLaws.{fine}
+use Rattle.log.proofs.StartLaws.{history-readable}
 use Rattle.log.specs.Calls.{askedOf, thenChecked}
 use Rattle.codes.specs.Codes.{Within}
 

@@ -20,13 +20,13 @@ decodable : (s : tie.Start) → Decodable noValue ofMarking (said (verdictAnswer
 decodable s = check-decodable (s .args .edition) (now (s .args .starts)) (lent s) (s .args .count) (omega (arith, s .fits .count .fits)) (now (s .args .file))
 
 check-code-requires : tie.Need-check-code-requires
-check-code-requires c κs = answer-known said noValue ofMarking (c .check-marking .ensures) (decodable (c .before .before .before .before .before .before))
+check-code-requires c κs = answer-known said noValue ofMarking (c .check-marking .ensures) (decodable (c .before .before .before .before .before .before .before))
 
 returns : tie.Need-returns
 unfolding checkCall
 returns c =
     let g = c .before .check-marking .ensures in
-    let d = decodable (c .before .before .before .before .before .before .before) in
+    let d = decodable (c .before .before .before .before .before .before .before .before) in
     (call-coded said noValue ofMarking g d (c .check-code .ensures), call-decoded said noValue ofMarking g d (c .check-code .ensures))
 
 pub sendoshi-check-spec : {M : Type 1} → statement M

@@ -20,7 +20,7 @@ lent s = columns (now (s .args .kinds)) (now (s .args .transactions)) (now (s .a
 
 -- the call, from where the answer is given
 abbrev entered : tie.After-find-marking → tie.Start
-entered c = c .before .before .before .before .before .before .before
+entered c = c .before .before .before .before .before .before .before .before
 
 abbrev saidBy : Given → Said
 saidBy a = said (a .result)

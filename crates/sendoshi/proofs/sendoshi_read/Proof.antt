@@ -18,18 +18,18 @@ abbrev lent : tie.Start → Columns
 lent s = columns (now (s .args .kinds)) (now (s .args .transactions)) (now (s .args .registers)) (now (s .args .values)) (now (s .args .threads))
 
 -- where the columns are known, and where the answer is given
-abbrev known : tie.After-slice-known4 → tie.Start
-known c = c .before .before .before .before .before
+abbrev known : tie.After-slice-known5 → tie.Start
+known c = c .before .before .before .before .before .before
 
 abbrev entered : tie.After-read-history → tie.Start
-entered c = known (c .before .before .before .before .before)
+entered c = known (c .before .before .before .before .before .before)
 
 -- where three columns have come back, and where the start values are handed over
 abbrev returned : tie.After-registers → tie.After-read-history
 returned c = c .before .before .before .before .before
 
 abbrev handed-over : tie.After-hand-over → tie.After-read-history
-handed-over c = returned (c .before .before .before .before .before)
+handed-over c = returned (c .before .before .before .before .before .before .before)
 
 abbrev saidBy : ReadAnswer → Said
 saidBy a = said (a .result)
@@ -52,4 +52,4 @@ pub sendoshi-read-spec : {M : Type 1} → statement M
 sendoshi-read-spec =
     tie.close
     (tie.spec (λ c κs. search needs) (λ c κs. search needs) read-code-requires (λ c. search needs)
-    (λ c. search needs) (λ c. search needs) (λ c. search needs) returns)
+    (λ c. search needs) (λ c. search needs) (λ c. search needs) (λ c. search needs) returns)

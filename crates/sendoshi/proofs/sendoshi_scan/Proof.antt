@@ -20,13 +20,13 @@ decodable : (s : tie.Start) → Decodable noValue never (said (scanAnswer (s .ar
 decodable s = scan-decodable (s .args .edition) (now (s .args .starts)) (lent s) (s .args .count) (omega (arith, s .fits .count .fits))
 
 scan-code-requires : tie.Need-scan-code-requires
-scan-code-requires c κs = answer-known said noValue never (c .scan-history .ensures) (decodable (c .before .before .before .before .before))
+scan-code-requires c κs = answer-known said noValue never (c .scan-history .ensures) (decodable (c .before .before .before .before .before .before))
 
 returns : tie.Need-returns
 unfolding scanCall
 returns c =
     let g = c .before .scan-history .ensures in
-    let d = decodable (c .before .before .before .before .before .before) in
+    let d = decodable (c .before .before .before .before .before .before .before) in
     (call-coded said noValue never g d (c .scan-code .ensures), call-decoded said noValue never g d (c .scan-code .ensures))
 
 pub sendoshi-scan-spec : {M : Type 1} → statement M

@@ -20,13 +20,13 @@ decodable : (s : tie.Start) → Decodable oneValue never (countSaid (storeReadsA
 decodable s = store-reads-decodable (s .args .edition) (now (s .args .starts)) (lent s) (s .args .count) (omega (arith, s .fits .count .fits))
 
 count-code-requires : tie.Need-count-code-requires
-count-code-requires c κs = answer-known countSaid oneValue never (c .count-store-reads .ensures) (decodable (c .before .before .before .before .before))
+count-code-requires c κs = answer-known countSaid oneValue never (c .count-store-reads .ensures) (decodable (c .before .before .before .before .before .before))
 
 returns : tie.Need-returns
 unfolding storeReadsCall
 returns c =
     let g = c .before .count-store-reads .ensures in
-    let d = decodable (c .before .before .before .before .before .before) in
+    let d = decodable (c .before .before .before .before .before .before .before) in
     (call-coded countSaid oneValue never g d (c .count-code .ensures), call-decoded countSaid oneValue never g d (c .count-code .ensures))
 
 pub sendoshi-store-reads-spec : {M : Type 1} → statement M

@@ -19,8 +19,8 @@ abbrev lent : tie.Start → Columns
 lent s = columns (now (s .args .kinds)) (now (s .args .transactions)) (now (s .args .registers)) (now (s .args .values)) (now (s .args .threads))
 
 -- where the columns and the file are known, and where the answer is given
-abbrev read-only : tie.After-shared-slice-known5 → tie.Start
-read-only c = c .before .before .before .before .before
+abbrev read-only : tie.After-shared-slice-known6 → tie.Start
+read-only c = c .before .before .before .before .before .before
 
 abbrev entered : tie.After-straighten → tie.Start
 entered c = read-only (c .before .before .before .before .before)

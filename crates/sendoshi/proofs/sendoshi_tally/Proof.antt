@@ -20,13 +20,13 @@ decodable : (s : tie.Start) → Decodable fourValues never (tallySaid (tallyAnsw
 decodable s = tally-decodable (s .args .edition) (now (s .args .starts)) (lent s) (s .args .count) (omega (arith, s .fits .count .fits))
 
 tally-code-requires : tie.Need-tally-code-requires
-tally-code-requires c κs = answer-known tallySaid fourValues never (c .tally-transactions .ensures) (decodable (c .before .before .before .before .before))
+tally-code-requires c κs = answer-known tallySaid fourValues never (c .tally-transactions .ensures) (decodable (c .before .before .before .before .before .before))
 
 returns : tie.Need-returns
 unfolding tallyCall
 returns c =
     let g = c .before .tally-transactions .ensures in
-    let d = decodable (c .before .before .before .before .before .before) in
+    let d = decodable (c .before .before .before .before .before .before .before) in
     (call-coded tallySaid fourValues never g d (c .tally-code .ensures), call-decoded tallySaid fourValues never g d (c .tally-code .ensures))
 
 pub sendoshi-tally-spec : {M : Type 1} → statement M

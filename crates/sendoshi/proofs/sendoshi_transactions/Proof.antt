@@ -20,13 +20,13 @@ decodable : (s : tie.Start) → Decodable oneValue never (countSaid (transaction
 decodable s = transactions-decodable (s .args .edition) (now (s .args .starts)) (lent s) (s .args .count) (omega (arith, s .fits .count .fits))
 
 count-code-requires : tie.Need-count-code-requires
-count-code-requires c κs = answer-known countSaid oneValue never (c .count-transactions .ensures) (decodable (c .before .before .before .before .before))
+count-code-requires c κs = answer-known countSaid oneValue never (c .count-transactions .ensures) (decodable (c .before .before .before .before .before .before))
 
 returns : tie.Need-returns
 unfolding transactionsCall
 returns c =
     let g = c .before .count-transactions .ensures in
-    let d = decodable (c .before .before .before .before .before .before) in
+    let d = decodable (c .before .before .before .before .before .before .before) in
     (call-coded countSaid oneValue never g d (c .count-code .ensures), call-decoded countSaid oneValue never g d (c .count-code .ensures))
 
 pub sendoshi-transactions-spec : {M : Type 1} → statement M
