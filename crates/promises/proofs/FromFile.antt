@@ -14,7 +14,7 @@ use Rattle.events.specs.Said.{done, nothing}
 use Rattle.log.specs.Starts.{startOf}
 use Rattle.events.specs.Questions.{readable}
 use Rattle.log.proofs.ColumnLaws.{hold-i}
-use Rattle.log.proofs.StartLaws.{fine, history-readable}
+use Rattle.log.proofs.StartLaws.{fine, history-readable-in}
 use Rattle.opacity.specs.Justification.{Place, Justified}
 use Rattle.opacity.specs.Lowest.{LowestJustified}
 use Rattle.opacity.specs.Marking.{marked, markingBytes}
@@ -55,7 +55,7 @@ module _ (file : List ℕ) (c : Columns) (count prefix : ℕ) (output : List ℕ
   no-question : Passed edition starts filled count prefix (length output)
   no-question =
       let a = read-passes file c count (d .bytes) (d .read) .0 in
-      let r = history-readable edition starts filled count a in
+      let r = history-readable-in edition starts filled count a in
       record {
         held = hold-i filled count (r .0);
         admitted = fine edition starts filled count a .admitted;

@@ -12,7 +12,7 @@ use Rattle.log.specs.Columns.{Columns, history}
 use Rattle.events.specs.Said.{done}
 use Rattle.log.specs.Starts.{startOf}
 use Rattle.events.specs.Questions.{readable}
-use Rattle.events.proofs.QuestionLaws.{readable-take}
+use Rattle.events.proofs.QuestionLaws.{readable-in, readable-take}
 use Rattle.log.proofs.StartLaws.{history-readable}
 use Rattle.opacity.specs.Explains.{Explains}
 use Rattle.opacity.specs.Justification.{Place, zeros}
@@ -73,6 +73,6 @@ pub opaque-in-words : (edition : ℕ) (starts : List ℕ) (c : Columns) (count :
     → (scanSaid (scanAnswer edition starts c count) ≡ done []) ↔ (Passed edition starts c count × AllExplained (startOf starts) (history c count))
 opaque-in-words edition starts c count =
     let a = opaque-said edition starts c count in (
-      λ x. let w = a .0 x in (w .0, all-in-words (startOf starts) (history c count) (w .0 .readable) .0 (w .1)),
-      λ w. a .1 (w .0, all-in-words (startOf starts) (history c count) (w .0 .readable) .1 (w .1)),
+      λ x. let w = a .0 x in (w .0, all-in-words (startOf starts) (history c count) (readable-in edition (history c count) (w .0 .readable)) .0 (w .1)),
+      λ w. a .1 (w .0, all-in-words (startOf starts) (history c count) (readable-in edition (history c count) (w .0 .readable)) .1 (w .1)),
     )
