@@ -10,9 +10,11 @@ use mathlib.Core.Bool.{true}
 use mathlib.Core.List.{List}
 use lib.ListN.{length}
 use Rattle.events.specs.declared.event.Event.{Event}
-use Rattle.records.specs.Bytes.{Bytes, u16At}
+use Rattle.records.specs.Bytes.{Bytes}
+use Rattle.opacity.specs.Justification.{zeros}
 use Rattle.events.specs.Said.{refuse}
 use Rattle.log.specs.Starts.{startOf}
+use Rattle.events.proofs.QuestionLaws.{readable-in}
 use Rattle.log.proofs.StartLaws.{no-starts}
 use Rattle.events.specs.Events.{begins}
 use Rattle.events.specs.Questions.{readable as isReadable}
@@ -33,15 +35,14 @@ use Rattle.marking_reader.proofs.ContentLaws.{content-readable}
 use Rattle.marking.specs.declared.check.Ruling.{Ruling}
 use Rattle.marking.specs.Answer.{ruling}
 use Rattle.reader.specs.Reading.{Log, Outcome, readable, refused, historyOf}
-use Rattle.reader.specs.FirstEdition.{FirstOutcome, events, refuses, firstHistory}
-use Rattle.reader.proofs.FirstEdition.{either, same-history}
+use Rattle.reader.proofs.FirstEdition.{first-edition as reads-first}
 use Rattle.writer.proofs.WriteBack.{write-back}
 use Rattle.scan.specs.declared.Scanning.{Scanning}
 use Rattle.scan.specs.Answer.{sizeRefusal, decided}
 use Rattle.scan.proofs.AnswerLaws.{decided-refused, decided-scanned, scanned-e, refused-31, passes-31, passes-31-e}
 use Rattle.capture.specs.declared.Report.{Report}
 use Rattle.capture.specs.Words.{Justifying, Breaks}
-use Rattle.capture.specs.Report.{countsOf, markingOf, opacityOf, judged, saidOf, reportOn, firstSaid, firstReport}
+use Rattle.capture.specs.Report.{countsOf, markingOf, opacityOf, judged, saidOf, reportOn}
 
 -- A history is refused exactly where one of its questions says no, with that question's byte,
 pub history-refused : (s marking : List ℕ) (q byte : ℕ) → (reportOn s marking ≡ Report.Refused (refuse q byte)) ↔ (historyOf s ≡ refused q byte)
@@ -71,7 +72,7 @@ module _ (s : List ℕ) (by : Bytes s) (l : Log) (file : historyOf s ≡ readabl
   tally-adds-up = adds-up h
 
   is-readable : isReadable h ≡ true
-  is-readable = write-back s l by file .events
+  is-readable = readable-in (l .edition) h (write-back s l by file .events)
 
   -- each of them is counted there in exactly one of the four,
   pub tally-counts-once : (t : ℕ) → t < countsOf h .transactions
@@ -163,12 +164,11 @@ module _ (s : List ℕ) (by : Bytes s) (l : Log) (file : historyOf s ≡ readabl
           ap (ruling start h) (b .holds)
           ∙ ap Ruling.Ruled (broken-iff-first start h is-readable (b .marked) r e t .1 (b .at, b .first, b .event, b .transaction))
 
--- The report on a history file of edition 1, or on any other that is not of edition 2, is the one that it was before there were start
--- values.
-pub first-edition : (s marking : List ℕ) → (u16At s 4 ≡ 2 → ⊥) → reportOn s marking ≡ firstReport s marking
-unfolding reportOn firstReport
-first-edition s marking n = ap (λ (x : Outcome). saidOf x marking) (same-history s n) ∙ go (firstHistory s)
-  where
-    go : (o : FirstOutcome) → saidOf (either o) marking ≡ firstSaid o marking
-    go (events h) = ap (λ (f : ℕ → ℕ). judged f h marking) no-starts
-    go (refuses q byte) = refl
+-- A history file of edition 1 is reported on with every register starting at 0.
+pub first-edition : (s marking : List ℕ) (l : Log) → historyOf s ≡ readable l → (l .edition ≡ 2 → ⊥)
+    → reportOn s marking ≡ judged zeros (l .events) marking
+unfolding reportOn
+first-edition s marking l file n =
+    ap (λ (x : Outcome). saidOf x marking) file
+    ∙ (ap (λ (m : Log). judged (startOf (m .starts)) (l .events) marking) (reads-first s l file n .0)
+    ∙ ap (λ (f : ℕ → ℕ). judged f (l .events) marking) no-starts)

@@ -7,12 +7,10 @@ use lib.ListN.{length}
 use Rattle.events.specs.declared.event.Event.{Event}
 use Rattle.events.specs.Said.{refuse}
 use Rattle.log.specs.Starts.{startOf}
-use Rattle.opacity.specs.Justification.{zeros}
 use Rattle.opacity.specs.Counts.{counts}
 use Rattle.opacity.specs.Scan.{scan}
 use Rattle.counts.specs.Tally.{tally}
 use Rattle.reader.specs.Reading.{Outcome, readable, refused, historyOf}
-use Rattle.reader.specs.FirstEdition.{FirstOutcome, events, refuses, firstHistory}
 use Rattle.scan.specs.declared.Scanning.{Scanning}
 use Rattle.scan.specs.Answer.{sizeRefusal, decided}
 use Rattle.marking_reader.specs.File.{known, fileRead}
@@ -43,11 +41,3 @@ saidOf (refused q byte) marking = Report.Refused (refuse q byte)
 
 unfoldable pub reportOn : List ℕ → List ℕ → Report
 reportOn history marking = saidOf (historyOf history) marking
-
--- the report as it was before there were start values, on a history of edition 1: every register starts at 0
-abbrev pub firstSaid : FirstOutcome → List ℕ → Report
-firstSaid (events h) marking = judged zeros h marking
-firstSaid (refuses q byte) marking = Report.Refused (refuse q byte)
-
-unfoldable pub firstReport : List ℕ → List ℕ → Report
-firstReport history marking = firstSaid (firstHistory history) marking
