@@ -3,11 +3,14 @@
 use mathlib.Core.Path.{_≡_, sym, ap, ap₂, _∙_}
 use mathlib.Core.Logic.{_↔_}
 use Prim.Native.Nat.{ℕ}
+use mathlib.Core.Bool.{true}
 use mathlib.Core.List.{List, []}
 use lib.ListN.{length}
 use Rattle.log.specs.declared.admit.Checked.{Checked}
 use Rattle.events.specs.declared.refusal.Refusal.{Refusal}
 use Rattle.events.specs.Said.{done, faulted, atEvent, refuse}
+use Rattle.events.specs.Questions.{readable}
+use Rattle.events.proofs.QuestionLaws.{readable-in}
 use Rattle.log.specs.Columns.{Columns, history, hold}
 use Rattle.log.specs.Starts.{startOf, noStarts}
 use Rattle.log.specs.Answer.{historyAnswer}
@@ -38,11 +41,15 @@ module _ (edition : ℕ) (starts : List ℕ) (c : Columns) (count : ℕ) where
   unfolding scanAnswer
   scanned-exactly x s = (λ w. scanned-e _ _ s w .1, λ e. sym (decided-scanned (scan (startOf starts) (history c count)) x) ∙ ap Scanning.Scanned e)
 
+  -- Where no question refuses, the history is readable.
+  readable-then : Passes edition starts c count → readable (history c count) ≡ true
+  readable-then x = readable-in edition (history c count) (passed edition starts c count x .readable)
+
   -- The answer is opaque exactly where every prefix has a justification, each with the start values of the whole.
   pub opaque-exactly : Passes edition starts c count → (scanAnswer edition starts c count ≡ Scanning.Scanned Scanned.Opaque) ↔ AllJustified (startOf starts) (history c count)
   opaque-exactly x =
       let s = scanned-exactly x Scanned.Opaque in
-      let o = opaque-iff (startOf starts) (history c count) (passed edition starts c count x .readable) in
+      let o = opaque-iff (startOf starts) (history c count) (readable-then x) in
       (λ w. o .0 (s .0 w), λ f. s .1 (o .1 f))
 
   -- The answer is faulted at e exactly where the prefix that ends with e has no justification and every shorter one has; the cause is
@@ -50,14 +57,14 @@ module _ (edition : ℕ) (starts : List ℕ) (c : Columns) (count : ℕ) where
   pub faulted-exactly : Passes edition starts c count → (e w : ℕ) → (scanAnswer edition starts c count ≡ Scanning.Scanned (Scanned.Faulted e w)) ↔ FaultsAt (startOf starts) (history c count) e w
   faulted-exactly x e w =
       let s = scanned-exactly x (Scanned.Faulted e w) in
-      let f = faulted-iff (startOf starts) (history c count) (passed edition starts c count x .readable) e w in
+      let f = faulted-iff (startOf starts) (history c count) (readable-then x) e w in
       (λ y. f .0 (s .0 y), λ g. s .1 (f .1 g))
 
   -- Opaque in the words of a machine that runs the transactions one at a time.
   pub opaque-serial : Passes edition starts c count → (scanAnswer edition starts c count ≡ Scanning.Scanned Scanned.Opaque) ↔ AllSerial (startOf starts) (history c count)
   opaque-serial x =
       let s = scanned-exactly x Scanned.Opaque in
-      let o = opaque-iff-serial (startOf starts) (history c count) (passed edition starts c count x .readable) in
+      let o = opaque-iff-serial (startOf starts) (history c count) (readable-then x) in
       (λ w. o .0 (s .0 w), λ f. s .1 (o .1 f))
 
   -- What the scan says, for every call: opaque exactly where no question says no and every prefix has a justification,
@@ -91,12 +98,12 @@ module _ (edition : ℕ) (starts : List ℕ) (c : Columns) (count : ℕ) where
     λ x. ap said (refused-exactly (refuse q e) .1 x),
   )
 
-  -- Cause 4 never comes: a begin, a call and a returned write leave a justification.
+  -- Cause 4 never comes: a begin, a call, a returned write and a lone write leave a justification.
   pub no-cause-four : (e : ℕ) → scanAnswer edition starts c count ≡ Scanning.Scanned (Scanned.Faulted e 4) → ⊥
   unfolding scanAnswer
   no-cause-four e x =
       let s = scanned-e _ _ _ x in
-      cause-never-four (startOf starts) (history c count) (passed edition starts c count (s .0) .readable) e (s .1)
+      cause-never-four (startOf starts) (history c count) (readable-then (s .0)) e (s .1)
 
 -- What stands in the columns past the count makes no difference: columns that hold the same events below the count give the same answer.
 pub past-count : (edition : ℕ) (starts : List ℕ) (c d : Columns) (count : ℕ) → hold c count ≡ hold d count → history c count ≡ history d count

@@ -13,6 +13,7 @@ ghost use Rattle.scan.specs.Answer.{scanAnswer};
 ghost use Rattle.scan.specs.Logs.{scanOf, scanAfter};
 use events::event::Event;
 use events::event::is_abort;
+use events::event::is_begin;
 use events::event::is_commit;
 use events::event::is_read;
 use events::refusal::Refusal;
@@ -34,12 +35,15 @@ pub enum Scanning {
     Refused(Refusal),
 }
 
-// The cause: 1 read returned, 2 committed, 3 aborted, 4 any other.
+// The cause: 1 read returned or lone read, 2 committed, 3 aborted, 4 any other, a lone write among them.
 fn cause_of(e: Event) -> u32
     ensures { λ r. ⌜ r ≡ cause e ⌝ }
 {
     if is_read(e) {
         return 1;
+    }
+    if is_begin(e) {
+        return 4;
     }
     if is_commit(e) {
         return 2;

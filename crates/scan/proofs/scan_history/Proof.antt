@@ -15,8 +15,8 @@ use Rattle.scan.proofs.scan_history.Statement.{statement}
 use Rattle.scan.proofs.scan_history.Tie as tie
 
 -- the function's entry, and the columns given
-abbrev entered : tie.After-shared-slice-known4 → tie.Start
-entered a = a .before .before .before .before
+abbrev entered : tie.After-shared-slice-known5 → tie.Start
+entered a = a .before .before .before .before .before
 
 abbrev given : tie.Start → Columns
 given s = columns (s .args .kinds .now) (s .args .transactions .now) (s .args .registers .now) (s .args .values .now) (s .args .threads .now)
