@@ -1,5 +1,4 @@
 -- What the proofs of several functions use.
-pub mod AnswerLaws
 pub mod TallyLaws
 pub mod Theorems
 pub mod Ends

@@ -14,7 +14,7 @@ use borrow.Author.Tests.{eqb-true, eq-eqb, eqb-false, lt-ltb, le-ltb, le-leb}
 use Rattle.lists.specs.Lists.{_and_, _or_, _implies_, any, all, keep, push, range}
 use Rattle.lists.proofs.ListLaws.{and-i, any-append, all-append, or-false, keep-append}
 use Rattle.events.specs.declared.event.Event.{Event}
-use Rattle.events.specs.Events.{eventAt, noEvent, isRead}
+use Rattle.events.specs.Events.{eventAt, noEvent, answersRead, isRead}
 use Rattle.opacity.specs.Transactions.{isStoreRead}
 use Rattle.opacity.specs.Marking.{Point}
 use Rattle.marking_reader.specs.File.{hasPoint}
@@ -122,7 +122,7 @@ gaps-low gaps b (suc k) f =
 
 -- past the end of a history nothing is a store read
 pub beyond-history : (h : List Event) (i : ℕ) → length h ≤ i → isStoreRead h i ≡ false
-unfolding isStoreRead isRead _and_
+unfolding isStoreRead isRead answersRead _or_ _and_
 beyond-history h i l = let q : eventAt h i ≡ noEvent = List·getD-eq-default h noEvent l in rw q
 
 -- ---- whether a store read has one

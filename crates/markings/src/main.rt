@@ -278,7 +278,17 @@ fn point_refusals() {
 fn length_refusal() {
     let starts = [0u32; 32];
     let long = [0u8; 32769];
-    let answer = check_marking(1, &starts, &[16u16], &[0u16], &[0u16], &[0u32], &[0u16], 1, &long);
+    let answer = check_marking(
+        1,
+        &starts,
+        &[16u16],
+        &[0u16],
+        &[0u16],
+        &[0u32],
+        &[0u16],
+        1,
+        &long,
+    );
     show(b"1, a byte too many", answer);
 }
 

@@ -18,6 +18,7 @@ use Rattle.events.specs.Questions.{readable}
 use Rattle.log.specs.Answer.{historyAnswer}
 use Rattle.log.proofs.ColumnLaws.{hold-e, hold-i}
 use Rattle.log.proofs.StartLaws.{fine, fine-answer}
+use Rattle.events.proofs.QuestionLaws.{readable-in}
 use Rattle.log.proofs.AnswerLaws.{columns-readable, readable-columns}
 use Rattle.opacity.specs.declared.verdict.Scanned.{Scanned}
 use Rattle.opacity.specs.Scan.{scan}
@@ -90,6 +91,9 @@ module _ (edition : ℕ) (starts : List ℕ) (c : Columns) (count : ℕ) where
       let f = fine edition starts c count (a .0) in
       let b = columns-readable edition c count (f .columns) in
       record { held = hold-i c count (b .0); admitted = f .admitted; readable = b .1; few = passes-31-e (history c count) count (a .1) }
+
+  pub passed-readable : scanRefusal edition starts c count ≡ Checked.Readable → readable (history c count) ≡ true
+  passed-readable x = readable-in edition (history c count) (passed x .readable)
 
   pub passes : Passed edition starts c count → scanRefusal edition starts c count ≡ Checked.Readable
   unfolding scanRefusal

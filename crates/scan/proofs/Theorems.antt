@@ -23,7 +23,7 @@ use Rattle.opacity.proofs.Theorems.{opaque-iff, faulted-iff, opaque-iff-serial,
 use Rattle.log.specs.Calls.{thenChecked}
 use Rattle.scan.specs.declared.Scanning.{Scanning}
 use Rattle.scan.specs.Answer.{said, Passes, Passed, sizeRefusal, scanRefusal, decided, scanAnswer, firstEditionAnswer}
-use Rattle.scan.proofs.AnswerLaws.{said-scanned, said-refused, passes, decided-refused, decided-scanned, scanned-e, refused-e, passed}
+use Rattle.scan.proofs.AnswerLaws.{said-scanned, said-refused, passes, decided-refused, decided-scanned, scanned-e, refused-e, passed, passed-readable}
 
 -- a call: edition, start values, columns and count
 module _ (edition : ℕ) (starts : List ℕ) (c : Columns) (count : ℕ) where
@@ -49,7 +49,7 @@ module _ (edition : ℕ) (starts : List ℕ) (c : Columns) (count : ℕ) where
   pub opaque-exactly : Passes edition starts c count → (scanAnswer edition starts c count ≡ Scanning.Scanned Scanned.Opaque) ↔ AllJustified (startOf starts) (history c count)
   opaque-exactly x =
       let s = scanned-exactly x Scanned.Opaque in
-      let o = opaque-iff (startOf starts) (history c count) (readable-then x) in
+      let o = opaque-iff (startOf starts) (history c count) (passed-readable edition starts c count x) in
       (λ w. o .0 (s .0 w), λ f. s .1 (o .1 f))
 
   -- The answer is faulted at e exactly where the prefix that ends with e has no justification and every shorter one has; the cause is
@@ -57,14 +57,14 @@ module _ (edition : ℕ) (starts : List ℕ) (c : Columns) (count : ℕ) where
   pub faulted-exactly : Passes edition starts c count → (e w : ℕ) → (scanAnswer edition starts c count ≡ Scanning.Scanned (Scanned.Faulted e w)) ↔ FaultsAt (startOf starts) (history c count) e w
   faulted-exactly x e w =
       let s = scanned-exactly x (Scanned.Faulted e w) in
-      let f = faulted-iff (startOf starts) (history c count) (readable-then x) e w in
+      let f = faulted-iff (startOf starts) (history c count) (passed-readable edition starts c count x) e w in
       (λ y. f .0 (s .0 y), λ g. s .1 (f .1 g))
 
   -- Opaque in the words of a machine that runs the transactions one at a time.
   pub opaque-serial : Passes edition starts c count → (scanAnswer edition starts c count ≡ Scanning.Scanned Scanned.Opaque) ↔ AllSerial (startOf starts) (history c count)
   opaque-serial x =
       let s = scanned-exactly x Scanned.Opaque in
-      let o = opaque-iff-serial (startOf starts) (history c count) (readable-then x) in
+      let o = opaque-iff-serial (startOf starts) (history c count) (passed-readable edition starts c count x) in
       (λ w. o .0 (s .0 w), λ f. s .1 (o .1 f))
 
   -- What the scan says, for every call: opaque exactly where no question says no and every prefix has a justification,
@@ -103,7 +103,7 @@ module _ (edition : ℕ) (starts : List ℕ) (c : Columns) (count : ℕ) where
   unfolding scanAnswer
   no-cause-four e x =
       let s = scanned-e _ _ _ x in
-      cause-never-four (startOf starts) (history c count) (readable-then (s .0)) e (s .1)
+      cause-never-four (startOf starts) (history c count) (passed-readable edition starts c count (s .0)) e (s .1)
 
 -- What stands in the columns past the count makes no difference: columns that hold the same events below the count give the same answer.
 pub past-count : (edition : ℕ) (starts : List ℕ) (c d : Columns) (count : ℕ) → hold c count ≡ hold d count → history c count ≡ history d count

@@ -46,30 +46,30 @@ not-asked n (q ∷ qs) a e = go (q .yes) e (not-asked n qs (and-r _ _ a))
         let s : q .number ≡ n = Option·some-injective (q .number) n k in
         clash (ap (λ (x : ℕ). eqb x n) s ∙ eqb-self n) (not-true _ (and-l _ _ a))
 
-entry-not-15 : (p : Past) (e : Event) → refusal (columnQuestions p e) ≡ some 15 → ⊥
+entry-not-15 : (edition : ℕ) (p : Past) (e : Event) → refusal (columnQuestions edition p e) ≡ some 15 → ⊥
 unfolding columnQuestions eventQuestions all _and_
-entry-not-15 p e = not-asked 15 (columnQuestions p e) refl
+entry-not-15 edition p e = not-asked 15 (columnQuestions edition p e) refl
 
 pub never-15 : (edition : ℕ) (starts : List ℕ) (c : Columns) (n e : ℕ) → historyAnswer edition starts c n ≡ Refuses (refuse 15 e) → ⊥
 unfolding historyAnswer eventsAnswer refusedAt
 never-15 edition starts c n e x = held (hold c n) (admits edition starts) x
   where
-    at-event : (i : ℕ) (o : Option ℕ) → refusedAt (history c n) i ≡ o → refusedWith i o ≡ some (Refuses (refuse 15 e)) → ⊥
+    at-event : (i : ℕ) (o : Option ℕ) → refusedAt edition (history c n) i ≡ o → refusedWith i o ≡ some (Refuses (refuse 15 e)) → ⊥
     at-event i none w k = Option·none-ne-some (Refuses (refuse 15 e)) k
     at-event i (some q) w k =
         let s : Refuses (refuse q i) ≡ Refuses (refuse 15 e) = Option·some-injective (Refuses (refuse q i)) (Refuses (refuse 15 e)) k in
         let b : refuse q i ≡ refuse 15 e = cc in
         let a : q ≡ 15 = ap (λ (r : Refusal). r .question) b in
-        entry-not-15 (past (take i (history c n))) (eventAt (history c n) i) (w ∙ ap some a)
+        entry-not-15 edition (past (take i (history c n))) (eventAt (history c n) i) (w ∙ ap some a)
 
-    events : (o : Option Checked) → lowest (λ i. refusedWith i (refusedAt (history c n) i)) (length (history c n)) ≡ o → Option·getD o Readable ≡ Refuses (refuse 15 e) → ⊥
+    events : (o : Option Checked) → lowest (λ i. refusedWith i (refusedAt edition (history c n) i)) (length (history c n)) ≡ o → Option·getD o Readable ≡ Refuses (refuse 15 e) → ⊥
     events none w k = let z : _≡_ {A = ℕ} 0 1 = cc in omega arith
     events (some y) w k =
-        let r : Lowest (λ i. refusedWith i (refusedAt (history c n) i)) (length (history c n)) y = lowest-some _ _ w in
-        at-event (r .at) (refusedAt (history c n) (r .at)) refl (r .answer ∙ ap some k)
+        let r : Lowest (λ i. refusedWith i (refusedAt edition (history c n) i)) (length (history c n)) y = lowest-some _ _ w in
+        at-event (r .at) (refusedAt edition (history c n) (r .at)) refl (r .answer ∙ ap some k)
 
-    held : (b a : Bool) → cond b (cond a (eventsAnswer (history c n)) (Refuses (refuse 3 n))) (Refuses (refuse 17 n)) ≡ Refuses (refuse 15 e) → ⊥
-    held true true k = events (lowest (λ i. refusedWith i (refusedAt (history c n) i)) (length (history c n))) refl k
+    held : (b a : Bool) → cond b (cond a (eventsAnswer edition (history c n)) (Refuses (refuse 3 n))) (Refuses (refuse 17 n)) ≡ Refuses (refuse 15 e) → ⊥
+    held true true k = events (lowest (λ i. refusedWith i (refusedAt edition (history c n) i)) (length (history c n))) refl k
     held true false k =
         let b : refuse 3 n ≡ refuse 15 e = cc in
         let z : _≡_ {A = ℕ} 3 15 = ap (λ (r : Refusal). r .question) b in

@@ -4,6 +4,5 @@ pub mod FieldLaws
 pub mod ReadBack
 pub mod WriteBack
 pub mod RoundTrip
-pub mod FirstEdition
 pub mod SaidLaws
 pub mod PutLaws

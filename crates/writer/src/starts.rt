@@ -5,8 +5,8 @@ ghost use Prim.Native.Nat.{ℕ, _+_, _≤_};
 ghost use lib.ListN.{length};
 ghost use Rattle.records.specs.Bytes.{placed};
 ghost use Rattle.writer.specs.Writing.{startRecord, startsTo};
+use crate::bodies::put_access;
 use records::fields::put_u16;
-use records::fields::put_u32;
 use records::record::Record;
 
 // How many bytes the start record of a value has.
@@ -43,8 +43,7 @@ fn put_start(out: &mut [u8], at: usize, register: u16, value: u32)
     }
     put_u16(out, at, Record::START_LENGTH);
     put_u16(out, at + 2, Record::START);
-    put_u16(out, at + Record::FRAME, register);
-    put_u32(out, at + 6, value);
+    put_access(out, at + Record::FRAME, register, value);
 }
 
 // The start records, behind the head.

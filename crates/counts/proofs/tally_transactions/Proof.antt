@@ -4,7 +4,7 @@ use mathlib.Core.Path.{_≡_, refl, _∙_}
 use borrow.Author.Needs.{needs}
 use Rattle.log.specs.Columns.{Columns, columns}
 use Rattle.counts.specs.Answer.{tallyOf, tallyAnswer}
-use Rattle.counts.proofs.AnswerLaws.{let-in, answered}
+use Rattle.log.proofs.DoorLaws.{entered, behind}
 use Rattle.counts.proofs.tally_transactions.Statement.{statement}
 use Rattle.counts.proofs.tally_transactions.Tie as tie
 
@@ -13,42 +13,42 @@ abbrev given : tie.Start → Columns
 given s = columns (s .args .kinds .now) (s .args .transactions .now) (s .args .registers .now) (s .args .values .now) (s .args .threads .now)
 
 abbrev tested : tie.After-admit → tie.Then1
-tested a = a .before .before .before
+tested a = a .before .before
 
 abbrev left : tie.After-admit2 → tie.Else1
-left a = a .before .before .before
+left a = a .before .before
 
 -- where the count is few or more, and where columns of so many events have been taken in
 abbrev few : tie.After-admit → tie.Start
-few a = tested a .before .before .before .before .before
+few a = tested a .before .before .before .before .before .before
 
 abbrev many : tie.After-admit2 → tie.Start
-many a = left a .before .before .before .before .before
+many a = left a .before .before .before .before .before .before
 
 tally-rows-requires : tie.Need-tally-rows-requires
 tally-rows-requires c κs =
     let a = c .before .before in
-    let-in _ (given (few a)) (few a .args .count) (a .admit .result) _ _ (a .admit .ensures .0) (a .admit .ensures .1) (λ m. omega (arith, a .before .before .before .if1 .taken))
+    entered _ _ (given (few a)) (few a .args .count) (a .admit .result) _ _ (a .admit .ensures .0) (a .admit .ensures .1) (λ m. omega (arith, tested a .if1 .taken))
 
 returns : tie.Need-returns
 unfolding tallyAnswer
 returns c =
     let a = c .before .before .before in
     c .tally-rows .ensures
-    ∙ answered _ (given (few a)) (few a .args .count) (a .admit .result) _ _ (a .admit .ensures .0) (a .admit .ensures .1)
-    (λ m. omega (arith, a .before .before .before .if1 .taken)) tallyOf (λ r g h. refl)
+    ∙ behind _ _ (given (few a)) (few a .args .count) (a .admit .result) _ _ (a .admit .ensures .0) (a .admit .ensures .1)
+    (λ m. omega (arith, tested a .if1 .taken)) tallyOf (λ r g h. refl)
 
 tally-rows-requires-2 : tie.Need-tally-rows-requires-2
 tally-rows-requires-2 c κs =
     let a = c .before .before in
-    let-in _ (given (many a)) (many a .args .count) (a .admit2 .result) _ _ (a .admit2 .ensures .0) (a .admit2 .ensures .1) (λ m. m)
+    entered _ _ (given (many a)) (many a .args .count) (a .admit2 .result) _ _ (a .admit2 .ensures .0) (a .admit2 .ensures .1) (λ m. m)
 
 returns-2 : tie.Need-returns-2
 unfolding tallyAnswer
 returns-2 c =
     let a = c .before .before .before in
     c .tally-rows2 .ensures
-    ∙ answered _ (given (many a)) (many a .args .count) (a .admit2 .result) _ _ (a .admit2 .ensures .0) (a .admit2 .ensures .1)
+    ∙ behind _ _ (given (many a)) (many a .args .count) (a .admit2 .result) _ _ (a .admit2 .ensures .0) (a .admit2 .ensures .1)
     (λ m. m) tallyOf (λ r g h. refl)
 
 pub tally-transactions-spec : {M : Type 1} → statement M

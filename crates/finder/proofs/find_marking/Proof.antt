@@ -9,7 +9,7 @@ use Rattle.finder.proofs.find_marking.Tie as tie
 
 -- the function's entry, and the columns given
 abbrev entered : tie.After-slice-known → tie.Start
-entered a = a .before .before .before .before .before
+entered a = a .before .before .before .before .before .before
 
 abbrev given : tie.Start → Columns
 given s = columns (s .args .kinds .now) (s .args .transactions .now) (s .args .registers .now) (s .args .values .now) (s .args .threads .now)

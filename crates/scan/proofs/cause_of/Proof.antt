@@ -16,6 +16,13 @@ not-begin a = sym (a .before .is-begin .ensures) ∙ a .if2 .left
 not-commit : (a : tie.Else3) → isCommit (a .before .before .before .before .before .before .args .e) ≡ false
 not-commit a = sym (a .before .is-commit .ensures) ∙ a .if3 .left
 
+-- where nothing is read, and where nothing begins either
+abbrev unread : tie.Else2 → tie.Else1
+unread a = a .before .before
+
+abbrev unbegun : tie.Else3 → tie.Else2
+unbegun a = a .before .before
+
 returns : tie.Need-returns
 unfolding cause
 returns c = rw (sym (c .before .is-read .ensures) ∙ c .if1 .taken)
@@ -27,25 +34,23 @@ returns-2 c = rw (not-read (c .before .before), sym (c .before .is-begin .ensure
 returns-3 : tie.Need-returns-3
 unfolding cause
 returns-3 c =
-    let begins = c .before .before in
-    rw (not-read (begins .before .before), not-begin begins, sym (c .before .is-commit .ensures) ∙ c .if3 .taken)
+    let b = c .before .before in
+    rw (not-read (unread b), not-begin b, sym (c .before .is-commit .ensures) ∙ c .if3 .taken)
 
 returns-4 : tie.Need-returns-4
 unfolding cause
 returns-4 c =
-    let commits = c .before .before in
-    let begins = commits .before .before in
-    rw (not-read (begins .before .before), not-begin begins, not-commit commits, sym (c .before .is-abort .ensures) ∙ c .if4 .taken)
+    let b = unbegun (c .before .before) in
+    rw (not-read (unread b), not-begin b, not-commit (c .before .before), sym (c .before .is-abort .ensures) ∙ c .if4 .taken)
 
 returns-5 : tie.Need-returns-5
 unfolding cause
 returns-5 c =
-    let commits = c .before .before in
-    let begins = commits .before .before in
-    rw (not-read (begins .before .before), not-begin begins, not-commit commits, sym (c .before .is-abort .ensures) ∙ c .if4 .left)
+    let b = unbegun (c .before .before) in
+    rw (not-read (unread b), not-begin b, not-commit (c .before .before), sym (c .before .is-abort .ensures) ∙ c .if4 .left)
 
 pub cause-of-spec : {M : Type 1} → statement M
 cause-of-spec =
     tie.close
-    (tie.spec (λ c κs. search needs) returns (λ c κs. search needs) returns-2 (λ c κs. search needs) returns-3
-    (λ c κs. search needs) returns-4 returns-5)
+    (tie.spec (λ c κs. search needs) returns (λ c κs. search needs) returns-2 (λ c κs. search needs)
+    returns-3 (λ c κs. search needs) returns-4 returns-5)

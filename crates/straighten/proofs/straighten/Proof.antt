@@ -17,9 +17,9 @@ use Rattle.straighten.proofs.straighten.Tie as tie
 abbrev given : tie.Start → Columns
 given s = columns (s .args .kinds .now) (s .args .transactions .now) (s .args .registers .now) (s .args .values .now) (s .args .threads .now)
 
--- where the columns were taken in, into 64 rows or into 2,048: the function's entry
+-- where the columns were taken in, into few rows or many: the function's entry
 abbrev lent : tie.After-slice-known2 → tie.Start
-lent c = c .before .before .before .before .before .before .before
+lent c = c .before .before .before .before .before .before .before .before
 
 abbrev entered : tie.After-admit → tie.Start
 entered a = lent (a .before .before .before)

@@ -18,8 +18,8 @@ abbrev given : tie.Start → Columns
 given s = columns (s .args .kinds .now) (s .args .transactions .now) (s .args .registers .now) (s .args .values .now) (s .args .threads .now)
 
 -- where columns of few events, and of more, have been taken in
-abbrev asked : tie.After-shared-slice-known5 → tie.Start
-asked c = c .before .before .before .before .before
+abbrev asked : tie.After-shared-slice-known6 → tie.Start
+asked c = c .before .before .before .before .before .before
 
 abbrev few : tie.After-admit → tie.Start
 few a = asked (a .before .before .before)
