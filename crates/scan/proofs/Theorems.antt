@@ -3,14 +3,11 @@
 use mathlib.Core.Path.{_≡_, sym, ap, ap₂, _∙_}
 use mathlib.Core.Logic.{_↔_}
 use Prim.Native.Nat.{ℕ}
-use mathlib.Core.Bool.{true}
 use mathlib.Core.List.{List, []}
 use lib.ListN.{length}
 use Rattle.log.specs.declared.admit.Checked.{Checked}
 use Rattle.events.specs.declared.refusal.Refusal.{Refusal}
 use Rattle.events.specs.Said.{done, faulted, atEvent, refuse}
-use Rattle.events.specs.Questions.{readable}
-use Rattle.events.proofs.QuestionLaws.{readable-in}
 use Rattle.log.specs.Columns.{Columns, history, hold}
 use Rattle.log.specs.Starts.{startOf, noStarts}
 use Rattle.log.specs.Answer.{historyAnswer}
@@ -40,10 +37,6 @@ module _ (edition : ℕ) (starts : List ℕ) (c : Columns) (count : ℕ) where
   scanned-exactly : Passes edition starts c count → (s : Scanned) → (scanAnswer edition starts c count ≡ Scanning.Scanned s) ↔ (scan (startOf starts) (history c count) ≡ s)
   unfolding scanAnswer
   scanned-exactly x s = (λ w. scanned-e _ _ s w .1, λ e. sym (decided-scanned (scan (startOf starts) (history c count)) x) ∙ ap Scanning.Scanned e)
-
-  -- Where no question refuses, the history is readable.
-  readable-then : Passes edition starts c count → readable (history c count) ≡ true
-  readable-then x = readable-in edition (history c count) (passed edition starts c count x .readable)
 
   -- The answer is opaque exactly where every prefix has a justification, each with the start values of the whole.
   pub opaque-exactly : Passes edition starts c count → (scanAnswer edition starts c count ≡ Scanning.Scanned Scanned.Opaque) ↔ AllJustified (startOf starts) (history c count)
