@@ -91,7 +91,7 @@ module _ (edition : ℕ) (starts : List ℕ) (c : Columns) (count : ℕ) where
     λ x. ap said (refused-exactly (refuse q e) .1 x),
   )
 
-  -- Cause 4 never comes: a begin, a call and a returned write leave a justification.
+  -- Cause 4 never comes: a begin, a call, a returned write and a lone write leave a justification.
   pub no-cause-four : (e : ℕ) → scanAnswer edition starts c count ≡ Scanning.Scanned (Scanned.Faulted e 4) → ⊥
   unfolding scanAnswer
   no-cause-four e x =
