@@ -50,18 +50,29 @@ compare "$room/other" "$room/report"
 # file is written. The same with start values that are read, and with 0 read in the place of one.
 straighten() { # FOLDER LINE
     rm -f "$room/straight"
-    "$room/verdict" "$here/captures/$1" "$room/straight" >"$room/printed"
-    { cat "$here/captures/$1/report.txt" && echo "$2"; } >"$room/report"
+    "$room/verdict" "$1" "$room/straight" >"$room/printed"
+    { cat "$1/report.txt" && echo "$2"; } >"$room/report"
     cmp "$room/printed" "$room/report"
 }
-straighten h0-gap-2 'straightened moved 1 event 9'
-cmp "$room/straight" "$here/captures/h0/capture.mrk"
-straighten h0 'straightened moved 0'
-cmp "$room/straight" "$here/captures/h0/capture.mrk"
-straighten h7 'straightened no'
+captures=$here/captures
+straighten "$captures/h0-gap-2" 'straightened moved 1 event 9'
+cmp "$room/straight" "$captures/h0/capture.mrk"
+straighten "$captures/h0" 'straightened moved 0'
+cmp "$room/straight" "$captures/h0/capture.mrk"
+straighten "$captures/h7" 'straightened no'
 [ ! -e "$room/straight" ] || { echo 'h7: a marking was written' && exit 1; }
-straighten starts 'straightened moved 0'
-cmp "$room/straight" "$here/captures/starts/capture.mrk"
-straighten starts-torn 'straightened no'
+straighten "$captures/starts" 'straightened moved 0'
+cmp "$room/straight" "$captures/starts/capture.mrk"
+straighten "$captures/starts-torn" 'straightened no'
 [ ! -e "$room/straight" ] || { echo 'starts-torn: a marking was written' && exit 1; }
-echo "verdict.c: $ran captures, each with the report expected, and 5 markings straightened as expected"
+
+# A lone read of a pending writer's value, behind it at gap 1. Its point, the last two bytes, at gap 0 is before that writer.
+mkdir "$room/careless"
+cp "$captures/lone-pending/capture.hst" "$room/careless/capture.hst"
+{ head -c 30 "$captures/lone-pending/capture.mrk" && printf '\000\000'; } >"$room/careless/capture.mrk"
+sed 's/^marking accepted$/marking rule D event 4 transaction 1/' "$captures/lone-pending/report.txt" >"$room/careless/report.txt"
+straighten "$room/careless" 'straightened moved 1 event 4'
+cmp "$room/straight" "$captures/lone-pending/capture.mrk"
+straighten "$captures/lone-gap-d" 'straightened no'
+[ ! -e "$room/straight" ] || { echo 'lone-gap-d: a marking was written' && exit 1; }
+echo "verdict.c: $ran captures, each with the report expected, and 7 markings straightened as expected"

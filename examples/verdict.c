@@ -17,8 +17,8 @@
 
 #include "sendoshi.h"
 
-#if SENDOSHI_VERSION != 3
-#error "written for version 3 of the interface"
+#if SENDOSHI_VERSION != 4
+#error "written for version 4 of the interface"
 #endif
 
 /* One byte more than is ever read: a longer file is then refused for its length, however long it is. */
@@ -33,10 +33,12 @@ static uint16_t kinds[SENDOSHI_MAX_EVENTS];
 static uint16_t transactions[SENDOSHI_MAX_EVENTS];
 static uint16_t registers[SENDOSHI_MAX_EVENTS];
 static uint32_t values[SENDOSHI_MAX_EVENTS];
+static uint16_t threads[SENDOSHI_MAX_EVENTS];
 
-/* The four columns, each with its length. */
+/* The five columns, each with its length. */
 #define COLUMNS \
-    kinds, SENDOSHI_MAX_EVENTS, transactions, SENDOSHI_MAX_EVENTS, registers, SENDOSHI_MAX_EVENTS, values, SENDOSHI_MAX_EVENTS
+    kinds, SENDOSHI_MAX_EVENTS, transactions, SENDOSHI_MAX_EVENTS, registers, SENDOSHI_MAX_EVENTS, values, SENDOSHI_MAX_EVENTS, \
+        threads, SENDOSHI_MAX_EVENTS
 
 /* Fills a buffer from a file and returns the number of bytes: 0 if there is no such file. */
 static size_t load(const char *folder, const char *name, uint8_t *buffer)
@@ -126,8 +128,9 @@ int main(int argc, char **argv)
     uint16_t edition = (uint16_t)sendoshi_read_edition(read);
     uint32_t count = sendoshi_read_count(read);
     printf("events %" PRIu32 " transactions %" PRIu32 " reads %" PRIu32 "\n", count,
-           sendoshi_place(sendoshi_transactions(COLUMNS, count)), sendoshi_place(sendoshi_store_reads(COLUMNS, count)));
-    print_tally(sendoshi_tally(COLUMNS, count));
+           sendoshi_place(sendoshi_transactions(edition, starts, COLUMNS, count)),
+           sendoshi_place(sendoshi_store_reads(edition, starts, COLUMNS, count)));
+    print_tally(sendoshi_tally(edition, starts, COLUMNS, count));
     print_marking(sendoshi_check(edition, starts, COLUMNS, count, marking, marking_length));
     print_opaque(sendoshi_scan(edition, starts, COLUMNS, count));
     if (argc == 3) {

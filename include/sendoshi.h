@@ -3,17 +3,23 @@
  *
  * Link with libsendoshi.a (`rt staticlib sendoshi`; x86-64 Linux). C99 and C++.
  *
- * A history is a list of events, numbered from 0, in four columns with one entry an event:
+ * A history is a list of events, numbered from 0, in five columns with one entry an event:
  *
- *   kind  event            transaction   register              value
- *   16    begin            its number    its thread            0
- *   17    read called      yes           register              0
- *   18    read returned    yes           that of its call      value read
- *   19    write called     yes           register              value written
- *   20    write returned   yes           0                     0
- *   21    commit called    yes           0                     0
- *   22    committed        yes           0                     0
- *   23    aborted          yes           0                     0
+ *   kind  event            transaction   register              value           thread
+ *   16    begin            its number    0                     0               its thread
+ *   17    read called      yes           register              0               0
+ *   18    read returned    yes           that of its call      value read      0
+ *   19    write called     yes           register              value written   0
+ *   20    write returned   yes           0                     0               0
+ *   21    commit called    yes           0                     0               0
+ *   22    committed        yes           0                     0               0
+ *   23    aborted          yes           0                     0               0
+ *   24    lone read        its number    register              value read      its thread
+ *   25    lone write       its number    register              value written   its thread
+ *
+ * A lone access is one outside transactions; edition 2 alone has them. It is a transaction of its own that begins, reads or writes, and
+ * commits within its one event: it takes the next transaction number, needs a thread whose last transaction has ended, and leaves it
+ * free. It is counted and judged as any other that has committed, and a lone read is a store read with a read point of its own.
  *
  * Beside them stand the edition of the history and 32 start values: what each register holds before any writer. In edition 1 all are
  * 0. A file of edition 2 has those that are not 0 between its head and its events.
@@ -42,11 +48,16 @@
  *       is neither edition 1 with zeros nor edition 2. Files of edition 2 are read; 41, 42 and 43 are new, and 3 may come with an event.
  *       SENDOSHI_FILE_SIZE is larger. To go on as before: pass edition 1 and 32 zeros, and refuse files whose edition is 2.
  *   3   counts of 32 bits: `count` and `prefix` are uint32_t and were size_t. The archive is libsendoshi.a and was libexports.a.
+ *   4   accesses outside transactions. Every call has a fifth column, the threads, behind the values; a begin's thread stands there, and
+ *       its register is 0. sendoshi_transactions, sendoshi_store_reads and sendoshi_tally have two new first parameters, the edition and
+ *       the start values, and refuse by 3 as the other calls do. Edition 2 has kinds 24 and 25, in files and in columns.
+ *       SENDOSHI_FILE_SIZE is larger. To go on as before: lend a column of threads, keep each begin's thread there, and refuse
+ *       histories in which kinds 24 and 25 occur.
  */
 #ifndef SENDOSHI_H
 #define SENDOSHI_H
 
-#define SENDOSHI_VERSION 3
+#define SENDOSHI_VERSION 4
 
 #include <stddef.h>
 #include <stdint.h>
@@ -68,7 +79,7 @@ enum {
  * Sizes of outputs that are never too short: for sendoshi_write of `count` events, and for sendoshi_find on a prefix of `prefix`
  * events. (sendoshi_find needs exactly 6 + 8 * transactions + 10 * store reads bytes, both counted in the prefix.)
  */
-#define SENDOSHI_FILE_SIZE(count) (6 + 10 * (size_t)SENDOSHI_REGISTERS + 12 * (size_t)(count))
+#define SENDOSHI_FILE_SIZE(count) (6 + 10 * (size_t)SENDOSHI_REGISTERS + 14 * (size_t)(count))
 #define SENDOSHI_MARKING_SIZE(prefix) (6 + 8 * (size_t)SENDOSHI_MAX_JUDGED + 10 * (size_t)(prefix))
 
 /*
@@ -100,22 +111,22 @@ enum {
     SENDOSHI_HISTORY_HEAD = 3,  /* no head of edition 1 or 2; of columns (event): another edition, or 1 and a start that is not 0 */
 
     /* An event of a file (byte) or of columns (event). */
-    SENDOSHI_EVENT_KIND = 4,              /* the kind is not 16 to 23, nor 3 in a file of edition 2 */
-    SENDOSHI_EVENT_SIZE = 5,              /* the record has not the size of its kind; files only */
-    SENDOSHI_TOO_MANY_EVENTS = 6,         /* more than 2048 */
-    SENDOSHI_TOO_MANY_TRANSACTIONS = 7,   /* more than 64 */
-    SENDOSHI_TRANSACTION_NUMBER = 8,      /* a begin without the next free number */
-    SENDOSHI_THREAD_NUMBER = 9,           /* the thread is not below 16 */
-    SENDOSHI_THREAD_BUSY = 10,            /* the thread's last transaction has not ended */
-    SENDOSHI_TRANSACTION_NOT_RUNNING = 11, /* the transaction has not begun, or has ended */
-    SENDOSHI_REGISTER_NUMBER = 12,        /* the register is not below 32 */
-    SENDOSHI_EVENT_NOT_DUE = 13,          /* the event does not fit the pending call */
+    SENDOSHI_EVENT_KIND = 4,               /* the kind is not 16 to 23, nor, in edition 2, 24 or 25 (in a file also 3) */
+    SENDOSHI_EVENT_SIZE = 5,               /* the record has not the size of its kind; files only */
+    SENDOSHI_TOO_MANY_EVENTS = 6,          /* more than 2048 */
+    SENDOSHI_TOO_MANY_TRANSACTIONS = 7,    /* more than 64; of a begin or a lone access */
+    SENDOSHI_TRANSACTION_NUMBER = 8,       /* a begin or a lone access without the next free number */
+    SENDOSHI_THREAD_NUMBER = 9,            /* the thread is not below 16; of a begin or a lone access */
+    SENDOSHI_THREAD_BUSY = 10,             /* the thread's last transaction has not ended; of a begin or a lone access */
+    SENDOSHI_TRANSACTION_NOT_RUNNING = 11, /* the transaction has not begun, or has ended; of all but those two */
+    SENDOSHI_REGISTER_NUMBER = 12,         /* the register is not below 32; of a call of a read or a write, or a lone access */
+    SENDOSHI_EVENT_NOT_DUE = 13,           /* the event does not fit the pending call */
 
     /* Lent buffers and numbers. */
-    SENDOSHI_COLUMN_TOO_SHORT = 14, /* read: a column is too short for the events of the file */
+    SENDOSHI_COLUMN_TOO_SHORT = 14, /* read: one of the five columns is too short for the events of the file */
     SENDOSHI_OUTPUT_TOO_SHORT = 15, /* write, straighten: the output is too short; straighten: the list is */
     SENDOSHI_STRAY_FIELD = 16,      /* columns: a field that the kind lacks is not 0, or an 18 has not its call's register */
-    SENDOSHI_COUNT_TOO_LARGE = 17,  /* a column is shorter than the count */
+    SENDOSHI_COUNT_TOO_LARGE = 17,  /* one of the five columns is shorter than the count */
     SENDOSHI_PREFIX_TOO_LONG = 18,  /* find: the prefix is longer than the count */
 
     /* A marking file: byte. */
@@ -140,7 +151,7 @@ enum {
 
     SENDOSHI_NONE = 100,
 
-    SENDOSHI_FAULT_READ = 101,      /* cause 1: a read returned */
+    SENDOSHI_FAULT_READ = 101,      /* cause 1: a read returned, or a lone read */
     SENDOSHI_FAULT_COMMITTED = 102, /* cause 2: a transaction committed */
     SENDOSHI_FAULT_ABORTED = 103,   /* cause 3: a transaction aborted */
     SENDOSHI_FAULT_OTHER = 104,     /* cause 4: an event of another kind; proved never to come */
@@ -235,7 +246,8 @@ uint64_t sendoshi_read(const uint8_t *file, size_t file_length,
                        uint16_t *kinds, size_t kinds_length,
                        uint16_t *transactions, size_t transactions_length,
                        uint16_t *registers, size_t registers_length,
-                       uint32_t *values, size_t values_length);
+                       uint32_t *values, size_t values_length,
+                       uint16_t *threads, size_t threads_length);
 
 /*
  * Writes the first `count` events as a history file of this edition, from the output's first byte. Done: the file's length.
@@ -247,6 +259,7 @@ uint64_t sendoshi_write(uint16_t edition, const uint32_t starts[SENDOSHI_REGISTE
                         const uint16_t *transactions, size_t transactions_length,
                         const uint16_t *registers, size_t registers_length,
                         const uint32_t *values, size_t values_length,
+                        const uint16_t *threads, size_t threads_length,
                         uint32_t count,
                         uint8_t *output, size_t output_length);
 
@@ -261,6 +274,7 @@ uint64_t sendoshi_find(uint16_t edition, const uint32_t starts[SENDOSHI_REGISTER
                        const uint16_t *transactions, size_t transactions_length,
                        const uint16_t *registers, size_t registers_length,
                        const uint32_t *values, size_t values_length,
+                       const uint16_t *threads, size_t threads_length,
                        uint32_t count, uint32_t prefix,
                        uint8_t *output, size_t output_length);
 
@@ -274,6 +288,7 @@ uint64_t sendoshi_scan(uint16_t edition, const uint32_t starts[SENDOSHI_REGISTER
                        const uint16_t *transactions, size_t transactions_length,
                        const uint16_t *registers, size_t registers_length,
                        const uint32_t *values, size_t values_length,
+                       const uint16_t *threads, size_t threads_length,
                        uint32_t count);
 
 /*
@@ -286,6 +301,7 @@ uint64_t sendoshi_check(uint16_t edition, const uint32_t starts[SENDOSHI_REGISTE
                         const uint16_t *transactions, size_t transactions_length,
                         const uint16_t *registers, size_t registers_length,
                         const uint32_t *values, size_t values_length,
+                        const uint16_t *threads, size_t threads_length,
                         uint32_t count,
                         const uint8_t *file, size_t file_length);
 
@@ -305,41 +321,49 @@ uint64_t sendoshi_straighten(uint16_t edition, const uint32_t starts[SENDOSHI_RE
                              const uint16_t *transactions, size_t transactions_length,
                              const uint16_t *registers, size_t registers_length,
                              const uint32_t *values, size_t values_length,
+                             const uint16_t *threads, size_t threads_length,
                              uint32_t count,
                              const uint8_t *file, size_t file_length,
                              uint8_t *output, size_t output_length,
                              uint32_t *moved, size_t moved_length);
 
 /*
- * Counts the transactions begun in the first `count` events.
- * Refuses: 17; 4, 6 to 13 and 16 for each event in turn.
+ * Counts the transactions begun in the first `count` events, lone accesses among them.
+ * Refuses: 17; 3; 4, 6 to 13 and 16 for each event in turn.
  */
-uint64_t sendoshi_transactions(const uint16_t *kinds, size_t kinds_length,
+uint64_t sendoshi_transactions(uint16_t edition, const uint32_t starts[SENDOSHI_REGISTERS],
+                               const uint16_t *kinds, size_t kinds_length,
                                const uint16_t *transactions, size_t transactions_length,
                                const uint16_t *registers, size_t registers_length,
                                const uint32_t *values, size_t values_length,
+                               const uint16_t *threads, size_t threads_length,
                                uint32_t count);
 
 /*
- * Counts the store reads in the first `count` events: the returned reads of a register that their transaction had not written.
- * Refuses: 17; 4, 6 to 13 and 16 for each event in turn.
+ * Counts the store reads in the first `count` events: the returned reads of a register that their transaction had not written, and the
+ * lone reads.
+ * Refuses: 17; 3; 4, 6 to 13 and 16 for each event in turn.
  */
-uint64_t sendoshi_store_reads(const uint16_t *kinds, size_t kinds_length,
+uint64_t sendoshi_store_reads(uint16_t edition, const uint32_t starts[SENDOSHI_REGISTERS],
+                              const uint16_t *kinds, size_t kinds_length,
                               const uint16_t *transactions, size_t transactions_length,
                               const uint16_t *registers, size_t registers_length,
                               const uint32_t *values, size_t values_length,
+                              const uint16_t *threads, size_t threads_length,
                               uint32_t count);
 
 /*
- * Tallies the transactions begun in the first `count` events: those that committed; those that were aborted, also after they called
- * commit; those that called commit and have no answer yet; and the others that have not ended. Done: the four numbers, each at most 64,
- * which add up to what sendoshi_transactions counts.
- * Refuses: 17; 4, 6 to 13 and 16 for each event in turn.
+ * Tallies the transactions begun in the first `count` events: those that committed, lone accesses among them; those that were aborted,
+ * also after they called commit; those that called commit and have no answer yet; and the others that have not ended. Done: the four
+ * numbers, each at most 64, which add up to what sendoshi_transactions counts.
+ * Refuses: 17; 3; 4, 6 to 13 and 16 for each event in turn.
  */
-uint64_t sendoshi_tally(const uint16_t *kinds, size_t kinds_length,
+uint64_t sendoshi_tally(uint16_t edition, const uint32_t starts[SENDOSHI_REGISTERS],
+                        const uint16_t *kinds, size_t kinds_length,
                         const uint16_t *transactions, size_t transactions_length,
                         const uint16_t *registers, size_t registers_length,
                         const uint32_t *values, size_t values_length,
+                        const uint16_t *threads, size_t threads_length,
                         uint32_t count);
 
 #ifdef __cplusplus

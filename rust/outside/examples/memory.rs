@@ -10,7 +10,7 @@ use outside::shapes::{is_judged_quickly, marking_size};
 use outside::stores::damaged_store;
 use outside::{coverage, damage};
 use reference::entries::{self, Answer};
-use reference::event::Columns;
+use reference::event::{Columns, Event};
 use reference::justification::Outcome::{Aborted, Committed};
 use reference::log::Log;
 use reference::reads::store_reads;
@@ -62,9 +62,9 @@ fn all_calls(log: &Log, history: &[u8], marking: &[u8]) {
     let lent = lent_count(count);
     let checked = calls::check(exact.store(), exact.view(), lent, &marking);
     assert_eq!(plain(checked), entries::check(store, &columns, count, &marking));
-    assert_eq!(plain(calls::transactions(exact.view(), lent)), entries::transactions(&columns, count));
-    assert_eq!(plain(calls::store_reads(exact.view(), lent)), entries::store_reads(&columns, count));
-    assert_eq!(plain(calls::tally(exact.view(), lent)), entries::tally(&columns, count));
+    assert_eq!(plain(calls::transactions(exact.store(), exact.view(), lent)), entries::transactions(store, &columns, count));
+    assert_eq!(plain(calls::store_reads(exact.store(), exact.view(), lent)), entries::store_reads(store, &columns, count));
+    assert_eq!(plain(calls::tally(exact.store(), exact.view(), lent)), entries::tally(store, &columns, count));
     straighten(store, &columns, count, &marking, store_reads(events).count());
     if is_judged_quickly(events) {
         assert_eq!(plain(calls::scan(exact.store(), exact.view(), lent)), entries::scan(store, &columns, count));
@@ -81,6 +81,7 @@ struct Exact {
     transactions: Box<[u16]>,
     registers: Box<[u16]>,
     values: Box<[u32]>,
+    threads: Box<[u16]>,
 }
 
 impl Exact {
@@ -92,6 +93,7 @@ impl Exact {
             transactions: columns.transactions.as_slice().into(),
             registers: columns.registers.as_slice().into(),
             values: columns.values.as_slice().into(),
+            threads: columns.threads.as_slice().into(),
         }
     }
 
@@ -105,6 +107,7 @@ impl Exact {
             transactions: &self.transactions,
             registers: &self.registers,
             values: &self.values,
+            threads: &self.threads,
         }
     }
 }
@@ -119,42 +122,52 @@ fn set<T: Copy>(buffer: &[MaybeUninit<T>], length: usize) -> Vec<T> {
     buffer[..length].iter().map(|entry| unsafe { entry.assume_init() }).collect()
 }
 
+/// Columns for so many events, of which nothing is set.
+struct Unset {
+    kinds: Box<[MaybeUninit<u16>]>,
+    transactions: Box<[MaybeUninit<u16>]>,
+    registers: Box<[MaybeUninit<u16>]>,
+    values: Box<[MaybeUninit<u32>]>,
+    threads: Box<[MaybeUninit<u16>]>,
+}
+
+impl Unset {
+    fn new(count: usize) -> Unset {
+        Unset {
+            kinds: Box::new_uninit_slice(count),
+            transactions: Box::new_uninit_slice(count),
+            registers: Box::new_uninit_slice(count),
+            values: Box::new_uninit_slice(count),
+            threads: Box::new_uninit_slice(count),
+        }
+    }
+
+    /// The first so many entries, which a call has set.
+    fn set(&self, length: usize) -> Columns {
+        Columns {
+            kinds: set(&self.kinds, length),
+            transactions: set(&self.transactions, length),
+            registers: set(&self.registers, length),
+            values: set(&self.values, length),
+            threads: set(&self.threads, length),
+        }
+    }
+}
+
 fn read(file: &[u8], count: usize) {
     let file: Box<[u8]> = file.into();
-    let mut starts = Box::<[u32; REGISTERS]>::new_uninit();
-    let mut kinds = Box::<[u16]>::new_uninit_slice(count);
-    let mut transactions = Box::<[u16]>::new_uninit_slice(count);
-    let mut registers = Box::<[u16]>::new_uninit_slice(count);
-    let mut values = Box::<[u32]>::new_uninit_slice(count);
-    // SAFETY: pointers and lengths are those of the boxes.
-    let got = unsafe {
-        ffi::sendoshi_read(
-            file.as_ptr(),
-            file.len(),
-            starts.as_mut_ptr(),
-            kinds.as_mut_ptr().cast(),
-            count,
-            transactions.as_mut_ptr().cast(),
-            count,
-            registers.as_mut_ptr().cast(),
-            count,
-            values.as_mut_ptr().cast(),
-            count,
-        )
-    };
-    let (small, wide) = (vec![0; count], vec![0; count]);
-    let mut columns = Columns { kinds: small.clone(), transactions: small.clone(), registers: small, values: wide };
-    let mut expected_starts = [0; REGISTERS];
-    let expected = entries::read(&file, &mut expected_starts, &mut columns);
-    assert_eq!(plain(sendoshi::Answer::of(got)), expected);
+    let (mut starts, mut columns) = (Box::<[u32; REGISTERS]>::new_uninit(), Unset::new(count));
+    let got = sendoshi::Answer::of(ffi_read(&file, &mut starts, &mut columns));
+    let nothing = Event { kind: 0, transaction: 0, register: 0, value: 0, thread: 0 };
+    let (mut expected_starts, mut expected_columns) = ([0; REGISTERS], Columns::of(&vec![nothing; count]));
+    let expected = entries::read(&file, &mut expected_starts, &mut expected_columns);
+    assert_eq!(plain(got), expected);
     if expected.code == 0 {
         // SAFETY: the call said that it set all of them; valgrind finds those that it did not.
         assert_eq!(unsafe { *starts.assume_init() }, expected_starts);
-        let (_, length) = sendoshi::Answer::of(got).halves();
-        assert_eq!(set(&kinds, length), columns.kinds[..length]);
-        assert_eq!(set(&transactions, length), columns.transactions[..length]);
-        assert_eq!(set(&registers, length), columns.registers[..length]);
-        assert_eq!(set(&values, length), columns.values[..length]);
+        let (_, length) = got.halves();
+        let read: Vec<Event> = (0..length).map(|at| expected_columns.event(at)).collect();
+        assert_eq!(columns.set(length), Columns::of(&read));
     }
 }
 
@@ -197,6 +210,27 @@ fn straighten(store: &Store, columns: &Columns, count: usize, file: &[u8], point
     }
 }
 
+fn ffi_read(file: &[u8], starts: &mut MaybeUninit<[u32; REGISTERS]>, c: &mut Unset) -> u64 {
+    // SAFETY: pointers and lengths are those of the boxes and slices.
+    unsafe {
+        ffi::sendoshi_read(
+            file.as_ptr(),
+            file.len(),
+            starts.as_mut_ptr(),
+            c.kinds.as_mut_ptr().cast(),
+            c.kinds.len(),
+            c.transactions.as_mut_ptr().cast(),
+            c.transactions.len(),
+            c.registers.as_mut_ptr().cast(),
+            c.registers.len(),
+            c.values.as_mut_ptr().cast(),
+            c.values.len(),
+            c.threads.as_mut_ptr().cast(),
+            c.threads.len(),
+        )
+    }
+}
+
 fn ffi_write(c: &Exact, count: u32, output: &mut [MaybeUninit<u8>]) -> u64 {
     // SAFETY: pointers and lengths are those of the boxes and slices.
     unsafe {
@@ -211,6 +245,8 @@ fn ffi_write(c: &Exact, count: u32, output: &mut [MaybeUninit<u8>]) -> u64 {
             c.registers.len(),
             c.values.as_ptr(),
             c.values.len(),
+            c.threads.as_ptr(),
+            c.threads.len(),
             count,
             output.as_mut_ptr().cast(),
             output.len(),
@@ -232,6 +268,8 @@ fn ffi_find(c: &Exact, count: u32, output: &mut [MaybeUninit<u8>]) -> u64 {
             c.registers.len(),
             c.values.as_ptr(),
             c.values.len(),
+            c.threads.as_ptr(),
+            c.threads.len(),
             count,
             count,
             output.as_mut_ptr().cast(),
@@ -254,6 +292,8 @@ fn ffi_straighten(c: &Exact, count: u32, file: &[u8], output: &mut [MaybeUninit<
             c.registers.len(),
             c.values.as_ptr(),
             c.values.len(),
+            c.threads.as_ptr(),
+            c.threads.len(),
             count,
             file.as_ptr(),
             file.len(),

@@ -2,6 +2,7 @@
 
 use crate::coverage::{Coverage, Entry};
 use crate::lent::{lent_count, lent_starts, Lent, LentColumns, LentStore};
+use crate::lone;
 use crate::stores;
 use crate::tallies;
 use reference::entries::{self, Answer};
@@ -65,7 +66,9 @@ pub fn scan(store: &Store, columns: &Columns, count: usize, coverage: &mut Cover
     assert!(lent_store.holds(store), "scan changed its start values");
     assert!(lent.hold(columns), "scan changed its columns");
     if matches!(answer.code, answer::DONE | 101..=104) {
-        stores::note(store, &first_events(columns, count), answer, coverage);
+        let history = first_events(columns, count);
+        stores::note(store, &history, answer, coverage);
+        lone::note(store, &history, answer, coverage);
     }
     answer
 }
@@ -113,24 +116,26 @@ pub fn straighten(
 }
 
 /// Counts transactions and store reads.
-pub fn counts(columns: &Columns, count: usize, coverage: &mut Coverage) -> (Answer, Answer) {
-    let lent = LentColumns::new(columns);
-    let begun = calls::transactions(lent.view(), lent_count(count));
-    let reads = calls::store_reads(lent.view(), lent_count(count));
+pub fn counts(store: &Store, columns: &Columns, count: usize, coverage: &mut Coverage) -> (Answer, Answer) {
+    let (lent_store, lent) = (LentStore::new(store), LentColumns::new(columns));
+    let begun = calls::transactions(lent_store.view(), lent.view(), lent_count(count));
+    let reads = calls::store_reads(lent_store.view(), lent.view(), lent_count(count));
+    assert!(lent_store.holds(store), "a count changed its start values");
     assert!(lent.hold(columns), "a count changed its columns");
     (
-        same(Entry::Transactions, begun, entries::transactions(columns, count), coverage),
-        same(Entry::StoreReads, reads, entries::store_reads(columns, count), coverage),
+        same(Entry::Transactions, begun, entries::transactions(store, columns, count), coverage),
+        same(Entry::StoreReads, reads, entries::store_reads(store, columns, count), coverage),
     )
 }
 
 /// Tallies the transactions.
-pub fn tally(columns: &Columns, count: usize, coverage: &mut Coverage) -> Answer {
-    let lent = LentColumns::new(columns);
-    let got = calls::tally(lent.view(), lent_count(count));
+pub fn tally(store: &Store, columns: &Columns, count: usize, coverage: &mut Coverage) -> Answer {
+    let (lent_store, lent) = (LentStore::new(store), LentColumns::new(columns));
+    let got = calls::tally(lent_store.view(), lent.view(), lent_count(count));
+    assert!(lent_store.holds(store), "tally changed its start values");
     assert!(lent.hold(columns), "tally changed its columns");
-    tallies::adds_up(got, calls::transactions(lent.view(), lent_count(count)));
-    let answer = same(Entry::Tally, got, entries::tally(columns, count), coverage);
+    tallies::adds_up(got, calls::transactions(lent_store.view(), lent.view(), lent_count(count)));
+    let answer = same(Entry::Tally, got, entries::tally(store, columns, count), coverage);
     if answer.code == answer::DONE {
         tallies::note(&first_events(columns, count), got, coverage);
     }

@@ -1,5 +1,5 @@
-//! Which codes each entry has answered with, which transactions were tallied, what was read of start values, what became of
-//! searches, and how often.
+//! Which codes each entry has answered with, which transactions were tallied, what was read of start values, what was accessed outside
+//! transactions, what became of searches, and how often.
 
 use std::collections::BTreeMap;
 use std::fmt;
@@ -47,6 +47,25 @@ pub enum Started {
     ZeroInVain,
 }
 
+/// What a scanned history can have to do with accesses outside transactions.
+#[derive(Clone, Copy, Debug, PartialEq, Eq, PartialOrd, Ord)]
+pub enum Lone {
+    /// An opaque history with a lone read.
+    Read,
+    /// An opaque history with a lone read of what a commit leaves that was not answered when it was read.
+    ReadOfPending,
+    /// A history faulted by a lone read.
+    ReadInVain,
+    /// An opaque history with a lone write.
+    Write,
+    /// An opaque history in which a transaction reads what a lone write alone can have left.
+    WriteSeen,
+    /// The same where a lone read does.
+    WriteSeenAlone,
+    /// A history faulted by a read, not a lone one, of what only a lone write wrote.
+    WriteSeenInVain,
+}
+
 /// What a finder can make of a history.
 #[derive(Clone, Copy, Debug, PartialEq, Eq, PartialOrd, Ord)]
 pub enum Searched {
@@ -64,6 +83,7 @@ enum Met {
     Answered(Entry, u32),
     Tallied(Tallied),
     Started(Started),
+    Lone(Lone),
     Searched(Searched),
 }
 
@@ -83,6 +103,10 @@ impl Coverage {
 
     pub fn note_started(&mut self, what: Started) {
         self.note_met(Met::Started(what));
+    }
+
+    pub fn note_lone(&mut self, what: Lone) {
+        self.note_met(Met::Lone(what));
     }
 
     pub fn note_searched(&mut self, what: Searched) {
@@ -118,6 +142,11 @@ impl Coverage {
         self.require_met(all.iter().copied().map(Met::Started));
     }
 
+    /// Fails if one of these was the case of no history that was scanned.
+    pub fn require_lone(&self, all: &[Lone]) {
+        self.require_met(all.iter().copied().map(Met::Lone));
+    }
+
     /// Fails if something that can become of a search never did.
     pub fn require_every_searched(&self) {
         self.require_met(SEARCHED.into_iter().map(Met::Searched));
@@ -146,6 +175,7 @@ impl fmt::Display for Coverage {
                 Met::Answered(entry, code) => writeln!(f, "{entry:?} {code}: {count}")?,
                 Met::Tallied(what) => writeln!(f, "tallied {what:?}: {count}")?,
                 Met::Started(what) => writeln!(f, "start values {what:?}: {count}")?,
+                Met::Lone(what) => writeln!(f, "lone accesses {what:?}: {count}")?,
                 Met::Searched(what) => writeln!(f, "searched {what:?}: {count}")?,
             }
         }
@@ -153,8 +183,8 @@ impl fmt::Display for Coverage {
     }
 }
 
-/// The questions that columns and their events are asked by every entry but the reader.
-const COLUMNS: [u32; 11] = [4, 6, 7, 8, 9, 10, 11, 12, 13, 16, 17];
+/// The questions that columns, their store and their events are asked by every entry but the reader.
+const COLUMNS: [u32; 12] = [3, 4, 6, 7, 8, 9, 10, 11, 12, 13, 16, 17];
 
 /// The questions that a marking is asked.
 const MARKING: [u32; 11] = [1, 2, 21, 22, 23, 24, 25, 26, 27, 28, 29];
@@ -163,11 +193,11 @@ const MARKING: [u32; 11] = [1, 2, 21, 22, 23, 24, 25, 26, 27, 28, 29];
 pub fn refusals(entry: Entry) -> Vec<u32> {
     let own: Vec<u32> = match entry {
         Entry::Read => return (1..=14).chain(41..=43).collect(),
-        Entry::Write => vec![3, 15],
-        Entry::Find => vec![3, 18, 31, 32],
-        Entry::Scan => vec![3, 31],
-        Entry::Check => [&MARKING[..], &[3]].concat(),
-        Entry::Straighten => [&MARKING[..], &[3, 15]].concat(),
+        Entry::Write => vec![15],
+        Entry::Find => vec![18, 31, 32],
+        Entry::Scan => vec![31],
+        Entry::Check => MARKING.to_vec(),
+        Entry::Straighten => [&MARKING[..], &[15]].concat(),
         Entry::Transactions | Entry::StoreReads | Entry::Tally => vec![],
     };
     [&COLUMNS[..], &own].concat()
@@ -210,5 +240,15 @@ pub const TALLIED: [Tallied; 8] = [
 
 pub const STARTED: [Started; 6] =
     [Started::EditionOne, Started::NoStart, Started::Read, Started::Hidden, Started::ReadInVain, Started::ZeroInVain];
+
+pub const LONE: [Lone; 7] = [
+    Lone::Read,
+    Lone::ReadOfPending,
+    Lone::ReadInVain,
+    Lone::Write,
+    Lone::WriteSeen,
+    Lone::WriteSeenAlone,
+    Lone::WriteSeenInVain,
+];
 
 pub const SEARCHED: [Searched; 3] = [Searched::Rising, Searched::NotRising, Searched::InVain];

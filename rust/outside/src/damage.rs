@@ -6,7 +6,8 @@ use reference::history_file::START;
 use reference::record::{record, record_at};
 
 /// Numbers next to which something changes.
-const EDGES: [u16; 26] = [0, 1, 2, 3, 4, 5, 6, 8, 10, 11, 15, 16, 17, 18, 19, 22, 23, 24, 31, 32, 33, 34, 63, 64, 2_048, 65_535];
+const EDGES: [u16; 29] =
+    [0, 1, 2, 3, 4, 5, 6, 8, 10, 11, 12, 15, 16, 17, 18, 19, 22, 23, 24, 25, 26, 31, 32, 33, 34, 63, 64, 2_048, 65_535];
 
 /// How many faults are put into one thing.
 fn faults(random: &mut Random) -> usize {
@@ -88,8 +89,8 @@ fn split(file: &[u8]) -> Vec<Parts> {
 
 /// A record of some kind with small fields.
 fn stray(random: &mut Random) -> Parts {
-    let kind = random.pick(&[16, 17, 18, 19, 20, 21, 22, 23, 32, 33]);
-    let mut body = vec![0; random.pick(&[2, 4, 4, 6, 8])];
+    let kind = random.pick(&[16, 17, 18, 19, 20, 21, 22, 23, 24, 24, 25, 25, 32, 33]);
+    let mut body = vec![0; random.pick(&[2, 4, 4, 6, 8, 10, 10])];
     for field in (0..body.len()).step_by(2) {
         body[field] = random.below(8) as u8;
     }
@@ -113,7 +114,7 @@ pub fn events(random: &mut Random, mut events: Vec<Event>) -> Vec<Event> {
         }
         let (at, other) = (random.below(events.len()), random.below(events.len()));
         let edge = random.pick(&EDGES);
-        match random.below(8) {
+        match random.below(9) {
             0 => events.swap(at, other),
             1 => drop(events.remove(at)),
             2 => events.insert(other, events[at]),
@@ -121,6 +122,8 @@ pub fn events(random: &mut Random, mut events: Vec<Event>) -> Vec<Event> {
             4 => events[at].transaction = edge,
             5 => events[at].register = edge,
             6 => events[at].value = u32::from(edge),
+            // Of what does not begin, any thread but 0 is refused in the same way.
+            7 if events[at].is_begin() || random.chance(20) => events[at].thread = random.pick(&[edge, 0, 1, 2]),
             _ => events[at].value = random.below(3) as u32,
         }
     }
@@ -134,6 +137,7 @@ pub fn columns(random: &mut Random, mut columns: Columns) -> Columns {
         1 => drop(columns.transactions.pop()),
         2 => drop(columns.registers.pop()),
         3 => drop(columns.values.pop()),
+        4 => drop(columns.threads.pop()),
         _ => (),
     }
     columns

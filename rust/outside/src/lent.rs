@@ -75,12 +75,13 @@ pub fn lent_count(events: usize) -> u32 {
     u32::try_from(events).expect("a count of 32 bits")
 }
 
-/// Four columns lent to the library.
+/// Five columns lent to the library.
 pub struct LentColumns {
     kinds: Lent<u16>,
     transactions: Lent<u16>,
     registers: Lent<u16>,
     values: Lent<u32>,
+    threads: Lent<u16>,
 }
 
 impl LentColumns {
@@ -90,6 +91,7 @@ impl LentColumns {
             transactions: Lent::new(&columns.transactions, 0x5a5a),
             registers: Lent::new(&columns.registers, 0xc3c3),
             values: Lent::new(&columns.values, 0x3c3c_3c3c),
+            threads: Lent::new(&columns.threads, 0x9696),
         }
     }
 
@@ -99,6 +101,7 @@ impl LentColumns {
             transactions: self.transactions.slice(),
             registers: self.registers.slice(),
             values: self.values.slice(),
+            threads: self.threads.slice(),
         }
     }
 
@@ -108,6 +111,7 @@ impl LentColumns {
             transactions: self.transactions.slice_mut(),
             registers: self.registers.slice_mut(),
             values: self.values.slice_mut(),
+            threads: self.threads.slice_mut(),
         }
     }
 
@@ -116,5 +120,6 @@ impl LentColumns {
             && self.transactions.holds(&columns.transactions)
             && self.registers.holds(&columns.registers)
             && self.values.holds(&columns.values)
+            && self.threads.holds(&columns.threads)
     }
 }

@@ -76,7 +76,7 @@ pub fn in_effect(random: &mut Random, history: &[Event]) -> Marking {
 }
 
 /// A transaction with an allowed outcome, and the event at which it took effect: a committed one's call of commit, which is when its
-/// writes come into the store, and another's begin, when it found what it reads.
+/// writes come into the store, a lone access's only one, and another's begin, when it found what it reads.
 fn effect(random: &mut Random, history: &[Event], transaction: u16) -> (usize, Place) {
     let outcomes = [Outcome::Aborted, Outcome::Committed].map(|outcome| Place { transaction, outcome });
     let allowed: Vec<Place> = outcomes.into_iter().filter(|&place| is_allowed(history, place)).collect();
@@ -85,7 +85,7 @@ fn effect(random: &mut Random, history: &[Event], transaction: u16) -> (usize, P
         Outcome::Aborted => BEGIN,
         Outcome::Committed => COMMIT_CALLED,
     };
-    let event = history.iter().position(|e| e.kind == kind && e.transaction == transaction);
+    let event = history.iter().position(|e| e.transaction == transaction && (e.kind == kind || e.is_lone()));
     (event.expect("a transaction begins, and calls commit before it has committed"), place)
 }
 

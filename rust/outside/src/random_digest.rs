@@ -18,6 +18,8 @@ pub struct Shape {
     pub pending: usize,
     /// Of a hundred ended ones, those that precede what they can.
     pub precede: usize,
+    /// Of a hundred transactions, those that committed after a single access, as a lone one does.
+    pub single: usize,
 }
 
 impl Shape {
@@ -32,6 +34,7 @@ impl Shape {
             writes: (100 * random.pick(&[1, 1, 2]) / registers).min(80),
             pending: random.pick(&[20, 40, 60, 80]),
             precede: random.pick(&[0, 0, 30]),
+            single: random.pick(&[0, 0, 20, 40]),
         }
     }
 
@@ -57,6 +60,13 @@ impl Shape {
     }
 
     fn transaction(self, random: &mut Random) -> Transaction {
+        if random.chance(self.single) {
+            let access = vec![(self.register(random), self.value(random))];
+            return match random.chance(50) {
+                true => Transaction::new(Standing::Committed, access, Vec::new()),
+                false => Transaction::new(Standing::Committed, Vec::new(), access),
+            };
+        }
         Transaction::new(self.standing(random), self.accesses(random, self.reads), self.accesses(random, self.writes))
     }
 }

@@ -203,7 +203,7 @@ mod tests {
     }
 
     fn readable(log: &Log) -> bool {
-        reference::entries::history(&Columns::of(&log.events), log.events.len()).is_ok()
+        reference::entries::history(&log.store, &Columns::of(&log.events), log.events.len()).is_ok()
     }
 
     #[test]

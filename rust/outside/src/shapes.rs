@@ -20,6 +20,7 @@ pub fn columns_of(random: &mut Random, events: &[Event]) -> Columns {
     (0..more(random)).for_each(|_| columns.transactions.push(random.word() as u16 % 4));
     (0..more(random)).for_each(|_| columns.registers.push(random.word() as u16 % 40));
     (0..more(random)).for_each(|_| columns.values.push(random.word() as u32 % 4));
+    (0..more(random)).for_each(|_| columns.threads.push(random.word() as u16 % 4));
     columns
 }
 
@@ -35,6 +36,7 @@ pub fn columns_for(random: &mut Random, events: usize) -> Columns {
     (0..length(random)).for_each(|_| columns.transactions.push(random.word() as u16));
     (0..length(random)).for_each(|_| columns.registers.push(random.word() as u16));
     (0..length(random)).for_each(|_| columns.values.push(random.word() as u32));
+    (0..length(random)).for_each(|_| columns.threads.push(random.word() as u16));
     columns
 }
 

@@ -1,6 +1,6 @@
 //! A simulated transactional memory. Each transaction reads from the contents that it found at its begin, under its own writes. A
-//! commit goes through if nobody has since changed what it read, and its writes are in the store once commit is called. Such
-//! histories are opaque; faults can be let in.
+//! commit goes through if nobody has since changed what it read, and its writes are in the store once commit is called. In edition 2
+//! threads that run no transaction may access the store bare. Such histories are opaque; faults can be let in.
 
 use crate::random::Random;
 use reference::event::*;
@@ -17,6 +17,8 @@ pub struct Plan {
     pub events: usize,
     /// Once in so many steps a thread ends what it does by a commit or a withdrawal.
     pub length: usize,
+    /// Of a hundred transactions, those that are lone accesses, where the log is of edition 2.
+    pub lone: usize,
     pub faults: Faults,
 }
 
@@ -29,6 +31,7 @@ impl Plan {
             registers: random.pick(&[1, 1, 2, 3]),
             events: 20 + random.below(20),
             length: random.pick(&[3, 4]),
+            lone: random.pick(&[0, 30, 60]),
             faults: Faults::default(),
         }
     }
@@ -43,13 +46,19 @@ pub struct Faults {
     pub commits: usize,
     /// A commit that went through is answered with aborted.
     pub answers: usize,
+    /// A lone read returns what the register held before its last change.
+    pub lone_reads: usize,
 }
 
 /// Simulates a transactional memory that starts with this store, and returns its log.
 pub fn simulate(random: &mut Random, store: Store, plan: Plan) -> Log {
+    // Lone accesses came with edition 2.
+    let plan = if store.edition == 2 { plan } else { Plan { lone: 0, ..plan } };
+    let contents = store.starts[..plan.registers].to_vec();
     let mut memory = Memory {
         plan,
-        store: store.starts[..plan.registers].to_vec(),
+        before: contents.clone(),
+        store: contents,
         version: vec![0; plan.registers],
         clock: 0,
         begun: 0,
@@ -60,7 +69,7 @@ pub fn simulate(random: &mut Random, store: Store, plan: Plan) -> Log {
         let thread = random.below(plan.threads);
         match memory.threads[thread].take() {
             Some(running) => memory.threads[thread] = memory.step(random, running),
-            None if memory.begun < plan.transactions => memory.threads[thread] = Some(memory.begin(thread)),
+            None if memory.begun < plan.transactions => memory.threads[thread] = memory.begin(random, thread),
             None if memory.threads.iter().all(Option::is_none) => break,
             None => (),
         }
@@ -90,6 +99,8 @@ enum Waits {
 struct Memory {
     plan: Plan,
     store: Vec<u32>,
+    /// What stood in each register before its last change.
+    before: Vec<u32>,
     /// When each register was last changed.
     version: Vec<u64>,
     clock: u64,
@@ -99,19 +110,40 @@ struct Memory {
 }
 
 impl Memory {
-    fn begin(&mut self, thread: usize) -> Running {
+    /// A lone access, which takes effect at once.
+    fn access(&mut self, random: &mut Random, thread: usize) {
+        let (transaction, register) = (self.begun as u16, random.below(self.plan.registers));
+        self.begun += 1;
+        let (kind, value) = match random.chance(70) {
+            true if random.chance(self.plan.faults.lone_reads) => (LONE_READ, self.before[register]),
+            true => (LONE_READ, self.store[register]),
+            false => (LONE_WRITE, 1 + random.below(1_000) as u32),
+        };
+        if kind == LONE_WRITE {
+            self.clock += 1;
+            self.change(register, value);
+        }
+        self.log.push(Event { kind, transaction, register: register as u16, value, thread: thread as u16 });
+    }
+
+    /// Begins a transaction, or makes a lone access, of which nothing is left.
+    fn begin(&mut self, random: &mut Random, thread: usize) -> Option<Running> {
+        if self.plan.lone > 0 && random.chance(self.plan.lone) {
+            self.access(random, thread);
+            return None;
+        }
         let transaction = self.begun as u16;
         self.begun += 1;
-        self.note(BEGIN, transaction, thread, 0);
+        self.log.push(Event { kind: BEGIN, transaction, register: 0, value: 0, thread: thread as u16 });
         let registers = self.plan.registers;
-        Running {
+        Some(Running {
             transaction,
             began: self.clock,
             found: self.store.clone(),
             read: vec![false; registers],
             wrote: vec![None; registers],
             waits: Waits::Nothing,
-        }
+        })
     }
 
     /// The next event of a thread; nothing is left of a transaction that ends.
@@ -179,14 +211,20 @@ impl Memory {
         self.clock += 1;
         for (register, value) in running.wrote.iter().enumerate() {
             if let Some(value) = *value {
-                self.store[register] = value;
-                self.version[register] = self.clock;
+                self.change(register, value);
             }
         }
         true
     }
 
+    /// Puts a value into the store, at the time that the clock says.
+    fn change(&mut self, register: usize, value: u32) {
+        self.before[register] = self.store[register];
+        self.store[register] = value;
+        self.version[register] = self.clock;
+    }
+
     fn note(&mut self, kind: u16, transaction: u16, register: usize, value: u32) {
-        self.log.push(Event { kind, transaction, register: register as u16, value });
+        self.log.push(Event { kind, transaction, register: register as u16, value, thread: 0 });
     }
 }

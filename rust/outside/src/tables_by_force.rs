@@ -34,15 +34,18 @@ impl Tables {
     }
 
     fn add(&mut self, at: usize, event: &Event) {
-        if event.kind == BEGIN {
+        if event.is_begin() {
             let (reads, writes) = (Vec::new(), Vec::new());
-            return self.rows.push(Row { began: at, ended: None, outcomes: &[Outcome::Aborted], reads, writes });
+            self.rows.push(Row { began: at, ended: None, outcomes: &[Outcome::Aborted], reads, writes });
         }
         let row = &mut self.rows[usize::from(event.transaction)];
+        if event.is_lone() {
+            (row.outcomes, row.ended) = (&[Outcome::Committed], Some(at));
+        }
         let access = (usize::from(event.register), event.value);
         match event.kind {
-            WRITE_CALLED => row.writes.push(access),
-            READ_RETURNED => match row.writes.iter().rev().find(|write| write.0 == access.0) {
+            WRITE_CALLED | LONE_WRITE => row.writes.push(access),
+            READ_RETURNED | LONE_READ => match row.writes.iter().rev().find(|write| write.0 == access.0) {
                 Some(own) => self.own_reads_are_right &= *own == access,
                 None => row.reads.push(access),
             },

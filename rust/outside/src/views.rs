@@ -34,8 +34,8 @@ impl Views {
     }
 
     pub fn library(&self) -> sendoshi::Columns<'_> {
-        let Columns { kinds, transactions, registers, values } = &self.held;
-        sendoshi::Columns { kinds, transactions, registers, values }
+        let Columns { kinds, transactions, registers, values, threads } = &self.held;
+        sendoshi::Columns { kinds, transactions, registers, values, threads }
     }
 
     pub fn plain_store(&self) -> plain::Store<'_> {
@@ -43,8 +43,8 @@ impl Views {
     }
 
     pub fn plain(&self) -> plain::Columns<'_> {
-        let Columns { kinds, transactions, registers, values } = &self.held;
-        plain::Columns { kinds, transactions, registers, values }
+        let Columns { kinds, transactions, registers, values, threads } = &self.held;
+        plain::Columns { kinds, transactions, registers, values, threads }
     }
 
     /// The library's lowest marking of a prefix, or none.
@@ -71,7 +71,7 @@ impl Views {
 
     /// An output for every marking of a log of at most ten transactions.
     fn output(&self) -> Vec<u8> {
-        vec![0; 6 + 8 * 10 + 5 * self.count()] // ten bytes a read point, and two events a read
+        vec![0; 6 + 8 * 10 + 10 * self.count()] // ten bytes a read point, and at most one of them an event
     }
 
     /// What the library says of all prefixes.

@@ -1,5 +1,5 @@
-//! Random readable histories: transactions that go on by turns, with reads that often, but not always, return something that an
-//! order of the transactions explains.
+//! Random readable histories: transactions that go on by turns, and in edition 2 accesses outside them, with reads that often, but not
+//! always, return something that an order of the transactions explains.
 
 use crate::random::Random;
 use crate::stores::random_store;
@@ -24,6 +24,8 @@ pub struct Shape {
     pub refused_commits: usize,
     /// Of a hundred reads, those that return a random value.
     pub wild_reads: usize,
+    /// Of a hundred transactions, those that are lone accesses, where the history is of edition 2.
+    pub lone: usize,
 }
 
 impl Shape {
@@ -38,6 +40,7 @@ impl Shape {
             pending: random.pick(&[1, 2, 3]),
             refused_commits: random.pick(&[10, 30, 70]),
             wild_reads: random.pick(&[0, 2, 10, 30]),
+            lone: random.pick(&[0, 20, 50]),
         }
     }
 }
@@ -64,7 +67,7 @@ impl Walk {
         let live: Vec<u16> = (0..begun as u16).filter(|&t| !ended(&self.events, t)).collect();
         let free = if begun < self.shape.transactions { self.free_threads(&live) } else { Vec::new() };
         if !free.is_empty() && (live.is_empty() || random.chance(25)) {
-            self.add(BEGIN, begun as u16, random.pick(&free), 0);
+            self.begin(random, begun as u16, &free);
         } else if live.is_empty() {
             return false;
         } else {
@@ -74,8 +77,22 @@ impl Walk {
         true
     }
 
+    /// A begin or a lone access on a free thread.
+    fn begin(&mut self, random: &mut Random, transaction: u16, free: &[u16]) {
+        let thread = random.pick(free);
+        if self.store.edition != 2 || !random.chance(self.shape.lone) {
+            return self.events.push(Event { kind: BEGIN, transaction, register: 0, value: 0, thread });
+        }
+        let register = random.below(usize::from(self.shape.registers)) as u16;
+        let (kind, value) = match random.chance(60) {
+            true => (LONE_READ, self.value(random, transaction, register)),
+            false => (LONE_WRITE, random.below(self.shape.values as usize + 1) as u32),
+        };
+        self.events.push(Event { kind, transaction, register, value, thread });
+    }
+
     fn free_threads(&self, live: &[u16]) -> Vec<u16> {
-        let busy = |thread| self.events.iter().any(|e| e.kind == BEGIN && e.register == thread && live.contains(&e.transaction));
+        let busy = |thread| self.events.iter().any(|e| e.kind == BEGIN && e.thread == thread && live.contains(&e.transaction));
         (0..self.shape.threads).filter(|&thread| !busy(thread)).collect()
     }
 
@@ -136,14 +153,14 @@ impl Walk {
         }
     }
 
-    /// What transactions left in a register when they called commit, the latest last.
+    /// What transactions left in a register when they called commit, and lone writes at once, the latest last.
     fn published(&self, register: u16) -> Vec<u32> {
-        let calls = self.events.iter().filter(|e| e.kind == COMMIT_CALLED);
+        let calls = self.events.iter().filter(|e| e.kind == COMMIT_CALLED || e.kind == LONE_WRITE);
         let aborted = |t: u16| self.events.iter().any(|e| e.kind == ABORTED && e.transaction == t);
         calls.filter(|e| !aborted(e.transaction)).filter_map(|e| last_write(&self.events, e.transaction, register)).collect()
     }
 
     fn add(&mut self, kind: u16, transaction: u16, register: u16, value: u32) {
-        self.events.push(Event { kind, transaction, register, value });
+        self.events.push(Event { kind, transaction, register, value, thread: 0 });
     }
 }

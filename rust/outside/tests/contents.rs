@@ -1,14 +1,16 @@
-//! What a register holds for a reader, worked out here by applying writes to a store: every way in which five transactions one after the
-//! other may have written it, in registers at both ends of the store, and writers whose commits are unanswered.
+//! What a register holds for a reader, in a transaction or alone, worked out here by applying writes to a store: every way in which five
+//! transactions one after the other may have written it, in registers at both ends of the store, and writers whose commits are
+//! unanswered.
 
 use outside::lent::lent_count;
 use reference::event::Columns as Held;
 use reference::justification::Outcome;
 use reference::log::Log;
+use reference::reads::transactions;
 use reference::worked::marking;
 use sendoshi::{calls, Answer, Columns, Store};
 
-/// What a transaction did before the reader began.
+/// What a transaction did before the reader came.
 #[derive(Clone, Copy)]
 enum Deed {
     WroteOnce,
@@ -16,10 +18,11 @@ enum Deed {
     WroteElsewhere,
     WroteAndWithdrew,
     WroteAndWasRefused,
+    WroteAlone,
 }
 
-const DEEDS: [Deed; 5] =
-    [Deed::WroteOnce, Deed::WroteTwice, Deed::WroteElsewhere, Deed::WroteAndWithdrew, Deed::WroteAndWasRefused];
+const DEEDS: [Deed; 6] =
+    [Deed::WroteOnce, Deed::WroteTwice, Deed::WroteElsewhere, Deed::WroteAndWithdrew, Deed::WroteAndWasRefused, Deed::WroteAlone];
 const WRITERS: usize = 5;
 /// A value that no transaction writes and no register starts with.
 const ANOTHER: u32 = 9;
@@ -28,13 +31,13 @@ const OPAQUE: Answer = Answer { code: 0, place: 0 };
 /// The events of the transaction t, which writes 10 (t + 1) and, where it writes twice, one more.
 fn act(log: Log, t: u16, deed: Deed, register: u16) -> Log {
     let value = 10 * (u32::from(t) + 1);
-    let log = log.begin(0);
     match deed {
-        Deed::WroteOnce => log.write(t, register, value).commit(t),
-        Deed::WroteTwice => log.write(t, register, value).write(t, register, value + 1).commit(t),
-        Deed::WroteElsewhere => log.write(t, (register + 1) % 32, value).commit(t),
-        Deed::WroteAndWithdrew => log.write(t, register, value).aborted(t),
-        Deed::WroteAndWasRefused => log.write(t, register, value).commit_called(t).aborted(t),
+        Deed::WroteOnce => log.begin(0).write(t, register, value).commit(t),
+        Deed::WroteTwice => log.begin(0).write(t, register, value).write(t, register, value + 1).commit(t),
+        Deed::WroteElsewhere => log.begin(0).write(t, (register + 1) % 32, value).commit(t),
+        Deed::WroteAndWithdrew => log.begin(0).write(t, register, value).aborted(t),
+        Deed::WroteAndWasRefused => log.begin(0).write(t, register, value).commit_called(t).aborted(t),
+        Deed::WroteAlone => log.lone_write(0, register, value),
     }
 }
 
@@ -42,15 +45,43 @@ fn act(log: Log, t: u16, deed: Deed, register: u16) -> Log {
 fn leave(t: u16, deed: Deed, value: u32) -> (u32, Outcome) {
     let written = 10 * (u32::from(t) + 1);
     match deed {
-        Deed::WroteOnce => (written, Outcome::Committed),
+        Deed::WroteOnce | Deed::WroteAlone => (written, Outcome::Committed),
         Deed::WroteTwice => (written + 1, Outcome::Committed),
         Deed::WroteElsewhere => (value, Outcome::Committed),
         Deed::WroteAndWithdrew | Deed::WroteAndWasRefused => (value, Outcome::Aborted),
     }
 }
 
+/// Who reads what they left.
+#[derive(Clone, Copy)]
+enum Reader {
+    /// A transaction that has not ended.
+    Live,
+    /// A lone read.
+    Alone,
+}
+
+impl Reader {
+    /// The reader's events behind these, on this thread.
+    fn read(self, log: &Log, thread: u16, register: u16, value: u32) -> Log {
+        let t = transactions(&log.events) as u16;
+        match self {
+            Reader::Live => log.clone().begin(thread).read(t, register, value),
+            Reader::Alone => log.clone().lone_read(thread, register, value),
+        }
+    }
+
+    fn outcome(self) -> Outcome {
+        match self {
+            Reader::Live => Outcome::Aborted,
+            Reader::Alone => Outcome::Committed,
+        }
+    }
+}
+
 fn columns(held: &Held) -> Columns<'_> {
-    Columns { kinds: &held.kinds, transactions: &held.transactions, registers: &held.registers, values: &held.values }
+    let Held { kinds, transactions, registers, values, threads } = held;
+    Columns { kinds, transactions, registers, values, threads }
 }
 
 fn scan(log: &Log) -> Answer {
@@ -81,19 +112,25 @@ fn a_read_gets_what_the_committed_writes_before_it_leave() {
                 value = left;
                 places.push((t as u16, outcome));
             }
-            let reader = WRITERS as u16;
-            let asked = log.begin(0).read_called(reader, register);
-            let read = asked.events.len() as u32;
-            let right = asked.clone().read_returned(reader, value);
-            assert_eq!(scan(&right), OPAQUE, "{right:?}");
-            places.push((reader, Outcome::Aborted));
-            assert_eq!(found(&right), marking(&places, &[(read, reader)]), "{right:?}");
-            let written = (1..=WRITERS as u32).flat_map(|t| [10 * t, 10 * t + 1]);
-            for wrong in written.chain([start, 0, ANOTHER]).filter(|wrong| *wrong != value) {
-                let log = asked.clone().read_returned(reader, wrong);
-                assert_eq!(scan(&log), Answer { code: 101, place: read }, "{log:?}");
+            for reader in [Reader::Live, Reader::Alone] {
+                reads(&log, register, value, reader, &places);
             }
         }
+    }
+}
+
+/// The reader gets this value there, at its place behind the others, and no other that was ever written.
+fn reads(log: &Log, register: u16, value: u32, reader: Reader, before: &[(u16, Outcome)]) {
+    let t = WRITERS as u16;
+    let right = reader.read(log, 0, register, value);
+    let read = right.events.len() as u32 - 1;
+    let places = [before, &[(t, reader.outcome())]].concat();
+    assert_eq!(scan(&right), OPAQUE, "{right:?}");
+    assert_eq!(found(&right), marking(&places, &[(read, t)]), "{right:?}");
+    let written = (1..=WRITERS as u32).flat_map(|t| [10 * t, 10 * t + 1]);
+    for wrong in written.chain([7, 0, ANOTHER]).filter(|wrong| *wrong != value) {
+        let log = reader.read(log, 0, register, wrong);
+        assert_eq!(scan(&log), Answer { code: 101, place: read }, "{log:?}");
     }
 }
 
@@ -106,15 +143,16 @@ fn an_unanswered_commit_leaves_its_last_write_or_nothing() {
                 let value = 10 * (u32::from(t) + 1);
                 log = log.begin(t).write(t, register, value).write(t, register, value + 1).commit_called(t);
             }
-            let asked = log.begin(writers).read_called(writers, register);
-            let read = asked.events.len() as u32;
-            let answer = |value| scan(&asked.clone().read_returned(writers, value));
-            assert_eq!(answer(7), OPAQUE);
-            for t in 1..=u32::from(writers) {
-                assert_eq!(answer(10 * t + 1), OPAQUE, "the last write of one of {writers}");
-                assert_eq!(answer(10 * t), Answer { code: 101, place: read }, "the first write of one of {writers}");
+            for reader in [Reader::Live, Reader::Alone] {
+                let answer = |value| scan(&reader.read(&log, writers, register, value));
+                let fault = Answer { code: 101, place: reader.read(&log, writers, register, 7).events.len() as u32 - 1 };
+                assert_eq!(answer(7), OPAQUE);
+                for t in 1..=u32::from(writers) {
+                    assert_eq!(answer(10 * t + 1), OPAQUE, "the last write of one of {writers}");
+                    assert_eq!(answer(10 * t), fault, "the first write of one of {writers}");
+                }
+                assert_eq!(answer(ANOTHER), fault);
             }
-            assert_eq!(answer(ANOTHER), Answer { code: 101, place: read });
         }
     }
 }

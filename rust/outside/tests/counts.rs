@@ -18,7 +18,8 @@ fn h0() -> Held {
 }
 
 fn view(held: &Held) -> Columns<'_> {
-    Columns { kinds: &held.kinds, transactions: &held.transactions, registers: &held.registers, values: &held.values }
+    let Held { kinds, transactions, registers, values, threads } = held;
+    Columns { kinds, transactions, registers, values, threads }
 }
 
 /// Every call that is given a count.
@@ -29,9 +30,9 @@ fn answers(store: Store, columns: Columns, count: u32) -> [Answer; 8] {
         calls::scan(store, columns, count),
         calls::check(store, columns, count, &[]),
         calls::straighten(store, columns, count, &[], &mut [], &mut []),
-        calls::transactions(columns, count),
-        calls::store_reads(columns, count),
-        calls::tally(columns, count),
+        calls::transactions(store, columns, count),
+        calls::store_reads(store, columns, count),
+        calls::tally(store, columns, count),
     ]
 }
 
@@ -64,16 +65,18 @@ struct VastColumns {
     transactions: Vast<u16>,
     registers: Vast<u16>,
     values: Vast<u32>,
+    threads: Vast<u16>,
 }
 
 impl VastColumns {
     fn new() -> VastColumns {
-        let Held { kinds, transactions, registers, values } = h0();
+        let Held { kinds, transactions, registers, values, threads } = h0();
         VastColumns {
             kinds: Vast::new(&kinds, VAST),
             transactions: Vast::new(&transactions, VAST),
             registers: Vast::new(&registers, VAST),
             values: Vast::new(&values, VAST),
+            threads: Vast::new(&threads, VAST),
         }
     }
 
@@ -83,6 +86,7 @@ impl VastColumns {
             transactions: self.transactions.slice(),
             registers: self.registers.slice(),
             values: self.values.slice(),
+            threads: self.threads.slice(),
         }
     }
 }
@@ -109,6 +113,7 @@ fn every_column_must_hold_the_count() {
         Columns { transactions: short.transactions, ..long },
         Columns { registers: short.registers, ..long },
         Columns { values: short.values, ..long },
+        Columns { threads: short.threads, ..long },
     ];
     for columns in one_short {
         for count in BEYOND {
@@ -124,8 +129,8 @@ fn every_column_must_hold_the_count() {
 fn vast_files_are_too_long() {
     let (history, marking) = (Vast::new(&[4, 0, 1, 0, 1, 0], VAST), Vast::new(&h0_marking(), VAST));
     let (held, mut read) = (h0(), h0());
-    let Held { kinds, transactions, registers, values } = &mut read;
-    let columns = ColumnsMut { kinds, transactions, registers, values };
+    let Held { kinds, transactions, registers, values, threads } = &mut read;
+    let columns = ColumnsMut { kinds, transactions, registers, values, threads };
     let too_long = Answer { code: 1, place: 0 };
     assert_eq!(calls::read(history.slice(), &mut [0; 32], columns), too_long);
     assert_eq!(calls::check(Store::ZERO, view(&held), 10, marking.slice()), too_long);
@@ -135,15 +140,15 @@ fn vast_files_are_too_long() {
 type W = u64;
 
 /// A function of the archive as the processor sees it: on x86-64 each number and each pointer is passed in a word of 64 bits.
-type Words = unsafe extern "C" fn(W, W, W, W, W, W, W, W, W, W, W, W, W, W, W, W, W) -> u64;
+type Words = unsafe extern "C" fn(W, W, W, W, W, W, W, W, W, W, W, W, W, W, W, W, W, W, W) -> u64;
 
 /// # Safety
-/// The words are those of the function's parameters, of which it has at most 17; it does not look at those behind them.
+/// The words are those of the function's parameters, of which it has at most 19; it does not look at those behind them.
 unsafe fn called(function: *const (), words: &[&[W]]) -> Answer {
     let mut all = words.concat();
-    all.resize(17, 0);
-    let &[a, b, c, d, e, f, g, h, i, j, k, l, m, n, o, p, q] = &all[..] else { panic!("more than 17 words") };
-    Answer::of(transmute::<*const (), Words>(function)(a, b, c, d, e, f, g, h, i, j, k, l, m, n, o, p, q))
+    all.resize(19, 0);
+    let &[a, b, c, d, e, f, g, h, i, j, k, l, m, n, o, p, q, r, s] = &all[..] else { panic!("more than 19 words") };
+    Answer::of(transmute::<*const (), Words>(function)(a, b, c, d, e, f, g, h, i, j, k, l, m, n, o, p, q, r, s))
 }
 
 /// The archive takes counts and prefixes of 32 bits, as header and wrapper declare them: what a caller leaves in the upper half of a
@@ -151,8 +156,10 @@ unsafe fn called(function: *const (), words: &[&[W]]) -> Answer {
 #[test]
 fn counts_have_32_bits_in_the_archive() {
     let (held, starts, file) = (h0(), [0u32; 32], h0_marking());
-    let Held { kinds: k, transactions: t, registers: r, values: v } = &held;
-    let columns = [k.as_ptr() as W, 10, t.as_ptr() as W, 10, r.as_ptr() as W, 10, v.as_ptr() as W, 10];
+    let Held { kinds, transactions, registers, values, threads } = &held;
+    let pointers = [kinds, transactions, registers, threads].map(|column| column.as_ptr() as W);
+    let [k, t, r, d] = pointers;
+    let columns = [k, 10, t, 10, r, 10, values.as_ptr() as W, 10, d, 10];
     let marking = [file.as_ptr() as W, file.len() as W];
     let (mut output, mut moved) = ([0u8; 88], [0u32; 2]);
     let (output, moved) = ([output.as_mut_ptr() as W, 88], [moved.as_mut_ptr() as W, 2]);
@@ -166,9 +173,9 @@ fn counts_have_32_bits_in_the_archive() {
                 called(ffi::sendoshi_scan as *const (), &[&store, &columns, &count]),
                 called(ffi::sendoshi_check as *const (), &[&store, &columns, &count, &marking]),
                 called(ffi::sendoshi_straighten as *const (), &[&store, &columns, &count, &marking, &output, &moved]),
-                called(ffi::sendoshi_transactions as *const (), &[&columns, &count]),
-                called(ffi::sendoshi_store_reads as *const (), &[&columns, &count]),
-                called(ffi::sendoshi_tally as *const (), &[&columns, &count]),
+                called(ffi::sendoshi_transactions as *const (), &[&store, &columns, &count]),
+                called(ffi::sendoshi_store_reads as *const (), &[&store, &columns, &count]),
+                called(ffi::sendoshi_tally as *const (), &[&store, &columns, &count]),
             ]
         };
         // H0 has 88 bytes and its marking 42; that of its first six events has a read point less.

@@ -64,8 +64,8 @@ fn at_limit(store: &Store, events: &[Event], coverage: &mut Coverage) {
     let mut output = vec![0xee; record::LONGEST_FILE];
     compare::read(&history_file::write(store, events), &mut [0xeeee; 32], &mut lent.clone(), coverage);
     compare::write(store, &lent, count, &mut output, coverage);
-    compare::counts(&lent, count, coverage);
-    compare::tally(&lent, count, coverage);
+    compare::counts(store, &lent, count, coverage);
+    compare::tally(store, &lent, count, coverage);
     compare::check(store, &lent, count, &[4, 0, 2, 0, 1, 0], coverage);
     compare::straighten(store, &lent, count, &[4, 0, 2, 0, 1, 0], &mut output, &mut vec![0xeeee; count], coverage);
     if is_judged_quickly(events) {
@@ -80,6 +80,7 @@ fn history(random: &mut Random) -> Log {
         0 => limits::long(random.pick(&[2_047, 2_048, 2_049])),
         1..=40 => limits::serial(random.pick(&[63, 64, 65])),
         41..=140 => limits::concurrent(random.pick(&[10, 11, 12])),
+        141..=180 => limits::alone(random.pick(&[11, 12, 63, 64, 65])),
         _ => {
             let shape = Shape::small(random);
             return walk(random, shape);
@@ -120,8 +121,8 @@ fn columns(random: &mut Random, log: &Log, coverage: &mut Coverage) {
     };
     let mut output = output_for(random, history_file::write(&store, &events).len());
     compare::write(&store, &lent, count, &mut output, coverage);
-    compare::counts(&lent, count, coverage);
-    compare::tally(&lent, count, coverage);
+    compare::counts(&store, &lent, count, coverage);
+    compare::tally(&store, &lent, count, coverage);
     compare::check(&store, &lent, count, &marking, coverage);
     straighten(random, &store, &lent, count, &marking, coverage);
     if is_judged_quickly(&held(&lent, count)) {

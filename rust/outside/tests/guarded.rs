@@ -76,9 +76,9 @@ fn all_calls(random: &mut Random, log: &Log, file: &[u8], marking: &[u8]) {
         let guarded = GuardedGiven::new(&held, side);
         let marking_file = Guarded::new(marking, side);
         both(&guarded, &held, |store, columns| calls::scan(store, columns, count));
-        both(&guarded, &held, |_, columns| calls::transactions(columns, count));
-        both(&guarded, &held, |_, columns| calls::store_reads(columns, count));
-        both(&guarded, &held, |_, columns| calls::tally(columns, count));
+        both(&guarded, &held, |store, columns| calls::transactions(store, columns, count));
+        both(&guarded, &held, |store, columns| calls::store_reads(store, columns, count));
+        both(&guarded, &held, |store, columns| calls::tally(store, columns, count));
         let checked = calls::check(guarded.store(), guarded.columns.view(), count, marking_file.slice());
         assert_eq!(checked, calls::check(held.store(), view(&held.columns), count, marking));
         fill(side, &guarded, &held, &written, |store, columns, output| calls::write(store, columns, count, output));
@@ -91,8 +91,8 @@ fn all_calls(random: &mut Random, log: &Log, file: &[u8], marking: &[u8]) {
 fn read(side: Side, file: &[u8], starts: &[u32; 32], lent: &Held) {
     let (mut guarded_starts, mut columns) = (Guarded::new(starts, side), GuardedColumns::new(lent, side));
     let (mut plain_starts, mut plain) = (*starts, lent.clone());
-    let Held { kinds, transactions, registers, values } = &mut plain;
-    let expected = calls::read(file, &mut plain_starts, ColumnsMut { kinds, transactions, registers, values });
+    let Held { kinds, transactions, registers, values, threads } = &mut plain;
+    let expected = calls::read(file, &mut plain_starts, ColumnsMut { kinds, transactions, registers, values, threads });
     let file = Guarded::new(file, side);
     assert_eq!(calls::read(file.slice(), guarded_starts.starts_mut(), columns.view_mut()), expected);
     assert_eq!(guarded_starts.starts(), &plain_starts, "the reader left other start values");
@@ -124,7 +124,8 @@ fn straighten(side: Side, given: &GuardedGiven, held: &Given, count: u32, file: 
 }
 
 fn view(held: &Held) -> Columns<'_> {
-    Columns { kinds: &held.kinds, transactions: &held.transactions, registers: &held.registers, values: &held.values }
+    let Held { kinds, transactions, registers, values, threads } = held;
+    Columns { kinds, transactions, registers, values, threads }
 }
 
 /// What a call is given of a history: its store and its columns.
@@ -165,6 +166,7 @@ struct GuardedColumns {
     transactions: Guarded<u16>,
     registers: Guarded<u16>,
     values: Guarded<u32>,
+    threads: Guarded<u16>,
 }
 
 impl GuardedColumns {
@@ -174,6 +176,7 @@ impl GuardedColumns {
             transactions: Guarded::new(&held.transactions, side),
             registers: Guarded::new(&held.registers, side),
             values: Guarded::new(&held.values, side),
+            threads: Guarded::new(&held.threads, side),
         }
     }
 
@@ -183,6 +186,7 @@ impl GuardedColumns {
             transactions: self.transactions.slice(),
             registers: self.registers.slice(),
             values: self.values.slice(),
+            threads: self.threads.slice(),
         }
     }
 
@@ -192,6 +196,7 @@ impl GuardedColumns {
             transactions: self.transactions.slice_mut(),
             registers: self.registers.slice_mut(),
             values: self.values.slice_mut(),
+            threads: self.threads.slice_mut(),
         }
     }
 
@@ -200,5 +205,6 @@ impl GuardedColumns {
             && self.transactions.slice() == held.transactions
             && self.registers.slice() == held.registers
             && self.values.slice() == held.values
+            && self.threads.slice() == held.threads
     }
 }

@@ -1,7 +1,7 @@
 //! Random small histories and their prefixes: what the library says of them is what the brute force says.
 
 use outside::compare;
-use outside::coverage::{judgements, Coverage, Entry, ENTRIES, STARTED};
+use outside::coverage::{judgements, Coverage, Entry, ENTRIES, LONE, STARTED};
 use outside::marks::{careless, changed, random_marking};
 use outside::random::Random;
 use outside::rounds;
@@ -24,11 +24,11 @@ fn the_library_says_what_the_brute_force_says() {
         let log = history(random);
         let (columns, count) = (columns_of(random, &log.events), log.events.len());
         files(random, &log, &columns, coverage);
-        compare::counts(&columns, count, coverage);
-        compare::tally(&columns, count, coverage);
+        compare::counts(&log.store, &columns, count, coverage);
+        compare::tally(&log.store, &columns, count, coverage);
         let scanned = compare::scan(&log.store, &columns, count, coverage);
         let random_one = random.below(count + 1);
-        compare::tally(&columns, random_one, coverage);
+        compare::tally(&log.store, &columns, random_one, coverage);
         // The finder on every prefix; markings of the whole, of the random one, and of those on both sides of the fault.
         for prefix in 0..=count {
             let marking = found(random, &log, &columns, prefix, coverage);
@@ -47,6 +47,7 @@ fn the_library_says_what_the_brute_force_says() {
         met.require(Entry::Straighten, &[15]);
         met.require_every_tallied();
         met.require_started(&STARTED);
+        met.require_lone(&LONE);
     }
 }
 
@@ -61,7 +62,8 @@ fn history(random: &mut Random) -> Log {
         Faults { reads: 30, ..Faults::default() },
         Faults { commits: 100, ..Faults::default() },
         Faults { reads: 60, answers: 70, ..Faults::default() },
-        Faults { reads: 20, commits: 100, answers: 20 },
+        Faults { reads: 20, commits: 100, answers: 20, lone_reads: 20 },
+        Faults { lone_reads: 60, ..Faults::default() },
     ];
     let plan = Plan { faults: random.pick(&faults), ..Plan::small(random) };
     let store = random_store(random, plan.registers, 9);

@@ -25,7 +25,7 @@ fn the_library_says_what_plain_rust_says() {
         assert_eq!(history.columns(), views.library());
         assert_eq!(history.store(), views.library_store());
         assert_eq!(history.transactions(), reads::transactions(events));
-        assert_eq!(history.store_reads(), plain::store_reads(views.plain(), events.len()).unwrap());
+        assert_eq!(history.store_reads(), plain::store_reads(views.plain_store(), views.plain(), events.len()).unwrap());
         tallied(&history, &log);
         let by_trying = views.scan_by(plain::scan_by_trying);
         assert_eq!(history.scan().unwrap(), scan_of(by_trying));
@@ -77,10 +77,10 @@ fn large_markings_are_straightened_as_in_plain_rust() {
 fn readable(log: &Log) -> History {
     let (file, count) = (history_file::write(&log.store, &log.events), log.events.len());
     let (small, mut starts, mut values) = (vec![0; count], [0; 32], vec![0; count]);
-    let (mut kinds, mut transactions, mut registers) = (small.clone(), small.clone(), small);
-    let read = plain::read(&file, &mut starts, &mut kinds, &mut transactions, &mut registers, &mut values);
+    let (mut kinds, mut transactions, mut registers, mut threads) = (small.clone(), small.clone(), small.clone(), small);
+    let read = plain::read(&file, &mut starts, &mut kinds, &mut transactions, &mut registers, &mut values, &mut threads);
     assert_eq!((read, starts), (Ok((log.store.edition, count)), log.store.starts));
-    assert_eq!(Held { kinds, transactions, registers, values }, Held::of(&log.events));
+    assert_eq!(Held { kinds, transactions, registers, values, threads }, Held::of(&log.events));
     let mut output = vec![0; file.len()];
     let views = Views::of(log);
     let written = plain::write(views.plain_store(), views.plain(), count, &mut output);
@@ -93,7 +93,8 @@ fn readable(log: &Log) -> History {
 /// A tally against plain Rust and against the definition, which is quick enough for any history that is known to be readable.
 fn tallied(history: &History, log: &Log) {
     let sendoshi::Tally { committed, aborted, pending, live } = history.tally();
-    let by_plain = plain::tally(Views::of(log).plain(), log.events.len());
+    let views = Views::of(log);
+    let by_plain = plain::tally(views.plain_store(), views.plain(), log.events.len());
     assert_eq!(by_plain, Ok(plain::Tally { committed, aborted, pending, live }));
     let by_definition = reference::tally::tally(&log.events);
     assert_eq!(by_definition, reference::tally::Tally { committed, aborted, pending, live });
@@ -101,13 +102,15 @@ fn tallied(history: &History, log: &Log) {
 }
 
 fn full_capture(random: &mut Random) -> Log {
-    let faults = [Faults::default(), Faults::default(), Faults::default(), Faults { reads: 1, commits: 5, answers: 5 }];
+    let wrong = Faults { reads: 1, commits: 5, answers: 5, lone_reads: 5 };
+    let faults = [Faults::default(), Faults::default(), Faults::default(), wrong];
     let plan = Plan {
         transactions: 64,
         threads: 1 + random.below(16),
         registers: random.pick(&[2, 8, 32]),
         events: 2_048,
         length: random.pick(&[10, 15, 20]),
+        lone: random.pick(&[0, 10, 50]),
         faults: random.pick(&faults),
     };
     let store = random_store(random, plan.registers, 1_000);
@@ -131,13 +134,14 @@ fn straightened(log: &Log, marking: &Marking, coverage: &mut Coverage) {
 }
 
 fn capture(random: &mut Random) -> Log {
-    let faults = [Faults::default(), Faults::default(), Faults { reads: 1, commits: 20, answers: 5 }];
+    let faults = [Faults::default(), Faults::default(), Faults { reads: 1, commits: 20, answers: 5, lone_reads: 20 }];
     let plan = Plan {
         transactions: 10,
         threads: 1 + random.below(4),
         registers: random.pick(&[2, 8, 32]),
         events: random.pick(&[100, 500, 2_048]),
         length: random.pick(&[10, 50, 100]),
+        lone: random.pick(&[0, 20, 50]),
         faults: random.pick(&faults),
     };
     let store = random_store(random, plan.registers, 1_000);

@@ -3,9 +3,10 @@
 //! plain Rust that searches in the library's way.
 
 use outside::compare;
-use outside::coverage::{judgements, Coverage, Entry, Searched};
+use outside::coverage::{judgements, Coverage, Entry, Lone, Searched};
 use outside::digest::Digest;
 use outside::hard::{climbed, pending_chain, pending_pairs, pending_ring, two_destructive};
+use outside::lone::{self, collapsed};
 use outside::random::Random;
 use outside::random_digest::{changed, serial, wild, Shape};
 use outside::rounds;
@@ -14,6 +15,7 @@ use outside::shapes::marking_size;
 use outside::stores::random_store;
 use outside::tables_by_force::Tables;
 use outside::views::{lowest_order, Views};
+use reference::entries;
 use reference::event::*;
 use reference::justification::Place;
 use reference::log::Log;
@@ -48,6 +50,14 @@ fn digests_are_judged_as_by_force() {
         met.require(Entry::Find, judgements(Entry::Find));
         met.require(Entry::Scan, judgements(Entry::Scan));
         met.require_every_searched();
+        met.require_lone(&[
+            Lone::Read,
+            Lone::ReadOfPending,
+            Lone::ReadInVain,
+            Lone::Write,
+            Lone::WriteSeen,
+            Lone::WriteSeenAlone,
+        ]);
     }
 }
 
@@ -92,13 +102,15 @@ fn hard_digests_are_judged_as_in_plain_rust() {
         let transactions = 8 + random.below(3);
         let (registers, values) = (random.pick(&[4, 8, 16, 32]), random.pick(&[1, 2, 3]));
         let (reads, writes) = (random.pick(&[5, 15, 30]), random.pick(&[10, 30, 50]));
-        let shape = Shape { transactions, registers, values, reads, writes, pending: 60, precede: 0 };
+        let shape =
+            Shape { transactions, registers, values, reads, writes, pending: 60, precede: 0, single: random.pick(&[0, 20]) };
         let store = random_store(random, registers, values as u32);
         let digest = climbed(random, shape, store, 60);
         let order = lowest_order(&in_turn(&digest, store)).unwrap_or_default();
         let filled = digest.filled(random.pick(&[0, 500, 2_048]));
         let logs = [commits_first(&filled, store, &order, random), witness_breaking(&filled, store, &order, random)];
-        for log in logs {
+        let collapsed = logs.each_ref().map(|log| collapsed(random, log, 100));
+        for log in logs.into_iter().chain(collapsed) {
             judged_as_in_plain_rust(&digest, &log);
             note(lowest_order(&log).as_deref(), coverage);
             coverage.note(Entry::Scan, Views::of(&log).scan().code);
@@ -137,15 +149,20 @@ fn some_digest(random: &mut Random, shape: Shape, store: Store) -> Digest {
     }
 }
 
+/// In some, those that committed after a single access are lone accesses.
 fn some_history(random: &mut Random, digest: &Digest, store: Store) -> Log {
-    match random.below(4) {
+    let log = match random.below(4) {
         0 => in_turn(digest, store),
         1 => {
             let order = lowest_order(&in_turn(digest, store)).unwrap_or_default();
             commits_first(digest, store, &order, random)
         }
         _ => at_random(digest, store, random),
+    };
+    if random.chance(40) {
+        return collapsed(random, &log, 80);
     }
+    log
 }
 
 /// The finder on every prefix that says more than the one before it, and the scan, against every permutation with every outcome.
@@ -168,6 +185,7 @@ fn judged_as_by_force(digest: &Digest, log: &Log, coverage: &mut Coverage) {
     }
     assert_eq!(views.scan(), scanned, "{log:?}, a history of {digest}");
     coverage.note(Entry::Scan, scanned.code);
+    lone::note(&log.store, &log.events, entries::Answer { code: scanned.code, place: scanned.place }, coverage);
     note(lowest.as_deref(), coverage);
 }
 
@@ -183,7 +201,7 @@ fn note(lowest: Option<&[Place]>, coverage: &mut Coverage) {
 /// The scan's code for a first prefix without a justification.
 fn cause(prefix: &[Event]) -> u32 {
     match prefix.last().expect("the empty history is justified").kind {
-        READ_RETURNED => 101,
+        READ_RETURNED | LONE_READ => 101,
         COMMITTED => 102,
         ABORTED => 103,
         kind => panic!("an event of kind {kind} takes a justification away"),

@@ -4,7 +4,7 @@ use outside::compare;
 use outside::coverage::{Coverage, Entry};
 use outside::lent::lent_count;
 use outside::limits;
-use reference::event::{Columns as Held, BEGIN};
+use reference::event::{Columns as Held, BEGIN, LONE_READ, LONE_WRITE};
 use reference::history_file::{self, start_record, START};
 use reference::justification::Outcome::Aborted;
 use reference::log::Log;
@@ -14,20 +14,23 @@ use reference::worked::marking;
 use sendoshi::{calls, Answer, Columns, Store};
 
 fn view(held: &Held) -> Columns<'_> {
-    Columns { kinds: &held.kinds, transactions: &held.transactions, registers: &held.registers, values: &held.values }
+    let Held { kinds, transactions, registers, values, threads } = held;
+    Columns { kinds, transactions, registers, values, threads }
 }
 
 /// A start record that is wrong in any number of ways is refused by the first question that says no: 4, 5, 43, 41, 42. It stands
-/// behind no event, one, or as many as a history may have, and behind a start of register 3.
+/// behind no event, one, in edition 2 also a lone access, or as many as a history may have, and behind a start of register 3.
 #[test]
 fn a_start_record_meets_its_questions_in_order() {
     let mut met = Coverage::default();
     let full = history_file::write(&HeldStore::ZERO, &limits::long(2_048))[6..].to_vec();
-    for before in [vec![], record(BEGIN, &[0; 4]), full] {
+    let (all, second) = (&[1, 2, 3][..], &[2][..]);
+    let alone = [LONE_READ, LONE_WRITE].map(|kind| (record(kind, &[0; 10]), second));
+    for (before, editions) in [(vec![], all), (record(BEGIN, &[0; 4]), all), (full, all)].into_iter().chain(alone) {
         for size in [0, 2, 4, 5, 6, 7, 8] {
             for register in [0, 3, 4, 31, 32, 35, 260, 65_535] {
                 for value in [0, 1, 65_536, u32::MAX] {
-                    [1, 2, 3].into_iter().for_each(|edition| meets(edition, &before, size, register, value, &mut met));
+                    editions.iter().for_each(|&edition| meets(edition, &before, size, register, value, &mut met));
                 }
             }
         }
@@ -104,15 +107,19 @@ fn stores_are_refused_right_after_counts() {
                 calls::scan(store, columns, count),
                 calls::check(store, columns, count, &[]),
                 calls::straighten(store, columns, count, &[], &mut [], &mut []),
+                calls::transactions(store, columns, count),
+                calls::store_reads(store, columns, count),
+                calls::tally(store, columns, count),
             ];
-            assert_eq!(answers, [answer; 4], "edition {edition}");
+            assert_eq!(answers, [answer; 7], "edition {edition}");
         }
         // A single start value that is not 0 is enough, wherever it stands and whichever of its bytes it is in.
         for (register, value) in (0..32).flat_map(|register| [1, 256, 65_536, 1 << 24].map(|value| (register, value))) {
             let mut starts = [0; 32];
             starts[register] = value;
-            let answer = calls::scan(Store { edition: 1, starts: &starts }, columns, count);
-            assert_eq!(answer, Answer { code: 3, place: count }, "register {register} starts with {value}");
+            let store = Store { edition: 1, starts: &starts };
+            let answers = [calls::scan(store, columns, count), calls::tally(store, columns, count)];
+            assert_eq!(answers, [Answer { code: 3, place: count }; 2], "register {register} starts with {value}");
         }
     }
 }

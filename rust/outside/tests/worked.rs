@@ -8,7 +8,8 @@ use reference::worked::{self, Buffers, Call};
 use sendoshi::{calls, Answer, Columns, ColumnsMut, Store};
 
 fn view(held: &Held) -> Columns<'_> {
-    Columns { kinds: &held.kinds, transactions: &held.transactions, registers: &held.registers, values: &held.values }
+    let Held { kinds, transactions, registers, values, threads } = held;
+    Columns { kinds, transactions, registers, values, threads }
 }
 
 fn answered(call: &Call) -> (Answer, Buffers) {
@@ -16,9 +17,15 @@ fn answered(call: &Call) -> (Answer, Buffers) {
     let Buffers { output, moved, starts } = &mut buffers;
     let answer = match call {
         Call::Read(file) => {
-            let (mut kinds, mut transactions, mut registers, mut values) = ([0; 2_048], [0; 2_048], [0; 2_048], [0; 2_048]);
-            let columns =
-                ColumnsMut { kinds: &mut kinds, transactions: &mut transactions, registers: &mut registers, values: &mut values };
+            let (mut kinds, mut transactions, mut registers) = ([0; 2_048], [0; 2_048], [0; 2_048]);
+            let (mut values, mut threads) = ([0; 2_048], [0; 2_048]);
+            let columns = ColumnsMut {
+                kinds: &mut kinds,
+                transactions: &mut transactions,
+                registers: &mut registers,
+                values: &mut values,
+                threads: &mut threads,
+            };
             calls::read(file, starts, columns)
         }
         Call::Write(log) => with(log, |store, columns, count| calls::write(store, columns, count, output)),
@@ -28,7 +35,7 @@ fn answered(call: &Call) -> (Answer, Buffers) {
         Call::Straighten(log, file) => {
             with(log, |store, columns, count| calls::straighten(store, columns, count, file, output, moved))
         }
-        Call::Tally(log) => with(log, |_, columns, count| calls::tally(columns, count)),
+        Call::Tally(log) => with(log, calls::tally),
     };
     (answer, buffers)
 }

@@ -11,7 +11,7 @@ pub struct Span {
     pub last_kind: u16,
 }
 
-/// A returned read that is no own read.
+/// A read that is no own read.
 #[derive(Clone, Copy)]
 pub struct StoreRead {
     pub event: usize,
@@ -32,7 +32,7 @@ pub struct Accesses {
 impl Accesses {
     pub fn of(columns: Columns, count: usize) -> Accesses {
         let mut accesses = Accesses { spans: Vec::new(), written: Vec::new(), store_reads: Vec::new(), wrong_own_read: None };
-        for (at, event) in columns.events(count).enumerate() {
+        for (at, event) in columns.threadless(count).enumerate() {
             accesses.add(at, event);
         }
         accesses
@@ -40,17 +40,19 @@ impl Accesses {
 
     fn add(&mut self, at: usize, event: Event) {
         let transaction = usize::from(event.transaction);
-        if event.kind == BEGIN {
+        if begins(event.kind) {
             self.spans.push(Span { begin: at, ..Span::default() });
             self.written.push([None; REGISTERS]);
         }
         let span = &mut self.spans[transaction];
         span.last = at;
         span.last_kind = event.kind;
+        if matches!(event.kind, COMMITTED | ABORTED | LONE_READ | LONE_WRITE) {
+            span.end = Some(at);
+        }
         match event.kind {
-            WRITE_CALLED => self.written[transaction][usize::from(event.register)] = Some(event.value),
-            READ_RETURNED => self.add_read(at, event),
-            COMMITTED | ABORTED => span.end = Some(at),
+            WRITE_CALLED | LONE_WRITE => self.written[transaction][usize::from(event.register)] = Some(event.value),
+            READ_RETURNED | LONE_READ => self.add_read(at, event),
             _ => (),
         }
     }

@@ -14,7 +14,7 @@ pub enum Verdict {
 
 /// Checks a marking of the first `count` events.
 pub fn check(store: Store, columns: Columns, count: usize, file: &[u8]) -> Result<Verdict, Refusal> {
-    columns.validate_over(store, count)?;
+    columns.validate(store, count)?;
     let accesses = Accesses::of(columns, count);
     let marking = read_marking(file, &accesses)?;
     let broken = broken_order(columns, &accesses, &marking)
@@ -33,7 +33,7 @@ pub fn broken_order(columns: Columns, accesses: &Accesses, marking: &Marking) ->
 fn outcomes(accesses: &Accesses, marking: &Marking) -> Option<(char, usize, usize)> {
     let wrong = accesses.spans.iter().zip(&marking.committed).position(|(span, &committed)| match span.last_kind {
         COMMIT_CALLED => false,
-        COMMITTED => !committed,
+        COMMITTED | LONE_READ | LONE_WRITE => !committed,
         _ => committed,
     })?;
     Some(('A', accesses.spans[wrong].last, wrong))

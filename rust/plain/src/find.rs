@@ -35,7 +35,7 @@ pub fn find_placements_by_trying(store: Store, columns: Columns, count: usize, m
 
 fn tables_of(columns: Columns, prefix: usize) -> Tables {
     let mut tables = Tables::new();
-    for (at, event) in columns.events(prefix).enumerate() {
+    for (at, event) in columns.threadless(prefix).enumerate() {
         tables.add(at, event);
     }
     tables
@@ -54,8 +54,8 @@ fn find_by(
     if prefix > count {
         return refuse(18, count);
     }
-    columns.validate(count)?;
-    let begun = columns.kinds[..prefix].iter().filter(|&&kind| kind == BEGIN).count();
+    columns.validate_events(store, count)?;
+    let begun = columns.begun(prefix);
     if begun > MOST {
         return refuse(31, count);
     }

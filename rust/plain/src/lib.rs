@@ -31,13 +31,13 @@ pub use tally::{tally, Tally};
 use accesses::Accesses;
 
 /// The transactions begun in the first `count` events.
-pub fn transactions(columns: Columns, count: usize) -> Result<usize, Refusal> {
-    columns.validate(count)?;
-    Ok(columns.kinds[..count].iter().filter(|&&kind| kind == columns::BEGIN).count())
+pub fn transactions(store: Store, columns: Columns, count: usize) -> Result<usize, Refusal> {
+    columns.validate(store, count)?;
+    Ok(columns.begun(count))
 }
 
 /// The store reads in the first `count` events.
-pub fn store_reads(columns: Columns, count: usize) -> Result<usize, Refusal> {
-    columns.validate(count)?;
+pub fn store_reads(store: Store, columns: Columns, count: usize) -> Result<usize, Refusal> {
+    columns.validate(store, count)?;
     Ok(Accesses::of(columns, count).store_reads.len())
 }

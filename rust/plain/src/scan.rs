@@ -31,11 +31,8 @@ pub fn scan_counting(store: Store, columns: Columns, count: usize) -> Result<Cou
     let mut tables = Tables::new();
     let mut witness: Vec<Place> = Vec::with_capacity(MOST);
     let (mut searches, mut placements) = (0, 0);
-    for (at, event) in columns.events(count).enumerate() {
-        let kept = carries(store, &tables, &witness, event);
-        if event.kind == BEGIN {
-            witness.push((usize::from(event.transaction), false));
-        }
+    for (at, event) in columns.threadless(count).enumerate() {
+        let kept = carry(store, &tables, &mut witness, event);
         tables.add(at, event);
         if kept {
             continue;
@@ -60,7 +57,7 @@ pub fn scan_by_trying_counting(store: Store, columns: Columns, count: usize, mos
     admit(store, columns, count)?;
     let mut tables = Tables::new();
     let (mut searches, mut placements) = (0, 0);
-    for (at, event) in columns.events(count).enumerate() {
+    for (at, event) in columns.threadless(count).enumerate() {
         tables.add(at, event);
         let found = lowest_by_trying_so_often(store.starts, &tables, most - placements);
         (searches, placements) = (searches + 1, placements + found.placements);
@@ -75,8 +72,8 @@ pub fn scan_by_trying_counting(store: Store, columns: Columns, count: usize, mos
 }
 
 fn admit(store: Store, columns: Columns, count: usize) -> Result<(), Refusal> {
-    columns.validate_over(store, count)?;
-    if columns.kinds[..count].iter().filter(|&&kind| kind == BEGIN).count() > MOST {
+    columns.validate(store, count)?;
+    if columns.begun(count) > MOST {
         return refuse(31, count);
     }
     Ok(())
@@ -84,7 +81,7 @@ fn admit(store: Store, columns: Columns, count: usize) -> Result<(), Refusal> {
 
 fn faulted(at: usize, event: Event) -> Scanned {
     let cause = match event.kind {
-        READ_RETURNED => 1,
+        READ_RETURNED | LONE_READ => 1,
         COMMITTED => 2,
         ABORTED => 3,
         _ => 4,
@@ -92,9 +89,13 @@ fn faulted(at: usize, event: Event) -> Scanned {
     Scanned::Faulted(at, cause)
 }
 
-/// Does an order that justifies the events in the tables justify this one too? One that begins comes last, aborted.
-fn carries(store: Store, tables: &Tables, witness: &[Place], event: Event) -> bool {
+/// Carries an order that justifies the events in the tables on to this one. Does it justify it too?
+fn carry(store: Store, tables: &Tables, witness: &mut Vec<Place>, event: Event) -> bool {
     let t = usize::from(event.transaction);
+    // One that has no place yet begins here. Its number tells that before the kinds are told apart, of which few begin.
+    if t == witness.len() {
+        return put_last(store, tables, witness, event);
+    }
     match event.kind {
         READ_RETURNED => seen(store, tables, witness, t, usize::from(event.register)) == event.value,
         COMMITTED => witness.contains(&(t, true)),
@@ -103,16 +104,29 @@ fn carries(store: Store, tables: &Tables, witness: &[Place], event: Event) -> bo
     }
 }
 
-/// What a transaction reads there: its own write, or that of the last committed before it, or the start value.
+/// One that begins comes last, aborted, and a lone access committed: a lone read must return what all the others leave.
+#[inline(never)] // it is asked once a transaction, and would crowd what is asked of every event
+fn put_last(store: Store, tables: &Tables, witness: &mut Vec<Place>, event: Event) -> bool {
+    let register = usize::from(event.register);
+    let fits = event.kind != LONE_READ || left(store, tables, witness.iter().rev(), register) == event.value;
+    witness.push((usize::from(event.transaction), event.kind != BEGIN));
+    fits
+}
+
+/// What a transaction reads there: its own write, or what those before it leave.
 fn seen(store: Store, tables: &Tables, witness: &[Place], t: usize, register: usize) -> u32 {
-    let written = |t: usize| {
-        let transaction = &tables.transactions[t];
-        (transaction.has_written >> register & 1 == 1).then_some(transaction.written[register])
-    };
-    if let Some(own) = written(t) {
-        return own;
-    }
     let before = witness.iter().rev().skip_while(|&&(other, _)| other != t).skip(1);
-    let mut writers = before.filter(|&&(_, committed)| committed).filter_map(|&(other, _)| written(other));
+    written(tables, t, register).unwrap_or_else(|| left(store, tables, before, register))
+}
+
+/// What these places, from the last to the first, leave there: the write of the last committed one, or the start value.
+fn left<'a>(store: Store, tables: &Tables, places: impl Iterator<Item = &'a Place>, register: usize) -> u32 {
+    let committed = places.filter(|&&(_, committed)| committed);
+    let mut writers = committed.filter_map(|&(t, _)| written(tables, t, register));
     writers.next().unwrap_or(store.starts[register])
+}
+
+fn written(tables: &Tables, t: usize, register: usize) -> Option<u32> {
+    let transaction = &tables.transactions[t];
+    (transaction.has_written >> register & 1 == 1).then_some(transaction.written[register])
 }

@@ -23,7 +23,7 @@ pub fn straighten(
     output: &mut [u8],
     list: &mut [u32],
 ) -> Result<Straightened, Refusal> {
-    columns.validate_over(store, count)?;
+    columns.validate(store, count)?;
     let accesses = Accesses::of(columns, count);
     let marking = read_marking(file, &accesses)?;
     if output.len() < file.len() || list.len() < accesses.store_reads.len() {

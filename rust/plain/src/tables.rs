@@ -19,6 +19,14 @@ pub struct Transaction {
     pub unwritten: [u32; REGISTERS],
 }
 
+impl Transaction {
+    fn write(&mut self, event: Event) {
+        self.has_written |= 1 << event.register;
+        self.written[usize::from(event.register)] = event.value;
+        self.unwritten[usize::from(event.register)] = 0;
+    }
+}
+
 pub struct Tables {
     pub transactions: Vec<Transaction>,
     /// The store reads, by event.
@@ -34,27 +42,12 @@ impl Tables {
     }
 
     pub fn add(&mut self, at: usize, event: Event) {
-        if event.kind == BEGIN {
-            self.transactions.push(Transaction {
-                after: self.ended,
-                may_abort: true,
-                may_commit: false,
-                has_read: 0,
-                read: [0; REGISTERS],
-                has_written: 0,
-                written: [0; REGISTERS],
-                unwritten: [u32::MAX; REGISTERS],
-            });
-            return;
-        }
-        let transaction = &mut self.transactions[usize::from(event.transaction)];
+        let Some(transaction) = self.transactions.get_mut(usize::from(event.transaction)) else {
+            return self.begin(at, event); // the first that is heard of it
+        };
         match event.kind {
             READ_RETURNED => self.add_read(at, event),
-            WRITE_CALLED => {
-                transaction.has_written |= 1 << event.register;
-                transaction.written[usize::from(event.register)] = event.value;
-                transaction.unwritten[usize::from(event.register)] = 0;
-            }
+            WRITE_CALLED => transaction.write(event),
             COMMIT_CALLED => transaction.may_commit = true,
             COMMITTED | ABORTED => {
                 transaction.may_commit = event.kind == COMMITTED;
@@ -62,6 +55,31 @@ impl Tables {
                 self.ended |= 1 << event.transaction;
             }
             _ => (),
+        }
+    }
+
+    /// A begin, or a lone access, which is committed at once.
+    #[inline(never)] // it is called once a transaction, and would crowd what is done at every event
+    fn begin(&mut self, at: usize, event: Event) {
+        let mut begun = Transaction {
+            after: self.ended,
+            may_abort: event.kind == BEGIN,
+            may_commit: event.kind != BEGIN,
+            has_read: 0,
+            read: [0; REGISTERS],
+            has_written: 0,
+            written: [0; REGISTERS],
+            unwritten: [u32::MAX; REGISTERS],
+        };
+        if event.kind == LONE_WRITE {
+            begun.write(event);
+        }
+        self.transactions.push(begun);
+        if event.kind == LONE_READ {
+            self.add_read(at, event);
+        }
+        if event.kind != BEGIN {
+            self.ended |= 1 << event.transaction;
         }
     }
 

@@ -1,6 +1,7 @@
 //! The tally.
 
 use crate::columns::*;
+use crate::store::Store;
 
 /// How many of the transactions begun have committed, were aborted, have called commit and got no answer, and have not ended either.
 #[derive(Clone, Copy, Debug, Default, PartialEq, Eq)]
@@ -12,8 +13,8 @@ pub struct Tally {
 }
 
 /// Tallies the transactions begun in the first `count` events. The latest event of each tells what has become of it.
-pub fn tally(columns: Columns, count: usize) -> Result<Tally, Refusal> {
-    columns.validate(count)?;
+pub fn tally(store: Store, columns: Columns, count: usize) -> Result<Tally, Refusal> {
+    columns.validate(store, count)?;
     let mut latest = [None; TRANSACTIONS];
     for (&kind, &transaction) in columns.kinds[..count].iter().zip(&columns.transactions[..count]) {
         latest[usize::from(transaction)] = Some(kind);
@@ -21,7 +22,7 @@ pub fn tally(columns: Columns, count: usize) -> Result<Tally, Refusal> {
     let mut tally = Tally::default();
     for kind in latest.into_iter().flatten() {
         match kind {
-            COMMITTED => tally.committed += 1,
+            COMMITTED | LONE_READ | LONE_WRITE => tally.committed += 1,
             ABORTED => tally.aborted += 1,
             COMMIT_CALLED => tally.pending += 1,
             _ => tally.live += 1,

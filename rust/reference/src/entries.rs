@@ -46,7 +46,7 @@ pub fn read(file: &[u8], starts: &mut [u32; REGISTERS], columns: &mut Columns) -
 
 /// Writes columns as a file.
 pub fn write(store: &Store, columns: &Columns, count: usize, output: &mut [u8]) -> Answer {
-    answer(stored_history(store, columns, count).and_then(|events| {
+    answer(history(store, columns, count).and_then(|events| {
         let file = history_file::write(store, &events);
         if output.len() < file.len() {
             return refuse(15, count);
@@ -58,11 +58,11 @@ pub fn write(store: &Store, columns: &Columns, count: usize, output: &mut [u8]) 
 
 /// The lowest justification of a prefix, as a marking.
 pub fn find(store: &Store, columns: &Columns, count: usize, prefix: usize, output: &mut [u8]) -> Answer {
-    answer(holds_over(store, columns, count).and_then(|()| {
+    answer(holds(store, columns, count).and_then(|()| {
         if prefix > count {
             return refuse(18, count);
         }
-        let events = history(columns, count)?;
+        let events = history(store, columns, count)?;
         let judged = &events[..prefix];
         let transactions = reads::transactions(judged);
         if transactions > MOST_JUDGED {
@@ -82,7 +82,7 @@ pub fn find(store: &Store, columns: &Columns, count: usize, prefix: usize, outpu
 
 /// Judges every prefix.
 pub fn scan(store: &Store, columns: &Columns, count: usize) -> Answer {
-    answer(stored_history(store, columns, count).and_then(|events| {
+    answer(history(store, columns, count).and_then(|events| {
         if reads::transactions(&events) > MOST_JUDGED {
             return refuse(31, count);
         }
@@ -95,7 +95,7 @@ pub fn scan(store: &Store, columns: &Columns, count: usize) -> Answer {
 
 /// Checks a marking of the history.
 pub fn check(store: &Store, columns: &Columns, count: usize, file: &[u8]) -> Answer {
-    answer(stored_history(store, columns, count).and_then(|events| {
+    answer(history(store, columns, count).and_then(|events| {
         let marking = Marking::read(&events, file)?;
         Ok(match verdict(store, &events, &marking) {
             Verdict::Accepted => (0, 0),
@@ -106,7 +106,7 @@ pub fn check(store: &Store, columns: &Columns, count: usize, file: &[u8]) -> Ans
 
 /// Straightens the read points of a marking of the history, and lists the events of those that were moved.
 pub fn straighten(store: &Store, columns: &Columns, count: usize, file: &[u8], output: &mut [u8], list: &mut [u32]) -> Answer {
-    answer(stored_history(store, columns, count).and_then(|events| {
+    answer(history(store, columns, count).and_then(|events| {
         let marking = Marking::read(&events, file)?;
         if output.len() < file.len() || list.len() < reads::store_reads(&events).count() {
             return refuse(15, count);
@@ -123,18 +123,18 @@ pub fn straighten(store: &Store, columns: &Columns, count: usize, file: &[u8], o
 }
 
 /// Counts the transactions begun.
-pub fn transactions(columns: &Columns, count: usize) -> Answer {
-    answer(history(columns, count).map(|events| (0, reads::transactions(&events))))
+pub fn transactions(store: &Store, columns: &Columns, count: usize) -> Answer {
+    answer(history(store, columns, count).map(|events| (0, reads::transactions(&events))))
 }
 
 /// Counts the store reads.
-pub fn store_reads(columns: &Columns, count: usize) -> Answer {
-    answer(history(columns, count).map(|events| (0, reads::store_reads(&events).count())))
+pub fn store_reads(store: &Store, columns: &Columns, count: usize) -> Answer {
+    answer(history(store, columns, count).map(|events| (0, reads::store_reads(&events).count())))
 }
 
 /// Tallies the transactions begun.
-pub fn tally(columns: &Columns, count: usize) -> Answer {
-    answer(history(columns, count).map(|events| {
+pub fn tally(store: &Store, columns: &Columns, count: usize) -> Answer {
+    answer(history(store, columns, count).map(|events| {
         let Tally { committed, aborted, pending, live } = tally::tally(&events);
         (0, committed * 16_777_216 + aborted * 65_536 + pending * 256 + live)
     }))
@@ -152,17 +152,11 @@ fn broken(rule: Rule, event: usize, transaction: u16) -> (u32, usize) {
     (code, event * 65_536 + usize::from(transaction))
 }
 
-/// Question 17.
-fn holds(columns: &Columns, count: usize) -> Result<(), Refusal> {
-    match columns.hold(count) {
-        true => Ok(()),
-        false => refuse(17, count),
-    }
-}
-
 /// Questions 17 and 3.
-fn holds_over(store: &Store, columns: &Columns, count: usize) -> Result<(), Refusal> {
-    holds(columns, count)?;
+fn holds(store: &Store, columns: &Columns, count: usize) -> Result<(), Refusal> {
+    if !columns.hold(count) {
+        return refuse(17, count);
+    }
     match store.is_admitted() {
         true => Ok(()),
         false => refuse(3, count),
@@ -170,18 +164,12 @@ fn holds_over(store: &Store, columns: &Columns, count: usize) -> Result<(), Refu
 }
 
 /// The events of columns over a store, by questions 17 and 3 and each event's own.
-fn stored_history(store: &Store, columns: &Columns, count: usize) -> Result<Vec<Event>, Refusal> {
-    holds_over(store, columns, count)?;
-    history(columns, count)
-}
-
-/// The events of columns, by question 17 and each event's own.
-pub fn history(columns: &Columns, count: usize) -> Result<Vec<Event>, Refusal> {
-    holds(columns, count)?;
+pub fn history(store: &Store, columns: &Columns, count: usize) -> Result<Vec<Event>, Refusal> {
+    holds(store, columns, count)?;
     let mut events = Vec::new();
     for at in 0..count {
         let event = columns.event(at);
-        if let Some(number) = refused_in_columns(&events, &event) {
+        if let Some(number) = refused_in_columns(store.edition, &events, &event) {
             return refuse(number, at);
         }
         events.push(event);

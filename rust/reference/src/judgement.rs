@@ -36,7 +36,7 @@ pub fn scan(store: &Store, history: &[Event]) -> Scanned {
 
 fn cause(kind: u16) -> u8 {
     match kind {
-        READ_RETURNED => 1,
+        READ_RETURNED | LONE_READ => 1,
         COMMITTED => 2,
         ABORTED => 3,
         _ => 4,

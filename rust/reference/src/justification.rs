@@ -18,18 +18,18 @@ pub struct Place {
     pub outcome: Outcome,
 }
 
-/// Did the first transaction end before the second began?
+/// Did the first transaction end before the second began? A lone access does both at its event.
 pub fn precedes(history: &[Event], first: u16, second: u16) -> bool {
     let end = history.iter().position(|e| e.is_end() && e.transaction == first);
-    let begin = history.iter().position(|e| e.kind == BEGIN && e.transaction == second);
+    let begin = history.iter().position(|e| e.is_begin() && e.transaction == second);
     matches!((end, begin), (Some(end), Some(begin)) if end < begin)
 }
 
-/// The recorded outcome, free after a commit called and unanswered, aborted for others not ended.
+/// The recorded outcome, which is committed for a lone access; free after a commit called and unanswered, aborted for others not ended.
 pub fn is_allowed(history: &[Event], place: Place) -> bool {
     let latest = history.iter().rev().find(|e| e.transaction == place.transaction);
     match latest.map(|e| e.kind) {
-        Some(COMMITTED) => place.outcome == Outcome::Committed,
+        Some(COMMITTED | LONE_READ | LONE_WRITE) => place.outcome == Outcome::Committed,
         Some(COMMIT_CALLED) => true,
         _ => place.outcome == Outcome::Aborted,
     }

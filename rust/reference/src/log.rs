@@ -23,24 +23,41 @@ impl Log {
     }
 
     /// Adds an event as it stands.
-    pub fn event(mut self, kind: u16, transaction: u16, register: u16, value: u32) -> Log {
-        self.events.push(Event { kind, transaction, register, value });
+    pub fn event(mut self, kind: u16, transaction: u16, register: u16, value: u32, thread: u16) -> Log {
+        self.events.push(Event { kind, transaction, register, value, thread });
         self
+    }
+
+    /// Adds an event of a kind that has no thread.
+    fn within(self, kind: u16, transaction: u16, register: u16, value: u32) -> Log {
+        self.event(kind, transaction, register, value, 0)
     }
 
     /// Begins the next transaction.
     pub fn begin(self, thread: u16) -> Log {
         let next = begins(&self.events) as u16;
-        self.event(BEGIN, next, thread, 0)
+        self.event(BEGIN, next, 0, 0, thread)
+    }
+
+    /// The next transaction is a lone read.
+    pub fn lone_read(self, thread: u16, register: u16, value: u32) -> Log {
+        let next = begins(&self.events) as u16;
+        self.event(LONE_READ, next, register, value, thread)
+    }
+
+    /// The next transaction is a lone write.
+    pub fn lone_write(self, thread: u16, register: u16, value: u32) -> Log {
+        let next = begins(&self.events) as u16;
+        self.event(LONE_WRITE, next, register, value, thread)
     }
 
     pub fn read_called(self, transaction: u16, register: u16) -> Log {
-        self.event(READ_CALLED, transaction, register, 0)
+        self.within(READ_CALLED, transaction, register, 0)
     }
 
     pub fn read_returned(self, transaction: u16, value: u32) -> Log {
         let register = pending(&self.events, transaction).map_or(0, |call| call.register);
-        self.event(READ_RETURNED, transaction, register, value)
+        self.within(READ_RETURNED, transaction, register, value)
     }
 
     /// A read, called and returned.
@@ -49,11 +66,11 @@ impl Log {
     }
 
     pub fn write_called(self, transaction: u16, register: u16, value: u32) -> Log {
-        self.event(WRITE_CALLED, transaction, register, value)
+        self.within(WRITE_CALLED, transaction, register, value)
     }
 
     pub fn write_returned(self, transaction: u16) -> Log {
-        self.event(WRITE_RETURNED, transaction, 0, 0)
+        self.within(WRITE_RETURNED, transaction, 0, 0)
     }
 
     /// A write, called and returned.
@@ -62,11 +79,11 @@ impl Log {
     }
 
     pub fn commit_called(self, transaction: u16) -> Log {
-        self.event(COMMIT_CALLED, transaction, 0, 0)
+        self.within(COMMIT_CALLED, transaction, 0, 0)
     }
 
     pub fn committed(self, transaction: u16) -> Log {
-        self.event(COMMITTED, transaction, 0, 0)
+        self.within(COMMITTED, transaction, 0, 0)
     }
 
     /// A commit, called and answered.
@@ -75,7 +92,7 @@ impl Log {
     }
 
     pub fn aborted(self, transaction: u16) -> Log {
-        self.event(ABORTED, transaction, 0, 0)
+        self.within(ABORTED, transaction, 0, 0)
     }
 
     /// The paper's H0.

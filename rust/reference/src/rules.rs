@@ -30,7 +30,7 @@ pub fn verdict(store: &Store, history: &[Event], marking: &Marking) -> Verdict {
         return Verdict::Broken { rule: Rule::A, event: last, transaction: t };
     }
     if let Some(t) = all.clone().find(|&t| all.clone().any(|u| is_placed_too_early(history, order, t, u))) {
-        let begin = history.iter().position(|e| e.kind == BEGIN && e.transaction == t).expect("a transaction begins");
+        let begin = history.iter().position(|e| e.is_begin() && e.transaction == t).expect("a transaction begins");
         return Verdict::Broken { rule: Rule::B, event: begin, transaction: t };
     }
     let wrong_own = own_reads(history).find(|&read| !own_read_is_right(history, read));

@@ -15,7 +15,7 @@ pub struct Tally {
 /// Counts the transactions of each kind.
 pub fn tally(history: &[Event]) -> Tally {
     let count = |is: fn(&[Event], u16) -> bool| {
-        let begun = history.iter().filter(|e| e.kind == BEGIN);
+        let begun = history.iter().filter(|e| e.is_begin());
         begun.filter(|e| is(history, e.transaction)).count()
     };
     Tally { committed: count(is_committed), aborted: count(is_aborted), pending: count(is_pending), live: count(is_live) }
@@ -26,8 +26,9 @@ fn has(history: &[Event], transaction: u16, kind: u16) -> bool {
     history.iter().any(|e| e.kind == kind && e.transaction == transaction)
 }
 
+/// Was its commit answered, or is it a lone access?
 fn is_committed(history: &[Event], transaction: u16) -> bool {
-    has(history, transaction, COMMITTED)
+    history.iter().any(|e| e.is_commit() && e.transaction == transaction)
 }
 
 fn is_aborted(history: &[Event], transaction: u16) -> bool {

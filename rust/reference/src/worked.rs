@@ -1,6 +1,7 @@
 //! The histories of the paper and of its sources with what each call must answer: one list, which the tests put to this crate and to
 //! the library alike.
 
+mod lone;
 mod starts;
 
 use crate::entries::{Answer, NONE};
@@ -8,6 +9,7 @@ use crate::history_file;
 use crate::justification::{Outcome, Place};
 use crate::log::Log;
 use crate::marking_file::{Marking, Point};
+use crate::record::record;
 use crate::store::{Store, REGISTERS};
 use Outcome::{Aborted, Committed};
 
@@ -91,6 +93,19 @@ fn is_read(name: &str, file: Vec<u8>, store: Store, count: u32) -> Worked {
     Worked { starts: Some(store.starts), ..worked(name, Call::Read(file), 0, place) }
 }
 
+/// A file that is read, and written back as it was.
+fn read_and_written(name: &str, file: Vec<u8>, log: Log) -> [Worked; 2] {
+    let (count, length) = (log.events.len() as u32, file.len() as u32);
+    let read = is_read(name, file.clone(), log.store, count);
+    [read, Worked { output: Some(file), ..worked(name, Call::Write(log), 0, length) }]
+}
+
+/// The finder's marking of a whole history.
+fn lowest(name: &str, log: &Log, file: Vec<u8>) -> Worked {
+    let length = file.len() as u32;
+    Worked { output: Some(file), ..worked(name, find(log), 0, length) }
+}
+
 /// A marking that is straightened: what is written, and the events whose points are moved.
 fn straightened(name: &str, log: &Log, file: Vec<u8>, straight: Vec<u8>, moved: &[u32]) -> Worked {
     let place = moved.len() as u32 * 65_536 + straight.len() as u32;
@@ -129,6 +144,11 @@ fn file(log: &Log) -> Vec<u8> {
     history_file::write(&log.store, &log.events)
 }
 
+/// A head of this edition and these records.
+fn file_of(edition: u16, records: &[&[u8]]) -> Vec<u8> {
+    [&record(history_file::HEAD, &edition.to_le_bytes())[..], &records.concat()].concat()
+}
+
 /// The bytes of a marking with these places and points.
 pub fn marking(places: &[(u16, Outcome)], points: &[(u32, u16)]) -> Vec<u8> {
     let place = |&(transaction, outcome)| Place { transaction, outcome };
@@ -144,7 +164,7 @@ pub fn h0_marking() -> Vec<u8> {
 
 /// Every example.
 pub fn all() -> Vec<Worked> {
-    [starred(), straightenings(), tallies(), limits(), sources(), starts::all()].concat()
+    [starred(), straightenings(), tallies(), limits(), sources(), starts::all(), lone::all()].concat()
 }
 
 /// The starred histories of the paper, in its order.

@@ -1,7 +1,7 @@
 //! The captures under `examples/captures`: the bytes of each, and the report on it. With SENDOSHI_WRITE_CAPTURES set, the test writes
 //! the files instead of comparing them.
 
-use reference::event::BEGIN;
+use reference::event::{BEGIN, LONE_READ};
 use reference::history_file::{self, start_record};
 use reference::justification::Outcome::{Aborted, Committed};
 use reference::log::Log;
@@ -89,6 +89,149 @@ fn starts() -> Vec<Capture> {
     ]
 }
 
+/// Register 3 starts with 9; T0 writes 5 to it and calls commit.
+fn unanswered() -> Log {
+    Log::starting(&[(3, 9)]).begin(0).write(0, 3, 5).commit_called(0)
+}
+
+/// T0 begins, T1 writes 5 to register 3, which started with 9, and T0 reads this value.
+fn lone_write_beside(value: u32) -> Log {
+    Log::starting(&[(3, 9)]).begin(0).lone_write(1, 3, 5).read(0, 3, value)
+}
+
+/// T0 reads 9 before T1 writes 5, and this value after it.
+fn lone_write_between(value: u32) -> Log {
+    Log::starting(&[(3, 9)]).begin(0).read(0, 3, 9).lone_write(1, 3, 5).read(0, 3, value)
+}
+
+/// Lone reads.
+fn lone_reads() -> Vec<Capture> {
+    let alone = Log::starting(&[(3, 9)]).lone_read(0, 3, 9);
+    let pending = unanswered().lone_read(1, 3, 5);
+    let new_old = pending.clone().lone_read(1, 3, 9);
+    // The writer's value at gap 2, where the second lone read would have found it.
+    let three = marking(&[(0, Committed), (1, Committed), (2, Committed)], &[(4, 1), (5, 2)]);
+    vec![
+        capture(
+            "lone-read-start",
+            &alone,
+            Some(marking(&[(0, Committed)], &[(0, 0)])),
+            ["events 1 transactions 1 reads 1", "committed 1 aborted 0 pending 0 live 0", "marking accepted", "opaque yes"],
+        ),
+        capture(
+            "lone-pending",
+            &pending,
+            Some(marking(&[(0, Committed), (1, Committed)], &[(4, 1)])),
+            ["events 5 transactions 2 reads 1", "committed 1 aborted 0 pending 1 live 0", "marking accepted", "opaque yes"],
+        ),
+        capture(
+            "lone-new-old",
+            &new_old,
+            Some(three),
+            [
+                "events 6 transactions 3 reads 2",
+                "committed 2 aborted 0 pending 1 live 0",
+                "marking rule E event 5 transaction 2",
+                "opaque no event 5 cause 1",
+            ],
+        ),
+    ]
+}
+
+/// Lone writes beside a transaction that reads, and both kinds beside transactions in every state.
+fn lone_writes() -> Vec<Capture> {
+    let writer_first = |points: &[(u32, u16)]| Some(marking(&[(1, Committed), (0, Aborted)], points));
+    let reader_first = |points: &[(u32, u16)]| Some(marking(&[(0, Aborted), (1, Committed)], points));
+    let (two, tally) = ("events 6 transactions 2 reads 2", "committed 1 aborted 0 pending 0 live 1");
+    let wrong = "marking rule E event 2 transaction 0";
+    // T0 is a lone read and T2 a lone write; T1 is live, T3's commit waits, and T4 is withdrawn.
+    let all = Log::starting(&[(3, 9)]).lone_read(0, 3, 9).begin(0).lone_write(1, 3, 5);
+    let all = all.begin(1).commit_called(3).begin(2).aborted(4);
+    let by_number = [(0, Committed), (1, Aborted), (2, Committed), (3, Aborted), (4, Aborted)];
+    vec![
+        capture(
+            "lone-write-live",
+            &lone_write_beside(5),
+            writer_first(&[(3, 1)]),
+            ["events 4 transactions 2 reads 1", tally, "marking accepted", "opaque yes"],
+        ),
+        capture(
+            "lone-between",
+            &lone_write_between(9),
+            reader_first(&[(2, 0), (5, 0)]),
+            [two, tally, "marking accepted", "opaque yes"],
+        ),
+        capture(
+            "lone-between-torn",
+            &lone_write_between(5),
+            writer_first(&[(2, 1), (5, 1)]),
+            [two, tally, wrong, "opaque no event 5 cause 1"],
+        ),
+        capture(
+            "lone-tally",
+            &all,
+            Some(marking(&by_number, &[(0, 0)])),
+            ["events 7 transactions 5 reads 1", "committed 2 aborted 1 pending 1 live 1", "marking accepted", "opaque yes"],
+        ),
+    ]
+}
+
+/// Rules that name a lone access.
+fn lone_rules() -> Vec<Capture> {
+    let old = unanswered().lone_read(1, 3, 9);
+    // The writer has committed before a lone read of 9, which stands at the end.
+    let at_gap = |gap| Some(marking(&[(0, Committed), (1, Committed)], &[(4, gap)]));
+    let (old_counts, old_tally) = ("events 5 transactions 2 reads 1", "committed 1 aborted 0 pending 1 live 0");
+    let pair = Log::starting(&[(3, 9)]).lone_write(0, 3, 5).lone_read(0, 3, 5);
+    let aborted = marking(&[(0, Aborted), (1, Aborted)], &[(3, 0)]);
+    let reversed = marking(&[(1, Committed), (0, Committed)], &[(1, 2)]);
+    let (rule_d, rule_e) = ("marking rule D event 4 transaction 1", "marking rule E event 4 transaction 1");
+    vec![
+        capture("lone-gap-d", &old, at_gap(0), [old_counts, old_tally, rule_d, "opaque yes"]),
+        capture("lone-gap-e", &old, at_gap(1), [old_counts, old_tally, rule_e, "opaque yes"]),
+        capture(
+            "lone-outcome",
+            &lone_write_beside(9),
+            Some(aborted),
+            [
+                "events 4 transactions 2 reads 1",
+                "committed 1 aborted 0 pending 0 live 1",
+                "marking rule A event 1 transaction 1",
+                "opaque yes",
+            ],
+        ),
+        capture(
+            "lone-real-time",
+            &pair,
+            Some(reversed),
+            [
+                "events 2 transactions 2 reads 1",
+                "committed 2 aborted 0 pending 0 live 0",
+                "marking rule B event 1 transaction 1",
+                "opaque yes",
+            ],
+        ),
+    ]
+}
+
+/// Files with a lone access that are refused.
+fn lone_refused() -> Vec<Capture> {
+    let lone_read = record(LONE_READ, &[0, 0, 0, 0, 3, 0, 9, 0, 0, 0]); // T0 on thread 0 reads 9 in register 3
+    let file = |edition: u16, records: &[&[u8]]| Some([record(1, &edition.to_le_bytes()), records.concat()].concat());
+    let busy = Log::starting(&[(3, 9)]).begin(5).lone_read(5, 3, 9);
+    let busy = Some(history_file::write(&busy.store, &busy.events));
+    vec![
+        refused("lone-busy-thread", busy, None, "history refused 10 byte 24"),
+        refused("lone-in-edition-1", file(1, &[&lone_read]), None, "history refused 4 byte 6"),
+        refused("lone-start-late", file(2, &[&lone_read, &start_record(3, 9)]), None, "history refused 43 byte 20"),
+    ]
+}
+
+/// Accesses outside transactions.
+fn lone() -> Vec<Capture> {
+    lone_reads().into_iter().chain(lone_writes()).chain(lone_rules()).chain(lone_refused()).collect()
+}
+
 fn captures() -> Vec<Capture> {
     let head = vec![4, 0, 2, 0, 1, 0];
     let gap_2 = marking(&[(1, Aborted), (0, Committed)], &[(5, 0), (9, 2)]);
@@ -155,7 +298,7 @@ fn reports_count_what_the_events_say() {
 #[test]
 fn captures_have_their_bytes_and_their_report() {
     let top = top();
-    for capture in captures().into_iter().chain(starts()) {
+    for capture in captures().into_iter().chain(starts()).chain(lone()) {
         let bytes = |file: &Option<Vec<u8>>| file.clone().unwrap_or_default();
         assert_eq!(report(&bytes(&capture.history), &bytes(&capture.marking)), capture.report, "{}", capture.name);
         let files = [

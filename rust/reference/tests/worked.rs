@@ -17,7 +17,7 @@ fn answered(call: &Call) -> (Answer, Buffers) {
     let columns = |log: &Log| Columns::of(&log.events);
     let answer = match call {
         Call::Read(file) => {
-            let mut columns = Columns::of(&[Event { kind: 0, transaction: 0, register: 0, value: 0 }; 2_048]);
+            let mut columns = Columns::of(&[Event { kind: 0, transaction: 0, register: 0, value: 0, thread: 0 }; 2_048]);
             entries::read(file, starts, &mut columns)
         }
         Call::Write(log) => entries::write(&log.store, &columns(log), log.events.len(), output),
@@ -25,7 +25,7 @@ fn answered(call: &Call) -> (Answer, Buffers) {
         Call::Find(log) => entries::find(&log.store, &columns(log), log.events.len(), log.events.len(), output),
         Call::Check(log, file) => entries::check(&log.store, &columns(log), log.events.len(), file),
         Call::Straighten(log, file) => entries::straighten(&log.store, &columns(log), log.events.len(), file, output, moved),
-        Call::Tally(log) => entries::tally(&columns(log), log.events.len()),
+        Call::Tally(log) => entries::tally(&log.store, &columns(log), log.events.len()),
     };
     (answer, buffers)
 }
@@ -46,8 +46,9 @@ fn h0_is_the_papers() {
     let columns = Columns::of(&events);
     assert_eq!(columns.kinds, [16, 19, 20, 16, 17, 18, 21, 22, 17, 18]);
     assert_eq!(columns.transactions, [0, 0, 0, 1, 1, 1, 0, 0, 1, 1]);
-    assert_eq!(columns.registers, [0, 3, 0, 1, 3, 3, 0, 0, 3, 3]);
+    assert_eq!(columns.registers, [0, 3, 0, 0, 3, 3, 0, 0, 3, 3]);
     assert_eq!(columns.values, [0, 7, 0, 0, 0, 0, 0, 0, 0, 0]);
+    assert_eq!(columns.threads, [0, 0, 0, 1, 0, 0, 0, 0, 0, 0]);
     let file = history_file::write(&Store::ZERO, &events);
     assert_eq!(file.len(), 88);
     assert_eq!(history_file::read(&file), Ok((Store::ZERO, events)));

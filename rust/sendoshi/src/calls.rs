@@ -6,26 +6,28 @@
 use crate::answer::Answer;
 use crate::ffi;
 
-/// The four columns of a history, one entry an event. They may be longer than the count that is given beside them.
+/// The five columns of a history, one entry an event. They may be longer than the count that is given beside them.
 #[derive(Clone, Copy, Debug, PartialEq, Eq)]
 pub struct Columns<'a> {
     pub kinds: &'a [u16],
     pub transactions: &'a [u16],
     pub registers: &'a [u16],
     pub values: &'a [u32],
+    pub threads: &'a [u16],
 }
 
-/// The four columns that the reader fills.
+/// The five columns that the reader fills.
 #[derive(Debug, PartialEq, Eq)]
 pub struct ColumnsMut<'a> {
     pub kinds: &'a mut [u16],
     pub transactions: &'a mut [u16],
     pub registers: &'a mut [u16],
     pub values: &'a mut [u32],
+    pub threads: &'a mut [u16],
 }
 
-/// The store that a history finds: its edition, and what stands in each register before any writer. Any numbers may stand here; what
-/// is neither edition 1 with zeros nor edition 2 is refused by the calls that are told of it.
+/// The store that a history finds: its edition, and what stands in each register before any writer. Any numbers may stand here; every
+/// call refuses what is neither edition 1 with zeros nor edition 2.
 #[derive(Clone, Copy, Debug, PartialEq, Eq)]
 pub struct Store<'a> {
     pub edition: u16,
@@ -37,15 +39,15 @@ impl Store<'static> {
     pub const ZERO: Store<'static> = Store { edition: 1, starts: &[0; 32] };
 }
 
-/// Calls a function whose first parameters are the four columns.
-macro_rules! with_columns {
-    ($function:ident, $columns:expr, $($rest:expr),+) => { with_columns!($function [] $columns, $($rest),+) };
-    ($function:ident [$($first:expr),*] $columns:expr, $($rest:expr),+) => {{
-        let c = $columns;
+/// Calls a function whose first parameters are the edition, the start values and the five columns.
+macro_rules! with_store {
+    ($function:ident, $store:expr, $columns:expr, $($rest:expr),+) => {{
+        let (store, c) = ($store, $columns);
         // SAFETY: pointers and lengths are those of slices that live through the call; the borrows keep written ones apart.
         let answer = unsafe {
             ffi::$function(
-                $($first,)*
+                store.edition,
+                store.starts,
                 c.kinds.as_ptr(),
                 c.kinds.len(),
                 c.transactions.as_ptr(),
@@ -54,6 +56,8 @@ macro_rules! with_columns {
                 c.registers.len(),
                 c.values.as_ptr(),
                 c.values.len(),
+                c.threads.as_ptr(),
+                c.threads.len(),
                 $($rest),+
             )
         };
@@ -61,16 +65,9 @@ macro_rules! with_columns {
     }};
 }
 
-/// Calls a function whose first parameters are the edition, the start values and the four columns.
-macro_rules! with_store {
-    ($function:ident, $store:expr, $columns:expr, $($rest:expr),+) => {
-        with_columns!($function [$store.edition, $store.starts] $columns, $($rest),+)
-    };
-}
-
 /// Reads a history file into the start values and the columns. Code 0: the edition and the event count ([`Answer::halves`]).
 pub fn read(file: &[u8], starts: &mut [u32; 32], columns: ColumnsMut) -> Answer {
-    // SAFETY: as in `with_columns`.
+    // SAFETY: as in `with_store`.
     let answer = unsafe {
         ffi::sendoshi_read(
             file.as_ptr(),
@@ -84,6 +81,8 @@ pub fn read(file: &[u8], starts: &mut [u32; 32], columns: ColumnsMut) -> Answer 
             columns.registers.len(),
             columns.values.as_mut_ptr(),
             columns.values.len(),
+            columns.threads.as_mut_ptr(),
+            columns.threads.len(),
         )
     };
     Answer::of(answer)
@@ -126,18 +125,18 @@ pub fn straighten(store: Store, columns: Columns, count: u32, file: &[u8], outpu
     )
 }
 
-/// Counts the transactions begun in the first `count` events.
-pub fn transactions(columns: Columns, count: u32) -> Answer {
-    with_columns!(sendoshi_transactions, columns, count)
+/// Counts the transactions begun in the first `count` events, lone accesses among them.
+pub fn transactions(store: Store, columns: Columns, count: u32) -> Answer {
+    with_store!(sendoshi_transactions, store, columns, count)
 }
 
-/// Counts the store reads in the first `count` events.
-pub fn store_reads(columns: Columns, count: u32) -> Answer {
-    with_columns!(sendoshi_store_reads, columns, count)
+/// Counts the store reads in the first `count` events, lone reads among them.
+pub fn store_reads(store: Store, columns: Columns, count: u32) -> Answer {
+    with_store!(sendoshi_store_reads, store, columns, count)
 }
 
 /// Tallies the transactions begun in the first `count` events. Code 0: how many committed, were aborted, are pending and are live
 /// ([`Answer::quarters`]).
-pub fn tally(columns: Columns, count: u32) -> Answer {
-    with_columns!(sendoshi_tally, columns, count)
+pub fn tally(store: Store, columns: Columns, count: u32) -> Answer {
+    with_store!(sendoshi_tally, store, columns, count)
 }

@@ -1,4 +1,4 @@
-//! The library's functions as version 3 of `include/sendoshi.h` declares them. A slice is passed as a pointer and a length, the 32
+//! The library's functions as version 4 of `include/sendoshi.h` declares them. A slice is passed as a pointer and a length, the 32
 //! start values as one pointer.
 //!
 //! Each answers code × 2^32 + place. They have no condition on numbers or contents. What they cannot test, and a caller must see
@@ -18,6 +18,8 @@ extern "C" {
         registers_length: usize,
         values: *mut u32,
         values_length: usize,
+        threads: *mut u16,
+        threads_length: usize,
     ) -> u64;
 
     pub fn sendoshi_write(
@@ -31,6 +33,8 @@ extern "C" {
         registers_length: usize,
         values: *const u32,
         values_length: usize,
+        threads: *const u16,
+        threads_length: usize,
         count: u32,
         output: *mut u8,
         output_length: usize,
@@ -47,6 +51,8 @@ extern "C" {
         registers_length: usize,
         values: *const u32,
         values_length: usize,
+        threads: *const u16,
+        threads_length: usize,
         count: u32,
         prefix: u32,
         output: *mut u8,
@@ -64,6 +70,8 @@ extern "C" {
         registers_length: usize,
         values: *const u32,
         values_length: usize,
+        threads: *const u16,
+        threads_length: usize,
         count: u32,
     ) -> u64;
 
@@ -78,6 +86,8 @@ extern "C" {
         registers_length: usize,
         values: *const u32,
         values_length: usize,
+        threads: *const u16,
+        threads_length: usize,
         count: u32,
         file: *const u8,
         file_length: usize,
@@ -94,6 +104,8 @@ extern "C" {
         registers_length: usize,
         values: *const u32,
         values_length: usize,
+        threads: *const u16,
+        threads_length: usize,
         count: u32,
         file: *const u8,
         file_length: usize,
@@ -104,6 +116,8 @@ extern "C" {
     ) -> u64;
 
     pub fn sendoshi_transactions(
+        edition: u16,
+        starts: *const [u32; 32],
         kinds: *const u16,
         kinds_length: usize,
         transactions: *const u16,
@@ -112,10 +126,14 @@ extern "C" {
         registers_length: usize,
         values: *const u32,
         values_length: usize,
+        threads: *const u16,
+        threads_length: usize,
         count: u32,
     ) -> u64;
 
     pub fn sendoshi_store_reads(
+        edition: u16,
+        starts: *const [u32; 32],
         kinds: *const u16,
         kinds_length: usize,
         transactions: *const u16,
@@ -124,10 +142,14 @@ extern "C" {
         registers_length: usize,
         values: *const u32,
         values_length: usize,
+        threads: *const u16,
+        threads_length: usize,
         count: u32,
     ) -> u64;
 
     pub fn sendoshi_tally(
+        edition: u16,
+        starts: *const [u32; 32],
         kinds: *const u16,
         kinds_length: usize,
         transactions: *const u16,
@@ -136,6 +158,8 @@ extern "C" {
         registers_length: usize,
         values: *const u32,
         values_length: usize,
+        threads: *const u16,
+        threads_length: usize,
         count: u32,
     ) -> u64;
 }

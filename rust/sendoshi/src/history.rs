@@ -22,8 +22,9 @@ const REGISTERS: usize = 32;
 /// let history = History::from_columns(Columns {
 ///     kinds: &[16, 19, 20, 16, 17, 18, 21, 22, 17, 18],
 ///     transactions: &[0, 0, 0, 1, 1, 1, 0, 0, 1, 1],
-///     registers: &[0, 3, 0, 1, 3, 3, 0, 0, 3, 3],
+///     registers: &[0, 3, 0, 0, 3, 3, 0, 0, 3, 3],
 ///     values: &[0, 7, 0, 0, 0, 0, 0, 0, 0, 0],
+///     threads: &[0, 0, 0, 1, 0, 0, 0, 0, 0, 0],
 /// })?;
 /// assert_eq!(history.to_bytes().len(), 88);
 /// assert_eq!(History::read(&history.to_bytes())?, history);
@@ -40,6 +41,7 @@ pub struct History {
     transactions: Vec<u16>,
     registers: Vec<u16>,
     values: Vec<u32>,
+    threads: Vec<u16>,
 }
 
 impl History {
@@ -60,12 +62,14 @@ impl History {
             transactions: vec![0; MOST_EVENTS],
             registers: vec![0; MOST_EVENTS],
             values: vec![0; MOST_EVENTS],
+            threads: vec![0; MOST_EVENTS],
         };
         let columns = ColumnsMut {
             kinds: &mut history.kinds,
             transactions: &mut history.transactions,
             registers: &mut history.registers,
             values: &mut history.values,
+            threads: &mut history.threads,
         };
         let answer = calls::read(file, &mut history.starts, columns);
         answer.done(Place::Byte)?;
@@ -75,6 +79,7 @@ impl History {
         history.transactions.truncate(count);
         history.registers.truncate(count);
         history.values.truncate(count);
+        history.threads.truncate(count);
         Ok(history)
     }
 
@@ -84,7 +89,8 @@ impl History {
         History::over(Store::ZERO, columns)
     }
 
-    /// The same in edition 2: each register starts with its value.
+    /// The same in edition 2: each register starts with its value, and there may be accesses outside transactions, which are of
+    /// kinds 24 and 25.
     ///
     /// ```
     /// use sendoshi::{Cause, Columns, History, Scan};
@@ -92,7 +98,13 @@ impl History {
     /// // Register 3 held 9 when recording began, and T0 reads it.
     /// let mut starts = [0; 32];
     /// starts[3] = 9;
-    /// let columns = Columns { kinds: &[16, 17, 18], transactions: &[0; 3], registers: &[0, 3, 3], values: &[0, 0, 9] };
+    /// let columns = Columns {
+    ///     kinds: &[16, 17, 18],
+    ///     transactions: &[0; 3],
+    ///     registers: &[0, 3, 3],
+    ///     values: &[0, 0, 9],
+    ///     threads: &[0; 3],
+    /// };
     /// let history = History::with_starts(starts, columns)?;
     /// assert_eq!((history.edition(), history.starts()[3]), (2, 9));
     /// assert_eq!(history.scan()?, Scan::Opaque);
@@ -100,6 +112,19 @@ impl History {
     /// // In a store that starts at 0 nobody wrote what it read.
     /// let scan = History::from_columns(columns)?.scan()?;
     /// assert_eq!(scan, Scan::Faulted { event: 2, cause: Cause::ReadReturned });
+    ///
+    /// // T0 has written 7 and called commit. A display task reads the 7 bare and then, in vain, the 9 again.
+    /// let columns = Columns {
+    ///     kinds: &[16, 19, 20, 21, 24, 24],
+    ///     transactions: &[0, 0, 0, 0, 1, 2],
+    ///     registers: &[0, 3, 0, 0, 3, 3],
+    ///     values: &[0, 7, 0, 0, 7, 9],
+    ///     threads: &[0, 0, 0, 0, 1, 1],
+    /// };
+    /// let history = History::with_starts(starts, columns)?;
+    /// assert_eq!(history.tally().to_string(), "committed 2 aborted 0 pending 1 live 0");
+    /// assert_eq!(history.scan()?, Scan::Faulted { event: 5, cause: Cause::ReadReturned });
+    /// assert_eq!(History::from_columns(columns).unwrap_err().question.number(), 4);
     /// # Ok::<(), sendoshi::Refusal>(())
     /// ```
     pub fn with_starts(starts: [u32; REGISTERS], columns: Columns) -> Result<History, Refusal> {
@@ -108,7 +133,8 @@ impl History {
 
     /// A copy of the history in these columns, over a store that every call takes.
     fn over(store: Store, columns: Columns) -> Result<History, Refusal> {
-        let lengths = [columns.kinds.len(), columns.transactions.len(), columns.registers.len(), columns.values.len()];
+        let Columns { kinds, transactions, registers, values, threads } = columns;
+        let lengths = [kinds.len(), transactions.len(), registers.len(), values.len(), threads.len()];
         let longest = lengths.into_iter().max().unwrap_or(0);
         // Asked here and not by the library, because a length may have more bits than a call's count.
         if lengths.into_iter().any(|length| length < longest) {
@@ -116,23 +142,30 @@ impl History {
         }
         // Of more than 2,048 events one of the first 2,049 is refused, however many there are.
         let count = longest.min(MOST_EVENTS + 1) as u32;
-        calls::transactions(columns, count).done(Place::Event)?;
+        calls::transactions(store, columns, count).done(Place::Event)?;
         Ok(History {
             edition: store.edition,
             starts: *store.starts,
-            kinds: columns.kinds.to_vec(),
-            transactions: columns.transactions.to_vec(),
-            registers: columns.registers.to_vec(),
-            values: columns.values.to_vec(),
+            kinds: kinds.to_vec(),
+            transactions: transactions.to_vec(),
+            registers: registers.to_vec(),
+            values: values.to_vec(),
+            threads: threads.to_vec(),
         })
     }
 
     /// The columns, all as long as the history.
     pub fn columns(&self) -> Columns<'_> {
-        Columns { kinds: &self.kinds, transactions: &self.transactions, registers: &self.registers, values: &self.values }
+        Columns {
+            kinds: &self.kinds,
+            transactions: &self.transactions,
+            registers: &self.registers,
+            values: &self.values,
+            threads: &self.threads,
+        }
     }
 
-    /// The edition: 1, or 2 if the file or the caller gave start values.
+    /// The edition: 1, or 2 if the file says so or the caller gave start values.
     pub fn edition(&self) -> u16 {
         self.edition
     }
@@ -161,15 +194,15 @@ impl History {
         u32::try_from(self.len()).expect("a history has at most 2,048 events")
     }
 
-    /// The number of transactions begun.
+    /// The number of transactions begun, lone accesses among them.
     pub fn transactions(&self) -> usize {
-        let answer = calls::transactions(self.columns(), self.count());
+        let answer = calls::transactions(self.store(), self.columns(), self.count());
         answer.done(Place::Event).unwrap_or_else(|refusal| refused_again(refusal))
     }
 
-    /// The number of store reads: returned reads of a register that their transaction had not written before.
+    /// The number of store reads: returned reads of a register that their transaction had not written before, and lone reads.
     pub fn store_reads(&self) -> usize {
-        let answer = calls::store_reads(self.columns(), self.count());
+        let answer = calls::store_reads(self.store(), self.columns(), self.count());
         answer.done(Place::Event).unwrap_or_else(|refusal| refused_again(refusal))
     }
 
@@ -182,15 +215,16 @@ impl History {
     /// let history = History::from_columns(Columns {
     ///     kinds: &[16, 21, 22, 16, 21, 23, 16, 21, 16, 17],
     ///     transactions: &[0, 0, 0, 1, 1, 1, 2, 2, 3, 3],
-    ///     registers: &[0, 0, 0, 0, 0, 0, 0, 0, 1, 5],
+    ///     registers: &[0, 0, 0, 0, 0, 0, 0, 0, 0, 5],
     ///     values: &[0; 10],
+    ///     threads: &[0, 0, 0, 0, 0, 0, 0, 0, 1, 0],
     /// })?;
     /// assert_eq!(history.tally(), Tally { committed: 1, aborted: 1, pending: 1, live: 1 });
     /// assert_eq!(history.prefix(5).expect("ten events").tally().to_string(), "committed 1 aborted 0 pending 1 live 0");
     /// # Ok::<(), sendoshi::Refusal>(())
     /// ```
     pub fn tally(&self) -> Tally {
-        let answer = calls::tally(self.columns(), self.count());
+        let answer = calls::tally(self.store(), self.columns(), self.count());
         answer.done(Place::Event).unwrap_or_else(|refusal| refused_again(refusal));
         let [committed, aborted, pending, live] = answer.quarters();
         Tally { committed, aborted, pending, live }
@@ -205,13 +239,14 @@ impl History {
             transactions: self.transactions.get(..length)?.to_vec(),
             registers: self.registers.get(..length)?.to_vec(),
             values: self.values.get(..length)?.to_vec(),
+            threads: self.threads.get(..length)?.to_vec(),
         })
     }
 
     /// The history as a file.
     pub fn to_bytes(&self) -> Vec<u8> {
-        // The head has 6 bytes, a start record 10 and no event more than 12: the output is never too short.
-        let mut output = vec![0; 6 + 10 * REGISTERS + 12 * self.len()];
+        // The head has 6 bytes, a start record 10 and no event more than 14: the output is never too short.
+        let mut output = vec![0; 6 + 10 * REGISTERS + 14 * self.len()];
         let answer = calls::write(self.store(), self.columns(), self.count(), &mut output);
         let length = answer.done(Place::Event).unwrap_or_else(|refusal| refused_again(refusal));
         output.truncate(length);
@@ -227,8 +262,9 @@ impl History {
     /// let history = History::from_columns(Columns {
     ///     kinds: &[16, 19, 20, 16, 17, 18],
     ///     transactions: &[0, 0, 0, 1, 1, 1],
-    ///     registers: &[0, 0, 0, 1, 0, 0],
+    ///     registers: &[0; 6],
     ///     values: &[0, 5, 0, 0, 0, 5],
+    ///     threads: &[0, 0, 0, 1, 0, 0],
     /// })?;
     /// let scan = history.scan()?;
     /// assert_eq!(scan, Scan::Faulted { event: 5, cause: Cause::ReadReturned });
@@ -254,6 +290,7 @@ impl History {
     ///     transactions: &[0, 0, 0],
     ///     registers: &[0, 0, 0],
     ///     values: &[0, 0, 9],
+    ///     threads: &[0, 0, 0],
     /// })?;
     /// let before = history.prefix(2).expect("three events have a prefix of two");
     /// let marking = history.lowest_marking(2)?.expect("nothing has been read yet");
@@ -282,7 +319,8 @@ impl History {
     /// use sendoshi::{Columns, History, Place, Rule, Verdict};
     ///
     /// // One transaction, which has not ended.
-    /// let history = History::from_columns(Columns { kinds: &[16], transactions: &[0], registers: &[0], values: &[0] })?;
+    /// let columns = Columns { kinds: &[16], transactions: &[0], registers: &[0], values: &[0], threads: &[0] };
+    /// let history = History::from_columns(columns)?;
     /// let mut marking = vec![4, 0, 2, 0, 1, 0];
     /// assert_eq!(history.check(&marking).unwrap_err().place, Place::Byte(6)); // T0 has no place
     /// marking.extend([6, 0, 32, 0, 0, 0, 1, 0]);
@@ -311,8 +349,9 @@ impl History {
     /// let history = History::from_columns(Columns {
     ///     kinds: &[16, 19, 20, 16, 17, 18, 21, 22, 17, 18],
     ///     transactions: &[0, 0, 0, 1, 1, 1, 0, 0, 1, 1],
-    ///     registers: &[0, 3, 0, 1, 3, 3, 0, 0, 3, 3],
+    ///     registers: &[0, 3, 0, 0, 3, 3, 0, 0, 3, 3],
     ///     values: &[0, 7, 0, 0, 0, 0, 0, 0, 0, 0],
+    ///     threads: &[0, 0, 0, 1, 0, 0, 0, 0, 0, 0],
     /// })?;
     /// // T1, aborted, is placed before T0, but the point of event 9 stands at gap 2, behind T0's write.
     /// let mut careless = history.lowest_marking(10)?.expect("H0 is opaque");

@@ -5,6 +5,7 @@ use std::fmt;
 /// The kind of event that left the history without a justification.
 #[derive(Clone, Copy, Debug, PartialEq, Eq, Hash)]
 pub enum Cause {
+    /// A returned read, or a lone one.
     ReadReturned = 1,
     Committed = 2,
     Aborted = 3,

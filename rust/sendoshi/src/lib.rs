@@ -1,8 +1,9 @@
 //! Opacity of recorded transactional histories: a safe wrapper over the proved static library.
 //!
 //! A [`History`] is read from a file or taken from columns, in edition 1, in which every register starts at 0, or in edition 2 with
-//! start values. It can be written back, tallied by what has become of its transactions, scanned for the first prefix that no order of
-//! them justifies, given its lowest marking, and compared with a marking from elsewhere, whose read points it can straighten.
+//! start values and with accesses outside transactions, each of which is a transaction of its own. It can be written back, tallied by
+//! what has become of its transactions, scanned for the first prefix that no order of them justifies, given its lowest marking, and
+//! compared with a marking from elsewhere, whose read points it can straighten.
 //!
 //! ```
 //! use sendoshi::History;

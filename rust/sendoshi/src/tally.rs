@@ -5,7 +5,7 @@ use std::fmt;
 /// The transactions of a history, each counted once. It displays as the line of a report.
 #[derive(Clone, Copy, Debug, PartialEq, Eq, Hash)]
 pub struct Tally {
-    /// Those that have committed.
+    /// Those that have committed, lone accesses among them.
     pub committed: usize,
     /// Those that were aborted, also after they called commit.
     pub aborted: usize,

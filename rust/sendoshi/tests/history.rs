@@ -1,16 +1,20 @@
 //! The wrapper's own promises: what it takes, how it refuses and how its answers read.
 
-use sendoshi::{calls, Answer, Columns, History, Place, Question, Refusal, Rule, Scan, Store, Straightening, Tally, Verdict};
+use sendoshi::{
+    calls, Answer, Cause, Columns, History, Place, Question, Refusal, Rule, Scan, Store, Straightening, Tally, Verdict,
+};
 use std::error::Error;
 
 const KINDS: [u16; 10] = [16, 19, 20, 16, 17, 18, 21, 22, 17, 18];
 const TRANSACTIONS: [u16; 10] = [0, 0, 0, 1, 1, 1, 0, 0, 1, 1];
-const REGISTERS: [u16; 10] = [0, 3, 0, 1, 3, 3, 0, 0, 3, 3];
+const REGISTERS: [u16; 10] = [0, 3, 0, 0, 3, 3, 0, 0, 3, 3];
 const VALUES: [u32; 10] = [0, 7, 0, 0, 0, 0, 0, 0, 0, 0];
+const THREADS: [u16; 10] = [0, 0, 0, 1, 0, 0, 0, 0, 0, 0];
+const H0: Columns =
+    Columns { kinds: &KINDS, transactions: &TRANSACTIONS, registers: &REGISTERS, values: &VALUES, threads: &THREADS };
 
 fn h0() -> History {
-    let columns = Columns { kinds: &KINDS, transactions: &TRANSACTIONS, registers: &REGISTERS, values: &VALUES };
-    History::from_columns(columns).unwrap()
+    History::from_columns(H0).unwrap()
 }
 
 fn refusal(question: Question, place: Place) -> Refusal {
@@ -49,7 +53,7 @@ fn a_tally_follows_the_events() {
     for (length, [committed, aborted, pending, live]) in expected {
         let tally = history.prefix(length).unwrap().tally();
         assert_eq!(tally, Tally { committed, aborted, pending, live }, "{length} events");
-        let answer = calls::tally(history.columns(), length as u32);
+        let answer = calls::tally(history.store(), history.columns(), length as u32);
         assert_eq!((answer.code, answer.quarters()), (0, [committed, aborted, pending, live]), "{length} of 10 events");
     }
 }
@@ -109,16 +113,40 @@ fn what_the_checker_refuses_is_not_straightened() {
 
 #[test]
 fn columns_of_different_lengths_are_refused() {
-    let columns = Columns { kinds: &KINDS, transactions: &TRANSACTIONS[..9], registers: &REGISTERS, values: &VALUES };
-    assert_eq!(History::from_columns(columns), Err(refusal(Question::CountTooLarge, Place::Event(10))));
+    let one_short = [
+        Columns { kinds: &KINDS[..9], ..H0 },
+        Columns { transactions: &TRANSACTIONS[..9], ..H0 },
+        Columns { registers: &REGISTERS[..9], ..H0 },
+        Columns { values: &VALUES[..9], ..H0 },
+        Columns { threads: &THREADS[..9], ..H0 },
+    ];
+    for columns in one_short {
+        assert_eq!(History::from_columns(columns), Err(refusal(Question::CountTooLarge, Place::Event(10))));
+    }
 }
 
 #[test]
 fn an_event_is_refused_by_its_own_question() {
-    let mut registers = REGISTERS;
+    let (mut registers, mut threads) = (REGISTERS, THREADS);
     registers[9] = 4;
-    let columns = Columns { kinds: &KINDS, transactions: &TRANSACTIONS, registers: &registers, values: &VALUES };
+    let columns = Columns { registers: &registers, ..H0 };
     assert_eq!(History::from_columns(columns), Err(refusal(Question::StrayField, Place::Event(9))));
+    threads[4] = 1;
+    let columns = Columns { threads: &threads, ..H0 };
+    assert_eq!(History::from_columns(columns), Err(refusal(Question::StrayField, Place::Event(4))));
+}
+
+/// T1 begins on thread 1: its number stands in the column of threads, and no longer in that of registers.
+#[test]
+fn a_begin_has_its_thread_in_the_fifth_column() {
+    let read = History::read(&h0().to_bytes()).unwrap();
+    assert_eq!((read.columns().threads, read.columns().registers), (&THREADS[..], &REGISTERS[..]));
+    let mut registers = REGISTERS;
+    registers[3] = 1;
+    let columns = Columns { registers: &registers, ..H0 };
+    assert_eq!(History::from_columns(columns), Err(refusal(Question::StrayField, Place::Event(3))));
+    let columns = Columns { threads: &[0; 10], ..H0 };
+    assert_eq!(History::from_columns(columns), Err(refusal(Question::ThreadBusy, Place::Event(3))));
 }
 
 /// One transaction that goes on reading. The last two lengths are small in their lower 16 bits.
@@ -127,7 +155,7 @@ fn a_history_has_at_most_2048_events() {
     for length in [2_047, 2_048, 2_049, 2_050, 65_536, 65_546] {
         let kinds: Vec<u16> = [16].into_iter().chain([17, 18].into_iter().cycle()).take(length).collect();
         let (zeros, values) = (vec![0; length], vec![0; length]);
-        let columns = Columns { kinds: &kinds, transactions: &zeros, registers: &zeros, values: &values };
+        let columns = Columns { kinds: &kinds, transactions: &zeros, registers: &zeros, values: &values, threads: &zeros };
         let expected = if length > 2_048 { Err(refusal(Question::TooManyEvents, Place::Event(2_048))) } else { Ok(length) };
         assert_eq!(History::from_columns(columns).map(|history| history.len()), expected, "{length} events");
     }
@@ -153,8 +181,7 @@ fn a_prefix_is_a_history() {
 fn started(values: &[u32; 10]) -> History {
     let mut starts = [0; 32];
     (starts[3], starts[31]) = (9, 1);
-    let columns = Columns { kinds: &KINDS, transactions: &TRANSACTIONS, registers: &REGISTERS, values };
-    History::with_starts(starts, columns).unwrap()
+    History::with_starts(starts, Columns { values, ..H0 }).unwrap()
 }
 
 #[test]
@@ -178,8 +205,7 @@ fn edition_1_starts_at_0() {
     assert_eq!((history.edition(), history.starts()), (1, &[0; 32]));
     assert_eq!(history.to_bytes()[..6], [4, 0, 1, 0, 1, 0]);
     assert_eq!(history.store(), Store::ZERO);
-    let columns = Columns { kinds: &KINDS, transactions: &TRANSACTIONS, registers: &REGISTERS, values: &VALUES };
-    let zeros = History::with_starts([0; 32], columns).unwrap();
+    let zeros = History::with_starts([0; 32], H0).unwrap();
     assert_eq!((zeros.edition(), zeros.starts(), zeros.scan()), (2, &[0; 32], Ok(Scan::Opaque)));
     assert_eq!(zeros.to_bytes()[..6], [4, 0, 1, 0, 2, 0]);
     assert_eq!(zeros.to_bytes()[6..], history.to_bytes()[6..]);
@@ -226,16 +252,95 @@ fn calls_refuse_other_editions() {
     for store in
         [Store { edition: 1, starts: &starts }, Store { edition: 0, starts: &[0; 32] }, Store { edition: 3, starts: &starts }]
     {
-        assert_eq!(calls::scan(store, history.columns(), 10), Answer { code: 3, place: 10 });
-        assert_eq!(calls::scan(store, history.columns(), 11), Answer { code: 17, place: 11 });
+        for call in [calls::scan, calls::transactions, calls::store_reads, calls::tally] {
+            assert_eq!(call(store, history.columns(), 10), Answer { code: 3, place: 10 });
+            assert_eq!(call(store, history.columns(), 11), Answer { code: 17, place: 11 });
+        }
     }
     assert_eq!(calls::scan(Store { edition: 2, starts: &starts }, history.columns(), 10), Answer { code: 101, place: 5 });
 }
 
+/// T0 has written 7 to register 3, which started with 9, and called commit. A display task on thread 1 reads register 3 twice, and a
+/// task on thread 2 writes 5 there.
+fn displayed(first: u32, second: u32) -> History {
+    let mut starts = [0; 32];
+    starts[3] = 9;
+    let columns = Columns {
+        kinds: &[16, 19, 20, 21, 24, 24, 25],
+        transactions: &[0, 0, 0, 0, 1, 2, 3],
+        registers: &[0, 3, 0, 0, 3, 3, 3],
+        values: &[0, 7, 0, 0, first, second, 5],
+        threads: &[0, 0, 0, 0, 1, 1, 2],
+    };
+    History::with_starts(starts, columns).unwrap()
+}
+
+#[test]
+fn a_lone_access_is_a_transaction_of_its_own() {
+    let history = displayed(9, 7);
+    assert_eq!((history.len(), history.transactions(), history.store_reads()), (7, 4, 2));
+    assert_eq!(history.tally(), Tally { committed: 3, aborted: 0, pending: 1, live: 0 });
+    let file = history.to_bytes();
+    // A head, a start, what T0 did, and three accesses of 14 bytes each.
+    assert_eq!(file.len(), 6 + 10 + 8 + 12 + 6 + 6 + 3 * 14);
+    assert_eq!(file[48..62], [12, 0, 24, 0, 1, 0, 1, 0, 3, 0, 9, 0, 0, 0]);
+    assert_eq!(file[76..], [12, 0, 25, 0, 3, 0, 2, 0, 3, 0, 5, 0, 0, 0]);
+    assert_eq!(History::read(&file).unwrap(), history);
+    assert_eq!(history.prefix(5).unwrap().store_reads(), 1);
+}
+
+/// New after old is what a commit between the two reads shows; old after new is what nothing shows.
+#[test]
+fn lone_reads_are_judged_at_their_events() {
+    assert_eq!(displayed(9, 9).scan(), Ok(Scan::Opaque));
+    assert_eq!(displayed(7, 7).scan(), Ok(Scan::Opaque));
+    assert_eq!(displayed(7, 9).scan(), Ok(Scan::Faulted { event: 5, cause: Cause::ReadReturned }));
+    assert_eq!(displayed(8, 7).scan(), Ok(Scan::Faulted { event: 4, cause: Cause::ReadReturned }));
+    let history = displayed(9, 7);
+    assert_eq!(history.scan(), Ok(Scan::Opaque));
+    let marking = history.lowest_marking(7).unwrap().unwrap();
+    // T1, T0, T2 and T3, all committed; the reads at gaps 0 and 2.
+    assert_eq!(marking.len(), 6 + 4 * 8 + 2 * 10);
+    assert_eq!([10, 18, 26, 34].map(|place| (marking[place], marking[place + 2])), [(1, 1), (0, 1), (2, 1), (3, 1)]);
+    assert_eq!([42, 52].map(|point| (marking[point], marking[point + 4])), [(4, 0), (5, 2)]);
+    assert_eq!(history.check(&marking), Ok(Verdict::Accepted));
+    let mut wrong = marking.clone();
+    wrong[46] = 2; // event 4 behind T0's write
+    assert_eq!(history.check(&wrong), Ok(Verdict::Broken { rule: Rule::D, event: 4, transaction: 1 }));
+    assert_eq!(history.straighten(&wrong), Ok(Straightening::Straightened { marking: marking.clone(), moved: vec![4] }));
+    wrong[12] = 0; // T1 aborted
+    assert_eq!(history.check(&wrong), Ok(Verdict::Broken { rule: Rule::A, event: 4, transaction: 1 }));
+}
+
+#[test]
+fn lone_accesses_are_refused_by_their_own_questions() {
+    let read =
+        |edition: u8, record: &[u8]| History::read(&[&[4, 0, 1, 0, edition, 0], record].concat()).map(|history| history.len());
+    let lone = [12, 0, 24, 0, 0, 0, 15, 0, 31, 0, 9, 0, 0, 0];
+    assert_eq!(read(2, &lone), Ok(1));
+    assert_eq!(read(1, &lone), Err(refusal(Question::EventKind, Place::Byte(6))));
+    assert_eq!(read(2, &[4, 0, 24, 0, 0, 0]), Err(refusal(Question::EventSize, Place::Byte(6))));
+    let changed = |at: usize, byte: u8| {
+        let mut record = lone;
+        record[at] = byte;
+        read(2, &record)
+    };
+    assert_eq!(changed(2, 26), Err(refusal(Question::EventKind, Place::Byte(6))));
+    assert_eq!(changed(4, 1), Err(refusal(Question::TransactionNumber, Place::Byte(6))));
+    assert_eq!(changed(6, 16), Err(refusal(Question::ThreadNumber, Place::Byte(6))));
+    assert_eq!(changed(8, 32), Err(refusal(Question::RegisterNumber, Place::Byte(6))));
+    let busy = [&[6, 0, 16, 0, 0, 0, 15, 0][..], &[12, 0, 25, 0, 1, 0, 15, 0, 31, 0, 9, 0, 0, 0]].concat();
+    assert_eq!(read(2, &busy), Err(refusal(Question::ThreadBusy, Place::Byte(14))));
+    let ended = [&lone[..], &[4, 0, 23, 0, 0, 0]].concat();
+    assert_eq!(read(2, &ended), Err(refusal(Question::TransactionNotRunning, Place::Byte(20))));
+    let late = [&lone[..], &[8, 0, 3, 0, 3, 0, 9, 0, 0, 0]].concat();
+    assert_eq!(read(2, &late), Err(refusal(Question::StartLate, Place::Byte(20))));
+}
+
 #[test]
 fn what_is_judged_has_at_most_10_transactions() {
-    let (kinds, threads, zeros) = ([16; 11], [0, 1, 2, 3, 4, 5, 6, 7, 8, 9, 10], [0; 11]);
-    let columns = Columns { kinds: &kinds, transactions: &threads, registers: &threads, values: &zeros };
+    let threads = [0, 1, 2, 3, 4, 5, 6, 7, 8, 9, 10];
+    let columns = Columns { kinds: &[16; 11], transactions: &threads, registers: &[0; 11], values: &[0; 11], threads: &threads };
     let history = History::from_columns(columns).unwrap();
     let refused = refusal(Question::TooManyToJudge, Place::Event(11));
     assert_eq!(history.scan(), Err(refused));

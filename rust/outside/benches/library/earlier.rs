@@ -1,12 +1,13 @@
-//! The scan and the finder beside those of an earlier version in the same run. SENDOSHI_EARLIER names its static library (of version 2
-//! of the header: libexports.a) made into a shared one: `cc -shared -o earlier.so -Wl,--whole-archive ARCHIVE -Wl,--no-whole-archive`.
+//! The scan and the finder beside those of an earlier version in the same run: version 2 or 3 of the header, which had four columns.
+//! SENDOSHI_EARLIER names its static library (of version 2: libexports.a) made into a shared one:
+//! `cc -shared -o earlier.so -Wl,--whole-archive ARCHIVE -Wl,--no-whole-archive`. What it is put is all of edition 1.
 
 use crate::growth::captures;
 use crate::hard::{finds, patience, scans};
 use crate::inputs::{late_fault, simulated};
 use crate::sides::{scan_all_beside, Capture};
 use crate::table;
-use sendoshi::{Answer, Columns, Store};
+use sendoshi::{Answer, Store};
 use std::ffi::{c_char, c_int, c_void, CStr, CString, OsStr};
 use std::mem::transmute;
 use std::os::unix::ffi::OsStrExt;
@@ -20,6 +21,16 @@ extern "C" {
 const RTLD_NOW: c_int = 2;
 
 type Slice<T> = (*const T, usize);
+
+/// The four columns that an earlier version takes.
+#[derive(Clone, Copy)]
+pub struct FourColumns<'a> {
+    pub kinds: &'a [u16],
+    pub transactions: &'a [u16],
+    /// A begin's is its thread.
+    pub registers: &'a [u16],
+    pub values: &'a [u32],
+}
 
 /// The two calls, as version 2 of the header declares them. Those of version 3 have counts of 32 bits, and find them in the lower halves
 /// of these: on x86-64, for which alone the library is made, every number is passed in 64 bits.
@@ -71,7 +82,7 @@ impl Earlier {
         }
     }
 
-    pub fn scan(&self, store: Store, c: Columns, count: usize) -> Answer {
+    pub fn scan(&self, store: Store, c: FourColumns, count: usize) -> Answer {
         let [(k, kn), (t, tn), (r, rn)] = [c.kinds, c.transactions, c.registers].map(parts);
         let (v, vn) = parts(c.values);
         // SAFETY: pointers and lengths are those of slices that live through the call.
@@ -79,7 +90,7 @@ impl Earlier {
     }
 
     /// The finder on all of them.
-    pub fn find(&self, store: Store, c: Columns, count: usize, output: &mut [u8]) -> Answer {
+    pub fn find(&self, store: Store, c: FourColumns, count: usize, output: &mut [u8]) -> Answer {
         let [(k, kn), (t, tn), (r, rn)] = [c.kinds, c.transactions, c.registers].map(parts);
         let ((v, vn), length) = (parts(c.values), output.len());
         // SAFETY: as above, and the output is borrowed for this call alone.

@@ -1,6 +1,6 @@
 //! Reading, writing, tallying, checking and straightening.
 
-use crate::inputs::{careless, serial, serial_reads, simulated};
+use crate::inputs::{careless, serial, serial_reads, simulated, simulated_lone};
 use crate::sides::Capture;
 use crate::table;
 use reference::event::Event;
@@ -12,12 +12,17 @@ pub fn print() {
     let bytes = full.file.len();
     table::rate_row(&format!("read a history of 2,048 events, {bytes} bytes"), bytes, &full.read());
     table::rate_row(&format!("write a history of 2,048 events, {bytes} bytes"), bytes, &full.write());
+    let lone = Capture::of(&simulated_lone(64, 2_048, 50, 1));
+    let bytes = lone.file.len();
+    table::rate_row(&format!("read a history of 2,048 events, lone accesses among them, {bytes} bytes"), bytes, &lone.read());
+    table::rate_row(&format!("write a history of 2,048 events, lone accesses among them, {bytes} bytes"), bytes, &lone.write());
     let small = Capture::new(&Log::h0().events);
     table::row("read the paper's H0, 88 bytes", &small.read());
     table::row("write the paper's H0, 88 bytes", &small.write());
     table::row("tally a history of 10 transactions and 2,048 events", &full.tally());
     let (events, marking) = serial(64, 2_048);
     table::row("tally a history of 64 transactions and 2,048 events", &Capture::new(&events).tally());
+    table::row("tally a history of 64 transactions and 2,048 events, lone accesses among them", &lone.tally());
     let reads = (marking.len() - 6 - 8 * 64) / 10;
     let what = format!("check a marking of 64 transactions and {reads} read points, {} bytes", marking.len());
     table::row(&what, &Capture::new(&events).check(&marking));

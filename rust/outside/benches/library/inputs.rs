@@ -12,9 +12,25 @@ use reference::worked::marking;
 /// A log of a simulated transactional memory, with exactly so many transactions and events. It is opaque.
 pub fn simulated(begins: usize, events: usize, seed: u64) -> Vec<Event> {
     let length = (events / begins / 2).max(2);
-    let plan = Plan { transactions: begins, threads: begins.min(4), registers: 16, events, length, faults: Faults::default() };
-    let mut logs = (seed * 1_000_000..).map(|seed| simulate(&mut Random::new(seed), Store::ZERO, plan).events);
-    logs.find(|log| log.len() == events && transactions(log) == begins).expect("some seed gives such a log")
+    some_log(Store::ZERO, plan(begins, events, length), seed).events
+}
+
+/// The same beside tasks that access the store bare: about so many of a hundred transactions are lone accesses. The registers start with
+/// values of their own.
+pub fn simulated_lone(begins: usize, events: usize, lone: usize, seed: u64) -> Log {
+    let starts: Vec<(u16, u32)> = (0..16).map(|register| (register, 1_000 + u32::from(register))).collect();
+    let length = (100 * events / begins / (100 - lone) / 2).max(2);
+    some_log(Store::of(&starts), Plan { lone, ..plan(begins, events, length) }, seed)
+}
+
+fn plan(begins: usize, events: usize, length: usize) -> Plan {
+    Plan { transactions: begins, threads: begins.min(4), registers: 16, events, length, lone: 0, faults: Faults::default() }
+}
+
+fn some_log(store: Store, plan: Plan, seed: u64) -> Log {
+    let mut logs = (seed * 1_000_000..).map(|seed| simulate(&mut Random::new(seed), store, plan));
+    let is_whole = |log: &Log| log.events.len() == plan.events && transactions(&log.events) == plan.transactions;
+    logs.find(is_whole).expect("some seed gives such a log")
 }
 
 /// The same log with another value at its last returned read of a register that the transaction had not written: nothing

@@ -3,7 +3,6 @@
 use super::*;
 use crate::event::*;
 use crate::history_file::start_record;
-use crate::record::record;
 
 /// Every example.
 pub fn all() -> Vec<Worked> {
@@ -64,8 +63,6 @@ fn marked() -> Vec<Worked> {
     let (first, torn) = (nine().begin(0).read(0, 3, 9), nine().begin(0).read(0, 3, 0));
     let alone = |gap| marking(&[(0, Aborted)], &[(2, gap)]);
     let writer_first = |gap| marking(&[(0, Committed), (1, Aborted)], &[(7, gap)]);
-    let lowest =
-        |name, log: &Log, file: Vec<u8>| Worked { output: Some(file.clone()), ..worked(name, find(log), 0, file.len() as u32) };
     let unanswered = nine().begin(0).write(0, 3, 7).commit_called(0).begin(1);
     let both = |first, gap| marking(&[(0, first), (1, Aborted)], &[(6, gap)]);
     vec![
@@ -107,12 +104,7 @@ fn files() -> Vec<Worked> {
     let begin = [6, 0, 16, 0, 0, 0, 5, 0]; // T0 on thread 5
     let first = [8, 0, 3, 0, 0, 0, 0, 0, 1, 0]; // register 0 starts with 65,536
     let last = [8, 0, 3, 0, 31, 0, 4, 3, 2, 1]; // register 31 starts with 0x01020304
-    let both = |name, file: Vec<u8>, log: Log| {
-        let count = log.events.len() as u32;
-        let length = file.len() as u32;
-        let read = is_read(name, file.clone(), log.store, count);
-        [read, Worked { output: Some(file), ..worked(name, Call::Write(log), 0, length) }]
-    };
+    let both = read_and_written;
     let mut full = Log::starting(&(0..32).map(|register| (register, 1)).collect::<Vec<_>>()).begin(0);
     full = (0..1_023).fold(full, |log, _| log.read(0, 0, 1)).read_called(0, 0);
     let full_file = file(&full);
@@ -131,11 +123,6 @@ fn files() -> Vec<Worked> {
         both("every start value and 2,048 events", full_file, full),
     ]
     .concat()
-}
-
-/// A head of this edition and these records.
-fn file_of(edition: u16, records: &[&[u8]]) -> Vec<u8> {
-    [&record(history_file::HEAD, &edition.to_le_bytes())[..], &records.concat()].concat()
 }
 
 /// Files that are refused by 3, by 4 or 5, or by 43, 41 or 42, in this order.
@@ -157,7 +144,7 @@ fn refused_files() -> Vec<Worked> {
         row("a second head in edition 2", 2, &[&record(1, &[2, 0])], 4, 6),
         row("a place of a marking in edition 2", 2, &[&record(32, &[0, 0, 0, 0])], 4, 6),
         row("kind 15 in edition 2", 2, &[&record(15, &[0, 0])], 4, 6),
-        row("kind 24 in edition 2", 2, &[&at(3, 9), &record(24, &[0, 0])], 4, 16),
+        row("kind 26 in edition 2", 2, &[&at(3, 9), &record(26, &[0, 0])], 4, 16),
         row("a start that is cut off", 2, &[&at(3, 9)[..9]], 2, 6),
         row("a start that is too short", 2, &[&short(3)], 5, 6),
         row("a start that is too long", 2, &[&at(3, 9), &long(4)], 5, 16),
@@ -194,8 +181,7 @@ fn refused_files() -> Vec<Worked> {
     ]
 }
 
-/// Editions and start values that no call takes that is told of them: 3, with the count, before the events' own questions, those of a
-/// marking and 31.
+/// Editions and start values that no call takes: 3, with the count, before the events' own questions, those of a marking and 31.
 fn refused_stores() -> Vec<Worked> {
     let stores = [
         Store { edition: 1, ..Store::of(&[(0, 9)]) },
@@ -205,13 +191,13 @@ fn refused_stores() -> Vec<Worked> {
         Store { edition: 258, ..Store::of(&[(3, 9)]) },
         Store { edition: 65_535, ..Store::of(&[(3, 9)]) },
     ];
-    let broken = Log::h0().event(ABORTED + 1, 9, 9, 9);
+    let broken = Log::h0().event(LONE_WRITE + 1, 9, 9, 9, 9);
     let crowded = (0..11).fold(Log::new(), |log, thread| log.begin(thread));
     let logs = [Log::new(), Log::h0(), broken, crowded];
     stores.iter().flat_map(|&store| logs.clone().map(|log| Log { store, ..log })).flat_map(refused_store).collect()
 }
 
-fn refused_store(log: Log) -> [Worked; 7] {
+fn refused_store(log: Log) -> [Worked; 8] {
     let name = format!("edition {} of {} events", log.store.edition, log.events.len());
     let count = log.events.len() as u32;
     let calls = [
@@ -221,7 +207,8 @@ fn refused_store(log: Log) -> [Worked; 7] {
         Call::Check(log.clone(), h0_marking()),
         Call::Check(log.clone(), vec![]),
         Call::Straighten(log.clone(), late_points()),
-        Call::Straighten(log, vec![]),
+        Call::Straighten(log.clone(), vec![]),
+        tally(&log),
     ];
     calls.map(|call| Worked { output: Some(vec![]), moved: Some(vec![]), ..worked(&name, call, 3, count) })
 }
