@@ -21,7 +21,8 @@ use Rattle.counts.specs.Tally.{ofStatus, tally}
 use Rattle.marking_reader.specs.File.{nextEvent, everyPlaced, hasPoint, everyPointed, headQuestions, recordQuestions, endQuestions, bodyStep, endStep, stepAt, walk as walkMarking, opening, fileRead}
 use Rattle.marking.specs.Answer.{verdictAnswer, said as checkSaid}
 use Rattle.straighten.specs.Straight.{staysPut, straightPoint, straightened, movedEvents}
-use Rattle.worked.specs.Worked.{right, worked}
+use Rattle.worked.specs.Cases.{right}
+use Rattle.worked.specs.Worked.{worked}
 
 pub worked-hold : all right worked ≡ true
 unfolding
