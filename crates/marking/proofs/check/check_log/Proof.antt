@@ -22,7 +22,7 @@ check-by-requires : tie.Need-check-by-requires
 check-by-requires c κs =
     let t = c .before .before .before in
     let s = t .before .before in
-    (s .pre, (room 128 (s .args .log .now) (t .if1 .taken), arrays-fresh 128 .none))
+    (s .pre, (room 256 (s .args .log .now) (t .if1 .taken), arrays-fresh 256 .none))
 
 returns : tie.Need-returns
 returns c = c .before .before .before .check-by .ensures
