@@ -25,5 +25,6 @@ pub mod Kept
 pub mod Begin
 pub mod Carry
 pub mod CauseFour
+pub mod Alone
 pub mod Theorems
 pub mod Examples

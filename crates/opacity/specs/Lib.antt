@@ -8,5 +8,6 @@ pub mod Store
 pub mod Serial
 pub mod Counts
 pub mod Explains
+pub mod Spelled
 pub mod Verdicts
 pub mod Arrays

@@ -1,6 +1,6 @@
 -- `witness::ends_so` meets its contract. Assumes nothing.
 use mathlib.Core.Path.{sym, ap, _∙_}
-use mathlib.Core.Bool.{Bool, not}
+use mathlib.Core.Bool.{not}
 use borrow.Author.Needs.{needs}
 use Rattle.witness.proofs.ends_so.Statement.{statement}
 use Rattle.witness.proofs.ends_so.Tie as tie
