@@ -7,22 +7,8 @@ use mathlib.Core.List.{List, [], _∷_, _++_}
 use lib.ListN.{length, take}
 use lib.Seq.{take-suc}
 use Rattle.events.specs.declared.event.Event.{Event}
-use mathlib.Core.Bool.{Bool, false}
-use Rattle.events.specs.Events.{noEvent, eventAt, isBegin}
-use Rattle.tables.specs.declared.Standing.{Standing}
-use Rattle.tables.specs.Tables.{Tables, tablesBy, contradicts, joinedBy, putIf, afterWith, factsWith, next, empty, goThrough, tablesOf}
-
--- one event more, from the parts that the code has
-pub next-by : (s : Standing) (f : List (List ℕ)) (e : Event) {wrong : Bool} {s′ : Standing} {f′ : List (List ℕ)} → wrong ≡ contradicts f e
-    → s′ ≡ joinedBy s wrong e → f′ ≡ factsWith (s .ended) f e → tablesBy s′ f′ ≡ next (tablesBy s f) e
-unfolding next
-next-by s f e w j g =
-    (λ i. tablesBy (j i) (g i)) ∙ λ i. tablesBy (joinedBy s (w i) e) (factsWith (s .ended) f e)
-
--- an event that begins nothing puts nobody after those that have ended
-pub nothing-begun : (ended : ℕ) (f : List (List ℕ)) (e : Event) → isBegin e ≡ false → afterWith ended f e ≡ f
-unfolding putIf
-nothing-begun ended f e n = rw n
+use Rattle.events.specs.Events.{noEvent, eventAt}
+use Rattle.tables.specs.Tables.{Tables, next, empty, goThrough, tablesOf}
 
 through-snoc : (s : Tables) (h : List Event) (e : Event) → goThrough s (h ++ (e ∷ [])) ≡ next (goThrough s h) e
 unfolding goThrough

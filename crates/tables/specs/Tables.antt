@@ -83,11 +83,6 @@ allowedWith f e = putIf true f (e .transaction) 1 (ruleWith (allowedOf f (e .tra
 abbrev pub factsWith : ℕ → List (List ℕ) → Event → List (List ℕ)
 factsWith ended f e = allowedWith (afterWith ended (writtenWith (readWith f e) e) e) e
 
--- the sets with one event more, where a read of it is wrong or not
-abbrev pub joinedBy : Standing → Bool → Event → Standing
-joinedBy s wrong e =
-    record { ended = joined (s .ended) (isEnd e) (e .transaction); contradictory = joined (s .contradictory) wrong (e .transaction) }
-
 -- one event more
 unfoldable pub next : Tables → Event → Tables
 next s e =

@@ -3,9 +3,7 @@ ghost use mathlib.Core.Path.{_≡_};
 ghost use Prim.Native.Nat.{_+_, _<_};
 ghost use lib.ListN.{replicate};
 ghost use Rattle.tables.specs.Tables.{tablesBy, Tabled, clashes, expected, contradicts, readsStore, joined, next, empty};
-ghost use mathlib.Core.Bool.{false};
-ghost use Rattle.events.specs.Events.{isBegin};
-ghost use Rattle.tables.specs.Tables.{afterWith, ruleWith, allowedWith, readWith, writtenWith, joinedBy};
+ghost use Rattle.tables.specs.Tables.{afterWith, ruleWith, allowedWith, readWith, writtenWith};
 use events::event::Event;
 use events::event::asks_commit;
 use events::event::is_abort;
@@ -156,62 +154,21 @@ fn note_outcome(facts: &mut [Facts; 11], e: Event)
     facts[t][ALLOWED] = rule_with(facts[t][ALLOWED], e);
 }
 
-// Notes what an event reads and writes, and answers whether it is a read that is wrong wherever its transaction is placed.
-fn note_access(facts: &mut [Facts; 11], e: Event) -> bool
-    requires { ⌜ Tabled e ⌝ }
-    ensures { λ r. ⌜ r ≡ contradicts (now (facts .entry)) e ⌝ }
-    ensures { λ _. ⌜ now (facts .exit) ≡ writtenWith (readWith (now (facts .entry)) e) e ⌝ }
-{
-    let wrong = read_contradicts(facts, e);
-    note_read(facts, e);
-    note_write(facts, e);
-    wrong
-}
-
 impl Standing {
-    // The sets with one event more.
-    fn joined_by(self, wrong: bool, e: Event) -> Standing
-        requires { ⌜ Tabled e ⌝ }
-        ensures { λ s. ⌜ s ≡ joinedBy self wrong e ⌝ }
-    {
-        Standing {
-            ended: join(self.ended, is_end(e), e.transaction),
-            contradictory: join(self.contradictory, wrong, e.transaction),
-        }
-    }
-
-    // The standing and the table with one event more, which begins.
-    fn begin(self, facts: &mut [Facts; 11], e: Event) -> Standing
-        requires { ⌜ Tabled e ⌝ }
-        ensures { λ s. ⌜ tablesBy s (now (facts .exit)) ≡ next (tablesBy self (now (facts .entry))) e ⌝ }
-    {
-        let wrong = note_access(facts, e);
-        note_begin(facts, self.ended, e);
-        note_outcome(facts, e);
-        self.joined_by(wrong, e)
-    }
-
-    // The standing and the table with one event more, which begins nothing.
-    fn go_on(self, facts: &mut [Facts; 11], e: Event) -> Standing
-        requires { ⌜ Tabled e ⌝ }
-        requires { ⌜ isBegin e ≡ false ⌝ }
-        ensures { λ s. ⌜ tablesBy s (now (facts .exit)) ≡ next (tablesBy self (now (facts .entry))) e ⌝ }
-    {
-        let wrong = note_access(facts, e);
-        note_outcome(facts, e);
-        self.joined_by(wrong, e)
-    }
-
-    // The standing and the table with one event more. Those that begin are few, and go by themselves: of the others a read is
-    // nothing else, nor is a write or an end, so that each is told by one test.
+    // The standing and the table with one event more.
     pub fn step(self, facts: &mut [Facts; 11], e: Event) -> Standing
         requires { ⌜ Tabled e ⌝ }
         ensures { λ s. ⌜ tablesBy s (now (facts .exit)) ≡ next (tablesBy self (now (facts .entry))) e ⌝ }
     {
-        if is_begin(e) {
-            return self.begin(facts, e);
+        let wrong = read_contradicts(facts, e);
+        note_read(facts, e);
+        note_write(facts, e);
+        note_begin(facts, self.ended, e);
+        note_outcome(facts, e);
+        Standing {
+            ended: join(self.ended, is_end(e), e.transaction),
+            contradictory: join(self.contradictory, wrong, e.transaction),
         }
-        self.go_on(facts, e)
     }
 }
 

@@ -1,19 +1,39 @@
--- `tables::Standing::step` meets its contract: by whether the event begins. Assumes nothing.
-use mathlib.Core.Path.{sym, _∙_}
+-- `tables::Standing::step` meets its contract: each column by itself. Assumes nothing.
+use mathlib.Core.Path.{ap, _∙_}
+use Prim.Native.Nat.{ℕ}
+use mathlib.Core.Bool.{Bool}
+use mathlib.Core.List.{List}
+use Rattle.tables.specs.Tables.{joined, readWith, writtenWith, afterWith, allowedWith, next}
 use borrow.Author.Needs.{needs}
 use Rattle.tables.proofs.Standing.step.Statement.{statement}
 use Rattle.tables.proofs.Standing.step.Tie as tie
 
-go-on-requires : tie.Need-go-on-requires
-go-on-requires c κs =
-    let left = c .before in
-    (left .before .before .pre, sym (left .before .is-begin .ensures) ∙ left .if1 .left)
+-- where the outcome is noted, and before it the begin
+abbrev outcome-noted : tie.After-join2 → tie.After-note-outcome
+outcome-noted a = a .before .before .before
+
+abbrev begun : tie.After-join2 → tie.After-note-begin
+begun a = outcome-noted a .before .before
 
 returns : tie.Need-returns
-returns c = c .begin .ensures
-
-returns-2 : tie.Need-returns-2
-returns-2 c = c .go-on .ensures
+unfolding next
+returns c =
+    let written = begun c .before .before in
+    let read = written .before .before in
+    let judged = read .before .before in
+    let a = judged .before .before .args in
+    λ i. record {
+      ended = (c .before .join .ensures ∙ ap (λ (b : Bool). joined (a .self .ended) b (a .e .transaction)) (c .before .before .is-end .ensures)) i;
+      facts = (outcome-noted c .note-outcome .ensures
+          ∙ ap (λ (f : List (List ℕ)). allowedWith f (a .e)) (begun c .note-begin .ensures
+          ∙ ap (λ (f : List (List ℕ)). afterWith (a .self .ended) f (a .e)) (written .note-write .ensures
+          ∙ ap (λ (f : List (List ℕ)). writtenWith f (a .e)) (read .note-read .ensures)))) i;
+      contradictory = (c .join2 .ensures ∙ ap (λ (b : Bool). joined (a .self .contradictory) b (a .e .transaction)) (judged .read-contradicts .ensures)) i;
+    }
 
 pub step-spec : {M : Type 1} → statement M
-step-spec = tie.close (tie.spec (λ c κs. search needs) (λ c κs. search needs) returns go-on-requires returns-2)
+step-spec =
+    tie.close
+    (tie.spec (λ c κs. search needs) (λ c κs. search needs) (λ c κs. search needs)
+    (λ c κs. search needs) (λ c κs. search needs) (λ c κs. search needs) (λ c κs. search needs)
+    (λ c κs. search needs) returns)
