@@ -7,8 +7,19 @@ use mathlib.Core.List.{List, [], _∷_, _++_}
 use lib.ListN.{length, take}
 use lib.Seq.{take-suc}
 use Rattle.events.specs.declared.event.Event.{Event}
-use Rattle.events.specs.Events.{noEvent, eventAt}
-use Rattle.tables.specs.Tables.{Tables, next, empty, goThrough, tablesOf}
+use mathlib.Core.Bool.{false}
+use Rattle.lists.specs.Lists.{_and_}
+use Rattle.events.specs.Events.{noEvent, eventAt, isRead, isWrite}
+use Rattle.tables.specs.Tables.{Tables, putIf, contradicts, readsStore, readWith, writtenWith, next, empty, goThrough, tablesOf}
+
+-- what does not read and does not write leaves the facts of reads and of writes, and contradicts nothing
+pub unread : (f : List (List ℕ)) (e : Event) → isRead e ≡ false → (readWith f e ≡ f) × (contradicts f e ≡ false)
+unfolding readsStore contradicts putIf _and_
+unread f e n = (rw n, rw n)
+
+pub unwritten : (f : List (List ℕ)) (e : Event) → isWrite e ≡ false → writtenWith f e ≡ f
+unfolding putIf
+unwritten f e n = rw n
 
 through-snoc : (s : Tables) (h : List Event) (e : Event) → goThrough s (h ++ (e ∷ [])) ≡ next (goThrough s h) e
 unfolding goThrough

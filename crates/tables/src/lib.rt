@@ -154,15 +154,31 @@ fn note_outcome(facts: &mut [Facts; 11], e: Event)
     facts[t][ALLOWED] = rule_with(facts[t][ALLOWED], e);
 }
 
+// Notes what an event reads or writes, and answers whether it is a read that is wrong wherever its transaction is placed.
+fn note_access(facts: &mut [Facts; 11], e: Event) -> bool
+    requires { ⌜ Tabled e ⌝ }
+    ensures { λ r. ⌜ r ≡ contradicts (now (facts .entry)) e ⌝ }
+    ensures { λ _. ⌜ now (facts .exit) ≡ writtenWith (readWith (now (facts .entry)) e) e ⌝ }
+{
+    if is_write(e) {
+        note_write(facts, e);
+        return false;
+    }
+    if !is_read(e) {
+        return false;
+    }
+    let wrong = read_contradicts(facts, e);
+    note_read(facts, e);
+    wrong
+}
+
 impl Standing {
     // The standing and the table with one event more.
     pub fn step(self, facts: &mut [Facts; 11], e: Event) -> Standing
         requires { ⌜ Tabled e ⌝ }
         ensures { λ s. ⌜ tablesBy s (now (facts .exit)) ≡ next (tablesBy self (now (facts .entry))) e ⌝ }
     {
-        let wrong = read_contradicts(facts, e);
-        note_read(facts, e);
-        note_write(facts, e);
+        let wrong = note_access(facts, e);
         note_begin(facts, self.ended, e);
         note_outcome(facts, e);
         Standing {

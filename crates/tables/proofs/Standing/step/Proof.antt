@@ -3,7 +3,7 @@ use mathlib.Core.Path.{ap, _∙_}
 use Prim.Native.Nat.{ℕ}
 use mathlib.Core.Bool.{Bool}
 use mathlib.Core.List.{List}
-use Rattle.tables.specs.Tables.{joined, readWith, writtenWith, afterWith, allowedWith, next}
+use Rattle.tables.specs.Tables.{joined, afterWith, allowedWith, next}
 use borrow.Author.Needs.{needs}
 use Rattle.tables.proofs.Standing.step.Statement.{statement}
 use Rattle.tables.proofs.Standing.step.Tie as tie
@@ -18,22 +18,18 @@ begun a = outcome-noted a .before .before
 returns : tie.Need-returns
 unfolding next
 returns c =
-    let written = begun c .before .before in
-    let read = written .before .before in
-    let judged = read .before .before in
-    let a = judged .before .before .args in
+    let access = begun c .before .before in
+    let a = access .before .before .args in
     λ i. record {
       ended = (c .before .join .ensures ∙ ap (λ (b : Bool). joined (a .self .ended) b (a .e .transaction)) (c .before .before .is-end .ensures)) i;
       facts = (outcome-noted c .note-outcome .ensures
           ∙ ap (λ (f : List (List ℕ)). allowedWith f (a .e)) (begun c .note-begin .ensures
-          ∙ ap (λ (f : List (List ℕ)). afterWith (a .self .ended) f (a .e)) (written .note-write .ensures
-          ∙ ap (λ (f : List (List ℕ)). writtenWith f (a .e)) (read .note-read .ensures)))) i;
-      contradictory = (c .join2 .ensures ∙ ap (λ (b : Bool). joined (a .self .contradictory) b (a .e .transaction)) (judged .read-contradicts .ensures)) i;
+          ∙ ap (λ (f : List (List ℕ)). afterWith (a .self .ended) f (a .e)) (access .note-access .ensures .1))) i;
+      contradictory = (c .join2 .ensures ∙ ap (λ (b : Bool). joined (a .self .contradictory) b (a .e .transaction)) (access .note-access .ensures .0)) i;
     }
 
 pub step-spec : {M : Type 1} → statement M
 step-spec =
     tie.close
-    (tie.spec (λ c κs. search needs) (λ c κs. search needs) (λ c κs. search needs)
-    (λ c κs. search needs) (λ c κs. search needs) (λ c κs. search needs) (λ c κs. search needs)
-    (λ c κs. search needs) returns)
+    (tie.spec (λ c κs. search needs) (λ c κs. search needs) (λ c κs. search needs) (λ c κs. search needs)
+    (λ c κs. search needs) (λ c κs. search needs) returns)
