@@ -5,7 +5,7 @@ ghost use Prim.Native.Nat.{ℕ, _+_, _≤_};
 ghost use lib.ListN.{length};
 ghost use Rattle.records.specs.Bytes.{placed};
 ghost use Rattle.writer.specs.Writing.{startRecord, startsTo};
-use crate::bodies::put_access;
+use events::bodies::put_access;
 use records::fields::put_u16;
 use records::record::Record;
 
