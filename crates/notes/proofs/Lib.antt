@@ -1,3 +1,4 @@
 pub mod KeptLaws
 pub mod Moved
 pub mod Without
+pub mod Theorems
