@@ -2,3 +2,5 @@ pub mod KeptLaws
 pub mod Moved
 pub mod Without
 pub mod Theorems
+pub mod NextLaws
+pub mod NoteLaws
