@@ -179,27 +179,24 @@ fn a_note_is_of_kind_48_and_behind_the_head() {
 #[test]
 fn notes_count_to_the_length_of_a_file() {
     let mut met = Coverage::default();
-    for size in [0, 1, 60, 64] {
-        let note = note_record(&vec![0x20; size]);
-        let mut file = vec![4, 0, 1, 0, 1, 0];
-        // Notes up to the last one, which is as long as what is left.
-        while file.len() + 2 * note.len() + 4 <= 32_768 {
-            file.extend(&note);
-        }
-        let left = 32_768 - file.len() - 4;
-        let half = left.min(64);
-        file.extend(note_record(&vec![0x21; half]));
-        file.extend((left > half).then(|| note_record(&vec![0x21; left - half - 4])).unwrap_or_default());
-        assert_eq!(file.len(), 32_768, "notes of {size} bytes");
-        let read = compare::read(&file, &mut [0xeeee; 32], &mut Columns::default(), &mut met);
-        assert_eq!((read.code, read.place), (0, 65_536));
-        let found: usize = notes(&file).map(|note| note.bytes.len() + 4).sum();
-        assert_eq!(found, 32_762, "all bytes behind the head are notes");
-        let last = file.len() - 1;
-        file.insert(last, 0x22);
-        let read = compare::read(&file, &mut [0xeeee; 32], &mut Columns::default(), &mut met);
-        assert_eq!((read.code, read.place), (1, 0), "a byte more");
-        assert_eq!(compare::next_note(&file, 0, &mut [0xeeee; 3], &mut met).code, NONE);
+    // Notes of one size, and a last one that ends where a file ends at the latest: 32,762 bytes behind the head.
+    for (size, count, last) in [(0, 8_189, 2), (1, 6_551, 3), (60, 511, 54), (64, 481, 50)] {
+        let noted = |last: usize| {
+            [&[4, 0, 1, 0, 1, 0][..], &note_record(&vec![0x20; size]).repeat(count), &note_record(&vec![0x21; last])].concat()
+        };
+        let (file, longer) = (noted(last), noted(last + 1));
+        assert_eq!((file.len(), longer.len()), (32_768, 32_769), "notes of {size} bytes");
+        let mut read = |file: &[u8]| {
+            let answer = compare::read(file, &mut [0xeeee; 32], &mut Columns::default(), &mut met);
+            (answer.code, answer.place)
+        };
+        assert_eq!((read(&file), read(&longer)), ((0, 65_536), (1, 0)));
+        assert_eq!((notes(&file).count(), notes(&longer).count()), (count + 1, 0));
+        assert_eq!(compare::next_note(&longer, 0, &mut [0xeeee; 3], &mut met).code, NONE);
+        let mut note = [0xeeee; 3];
+        let from = file.len() - last - 4;
+        assert_eq!(compare::next_note(&file, from as u32, &mut note, &mut met).code, 0);
+        assert_eq!(note, [0, from as u32 + 4, last as u32]);
     }
 }
 
