@@ -356,12 +356,14 @@ fn plain_read(file: &[u8], (starts, columns): &mut Lent) -> Answer {
 fn found(file: &[u8]) -> Vec<[u32; 3]> {
     let (mut all, mut note) = (Vec::new(), [0; 3]);
     loop {
-        let answer = calls::next_note(file, note[1] + note[2], &mut note);
+        let from = note[1] + note[2];
+        let answer = calls::next_note(file, from, &mut note);
         assert_eq!(answer.place, 0);
         if answer.code != 0 {
             assert_eq!(answer.code, NONE);
             return all;
         }
+        assert!(note[1] > from, "from {from} a note was found before it");
         all.push(note);
     }
 }

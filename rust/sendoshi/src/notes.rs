@@ -61,9 +61,11 @@ impl<'a> Iterator for Notes<'a> {
         let answer = calls::next_note(self.file, self.from, &mut found);
         let [events, start, length] = found.map(|number| number as usize);
         match answer.code {
-            DONE => {
+            // A note is found behind the byte that was asked for: the walk comes to its end.
+            DONE if found[1] > self.from => {
+                let bytes = &self.file[start..start + length];
                 self.from = found[1] + found[2];
-                Some(Note { events, start, bytes: &self.file[start..start + length] })
+                Some(Note { events, start, bytes })
             }
             NONE => None,
             _ => answer.unexpected(),
