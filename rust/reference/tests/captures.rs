@@ -264,12 +264,38 @@ fn lone() -> Vec<Capture> {
     lone_reads().into_iter().chain(lone_writes()).chain(lone_rules()).chain(lone_refused()).collect()
 }
 
-/// Captures that are read with notes in them.
-fn notes_passed_over() -> Vec<Capture> {
-    // T0 reads a start value, and a lone write comes between that and its commit.
+/// T0 reads a start value, and a lone write comes between that and its commit. Notes stand before, between and behind the start records,
+/// between a call and its answer, and at the end.
+fn notes_everywhere() -> Capture {
     let sound = Log::starting(&[(3, 9), (31, 1)]).begin(0).read(0, 3, 9).lone_write(1, 3, 5).commit(0);
     let in_turn = marking(&[(0, Committed), (1, Committed)], &[(2, 0)]);
     let (counts, tally) = ("events 6 transactions 2 reads 1", "committed 2 aborted 0 pending 0 live 0");
+    capture("notes", &sound, Some(in_turn), [counts, tally, "marking accepted", "opaque yes"]).noted(
+        &[
+            (0, b"night shift, recorder 2"),
+            (1, b"register 31 preset by hand"),
+            (2, b""),
+            (2, b"display task on"),
+            (4, b"slow\xbf \\ ask"),
+            (5, &[6, 0, 16, 0, 9, 0, 0, 0]), // like the begin of a tenth transaction
+            (8, b"end of shift"),
+            (8, b""),
+        ],
+        &[
+            "after 0 events: night shift, recorder 2",
+            "after 0 events: register 31 preset by hand",
+            "after 0 events:",
+            "after 0 events: display task on",
+            "after 2 events: slow\\xbf \\x5c ask",
+            "after 3 events: \\x06\\x00\\x10\\x00\\x09\\x00\\x00\\x00",
+            "after 6 events: end of shift",
+            "after 6 events:",
+        ],
+    )
+}
+
+/// Captures that are read with notes in them.
+fn notes_passed_over() -> Vec<Capture> {
     let h7_marking = marking(&[(0, Committed), (1, Aborted)], &[(5, 1), (9, 1)]);
     let (h7_counts, h7_tally) = ("events 10 transactions 2 reads 2", "committed 1 aborted 0 pending 0 live 1");
     let (h7_rule, h7_fault) = ("marking rule E event 5 transaction 1", "opaque no event 9 cause 1");
@@ -277,28 +303,7 @@ fn notes_passed_over() -> Vec<Capture> {
     let alone_marking = marking(&[(0, Committed)], &[(0, 0)]);
     let (one, one_tally) = ("events 1 transactions 1 reads 1", "committed 1 aborted 0 pending 0 live 0");
     vec![
-        capture("notes", &sound, Some(in_turn), [counts, tally, "marking accepted", "opaque yes"]).noted(
-            &[
-                (0, b"night shift, recorder 2"),
-                (1, b"register 31 preset by hand"),
-                (2, b""),
-                (2, b"display task on"),
-                (4, b"slow\xbf \\ ask"),
-                (5, &[6, 0, 16, 0, 9, 0, 0, 0]), // like the begin of a tenth transaction
-                (8, b"end of shift"),
-                (8, b""),
-            ],
-            &[
-                "after 0 events: night shift, recorder 2",
-                "after 0 events: register 31 preset by hand",
-                "after 0 events:",
-                "after 0 events: display task on",
-                "after 2 events: slow\\xbf \\x5c ask",
-                "after 3 events: \\x06\\x00\\x10\\x00\\x09\\x00\\x00\\x00",
-                "after 6 events: end of shift",
-                "after 6 events:",
-            ],
-        ),
+        notes_everywhere(),
         capture("notes-torn", &Log::h7(), Some(h7_marking), [h7_counts, h7_tally, h7_rule, h7_fault]).noted(
             &[(0, b"bench 4"), (5, b"T1 waits"), (9, b"this read?"), (9, b"yes")],
             &["after 0 events: bench 4", "after 5 events: T1 waits", "after 9 events: this read?", "after 9 events: yes"],
