@@ -56,7 +56,7 @@ impl Before {
 #[derive(Clone, Copy, Debug)]
 enum Behind {
     Nothing,
-    Note,
+    ShortNote,
     LongNote,
     Start,
     Begin,
@@ -69,12 +69,12 @@ enum Behind {
 use Behind::*;
 
 impl Behind {
-    const ALL: [Behind; 9] = [Nothing, Note, LongNote, Start, Begin, LateAnswer, ShortBegin, UnknownKind, Cut];
+    const ALL: [Behind; 9] = [Nothing, ShortNote, LongNote, Start, Begin, LateAnswer, ShortBegin, UnknownKind, Cut];
 
     fn bytes(self) -> Vec<u8> {
         match self {
             Nothing => vec![],
-            Note => note_record(&[0x30; 64]),
+            ShortNote => note_record(&[0x30; 64]),
             LongNote => note_record(&[0x30; 65]),
             Start => start_record(3, 9),
             Begin => record(BEGIN, &[0, 0, 15, 0]), // the first transaction, on a thread that nobody uses
@@ -88,7 +88,7 @@ impl Behind {
     /// The question that says no to it, if one does.
     fn refused(self, edition: u16, before: &Before) -> Option<u32> {
         match self {
-            Nothing | Note => None,
+            Nothing | ShortNote => None,
             LongNote => Some(44),
             Start if edition == 1 => Some(4),
             Start if before.events > 0 => Some(43),
