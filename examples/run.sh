@@ -1,7 +1,7 @@
 #!/bin/sh
-# Compiles the header as C99 and as C++, builds verdict.c against the static library, compares what it prints for each folder of
-# captures/ with the report.txt there, and has it straighten some markings. The library is looked for in SENDOSHI_LIB_DIR, or else
-# in target/staticlib.
+# Compiles the header as C99 and as C++, builds verdict.c and notes.c against the static library, compares what they print for each
+# folder of captures/ with the report.txt and the notes.txt there, and has the first straighten some markings. The library is looked
+# for in SENDOSHI_LIB_DIR, or else in target/staticlib.
 set -eu
 here=$(cd "$(dirname "$0")" && pwd)
 include=$here/../include
@@ -15,7 +15,9 @@ cp "$room/header.c" "$room/header.cpp"
 ${CC:-cc} -std=c99 $warnings -I"$include" -c "$room/header.c" -o "$room/header.o"
 ${CXX:-c++} -std=c++98 $warnings -Wno-long-long -I"$include" -c "$room/header.cpp" -o "$room/header.o"
 ${CXX:-c++} -std=c++17 $warnings -I"$include" -c "$room/header.cpp" -o "$room/header.o"
-${CC:-cc} -std=c99 -O2 $warnings -I"$include" "$here/verdict.c" "$archive" -o "$room/verdict"
+for program in verdict notes; do
+    ${CC:-cc} -std=c99 -O2 $warnings -I"$include" "$here/$program.c" "$archive" -o "$room/$program"
+done
 
 ran=0
 compare() { # FOLDER REPORT
@@ -76,3 +78,22 @@ cmp "$room/straight" "$captures/lone-pending/capture.mrk"
 straighten "$captures/lone-gap-d" 'straightened no'
 [ ! -e "$room/straight" ] || { echo 'lone-gap-d: a marking was written' && exit 1; }
 echo "verdict.c: $ran captures, each with the report expected, and 7 markings straightened as expected"
+
+# A capture without a notes.txt has no notes, or is refused: then the report's line is printed.
+ran=0
+with_notes=0
+for folder in "$captures"/*/; do
+    [ -e "$folder/capture.hst" ] || continue
+    if [ -e "$folder/notes.txt" ]; then
+        expected=$folder/notes.txt
+        with_notes=$((with_notes + 1))
+    else
+        expected=$room/expected
+        sed -n '/^history refused /p' "$folder/report.txt" >"$expected"
+    fi
+    "$room/notes" "$folder" >"$room/printed"
+    cmp "$room/printed" "$expected"
+    ran=$((ran + 1))
+done
+[ "$with_notes" -gt 0 ] || { echo 'no capture has notes' && exit 1; }
+echo "notes.c: $ran captures, $with_notes with notes, each printed as expected"

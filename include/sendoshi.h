@@ -24,22 +24,27 @@
  * Beside them stand the edition of the history and 32 start values: what each register holds before any writer. In edition 1 all are
  * 0. A file of edition 2 has those that are not 0 between its head and its events.
  *
+ * A file of either edition may have notes: records of kind 48 that carry 0 to 64 bytes, what a technician typed while it was recorded.
+ * They may stand anywhere behind the head, before, between and behind start records and events. A note is no event: sendoshi_read
+ * passes it over, columns have none, and sendoshi_write writes none. sendoshi_next_note finds them.
+ *
  * Buffers are lent as a pointer and a length: the number of entries of a column or a list, the number of bytes of a file or an output.
- * Start values are lent as a pointer alone: they are always 32.
+ * Start values and a note are lent as a pointer alone: the one always has 32 numbers, the other three.
  *
  * What a caller must see to, since no function can test it: each pointer is not NULL, is aligned for its type and is good for its
- * length (with length 0 nothing behind it is touched), that of start values for 32 of them; a buffer that is written overlaps no other
- * buffer of the same call. There is no other condition. Any numbers and any contents may be passed; what does not fit is refused. Every
- * call returns, none allocates memory, and none keeps a pointer or has a state: calls on different buffers may run at the same time.
+ * length (with length 0 nothing behind it is touched), that of start values for 32 of them and that of a note for three; a buffer that
+ * is written overlaps no other buffer of the same call. There is no other condition. Any numbers and any contents may be passed; what
+ * does not fit is refused. Every call returns, none allocates memory, and none keeps a pointer or has a state: calls on different
+ * buffers may run at the same time.
  *
  * What a caller can rely on, for every call:
  *   - a buffer passed as a pointer to const keeps its contents;
  *   - a call that refuses, finds nothing, or answers with a broken rule, leaves every buffer as it was;
  *   - a call that is done changes a written buffer only up to what it returns, the event count, the length or the number moved;
- *     of start values it sets all 32;
+ *     of start values it sets all 32, of a note all three;
  *   - neither what stands in columns past the count, nor what a written buffer held before, makes a difference to an answer.
  *
- * Versions of this interface. A program written for one must be changed for the next:
+ * Versions of this interface. A program written for one must be changed for the next, but for one of version 4, which goes on with 5:
  *
  *   1   the first, in which every register started at 0; its header named no version.
  *   2   start values. sendoshi_read has a new third parameter, the start values that it fills, and its place is no longer the event
@@ -53,11 +58,14 @@
  *       the start values, and refuse by 3 as the other calls do. Edition 2 has kinds 24 and 25, in files and in columns.
  *       SENDOSHI_FILE_SIZE is larger. To go on as before: lend a column of threads, keep each begin's thread there, and refuse
  *       histories in which kinds 24 and 25 occur.
+ *   5   notes. sendoshi_read reads files with records of kind 48 behind the head, which it refused by 4, as the same files without
+ *       them; 44 is new. sendoshi_next_note is a new call. Nothing else has changed: no other file is answered in another way, and no
+ *       call has other parameters. To go on as before: refuse files in which sendoshi_next_note finds a note.
  */
 #ifndef SENDOSHI_H
 #define SENDOSHI_H
 
-#define SENDOSHI_VERSION 4
+#define SENDOSHI_VERSION 5
 
 #include <stddef.h>
 #include <stdint.h>
@@ -72,6 +80,7 @@ enum {
     SENDOSHI_MAX_EVENTS = 2048,     /* events of a history */
     SENDOSHI_MAX_TRANSACTIONS = 64, /* transactions of a history */
     SENDOSHI_REGISTERS = 32,        /* registers of a history, each with a start value */
+    SENDOSHI_MAX_NOTE = 64,         /* bytes that a note carries */
     SENDOSHI_MAX_JUDGED = 10        /* transactions of what sendoshi_find and sendoshi_scan judge */
 };
 
@@ -90,17 +99,19 @@ enum {
  *   0           done                            the edition * 65536 + the event count (read), the length (write, find),
  *                                               the number counted (transactions, store_reads), committed * 2^24 +
  *                                               aborted * 2^16 + pending * 2^8 + live (tally), the number moved * 65536
- *                                               + the length (straighten), or 0 (scan: opaque; check: accepted)
+ *                                               + the length (straighten), or 0 (scan: opaque; check: accepted;
+ *                                               next_note: found)
  *   1 to 99     refused by this question        the byte or the event, see below
  *   100         find: there is no               0
- *               justification
+ *               justification; next_note:
+ *               there is no further note
  *   101 to 104  scan: not opaque, cause 1 to 4  the last event of the first prefix without a justification
  *   201 to 205  check, straighten: rule A to E  event * 65536 + transaction
  *               is broken (straighten: never D)
  *
- * Questions about files have a byte as their place: where the record begins, 0 for question 1 and for an empty file, the file's
- * length for 14, for 29 and for 28 at the end. All others have an event: its number, or the count for 15, 17, 18, 31
- * and 32, and for 3 where it is not about a file.
+ * Questions about files have a byte as their place: where the record begins in the file as it is given, with its notes, 0 for question
+ * 1 and for an empty file, the file's length for 14, for 29 and for 28 at the end. All others have an event: its number, or the
+ * count for 15, 17, 18, 31 and 32, and for 3 where it is not about a file.
  */
 enum {
     SENDOSHI_DONE = 0,
@@ -111,7 +122,7 @@ enum {
     SENDOSHI_HISTORY_HEAD = 3,  /* no head of edition 1 or 2; of columns (event): another edition, or 1 and a start that is not 0 */
 
     /* An event of a file (byte) or of columns (event). */
-    SENDOSHI_EVENT_KIND = 4,               /* the kind is not 16 to 23, nor, in edition 2, 24 or 25 (in a file also 3) */
+    SENDOSHI_EVENT_KIND = 4,               /* the kind is not 16 to 23, nor, in edition 2, 24 or 25 (a file: also 3), nor 48 in a file */
     SENDOSHI_EVENT_SIZE = 5,               /* the record has not the size of its kind; files only */
     SENDOSHI_TOO_MANY_EVENTS = 6,          /* more than 2048 */
     SENDOSHI_TOO_MANY_TRANSACTIONS = 7,    /* more than 64; of a begin or a lone access */
@@ -148,6 +159,9 @@ enum {
     SENDOSHI_START_REGISTER = 41, /* the register is not above that of the last start record, or not below 32 */
     SENDOSHI_START_ZERO = 42,     /* the value is 0 */
     SENDOSHI_START_LATE = 43,     /* an event comes before it */
+
+    /* A note of a history file: byte. */
+    SENDOSHI_NOTE_LONG = 44, /* it has more than 64 bytes */
 
     SENDOSHI_NONE = 100,
 
@@ -237,9 +251,10 @@ static inline uint32_t sendoshi_tally_live(uint64_t answer)
 
 /*
  * Reads a history file into start values and columns. Done: the edition, 1 or 2, and the event count; all 32 start values and that many
- * entries of each column are set.
- * Refuses: 1; 2 and 3 of the first record; then of each further record 2, 4, 5; 43, 41, 42 of a start record; 6 to 13 of an event; at
- * the end 14.
+ * entries of each column are set. Notes are passed over: a file that is read gives what the same file without them gives. A start record
+ * may come behind a note, and notes may come behind the last of 2048 events; they count to the file's 32768 bytes.
+ * Refuses: 1; 2 and 3 of the first record; then of each further record 2; 44 of a note, and nothing else; of all others 4, 5; 43, 41, 42
+ * of a start record; 6 to 13 of an event; at the end 14.
  */
 uint64_t sendoshi_read(const uint8_t *file, size_t file_length,
                        uint32_t starts[SENDOSHI_REGISTERS],
@@ -250,8 +265,23 @@ uint64_t sendoshi_read(const uint8_t *file, size_t file_length,
                        uint16_t *threads, size_t threads_length);
 
 /*
- * Writes the first `count` events as a history file of this edition, from the output's first byte. Done: the file's length.
- * sendoshi_read gives edition, start values and events back.
+ * Finds the first note of a history file whose record begins at byte `from` or later. Done: note[0] is how many events stand before it,
+ * note[1] the byte at which its bytes begin, note[2] how many bytes it has, 0 to 64. SENDOSHI_NONE: there is none. All notes, in the
+ * order of the file:
+ *
+ *     uint32_t note[3] = {0, 0, 0};
+ *     while (sendoshi_code(sendoshi_next_note(file, file_length, note[1] + note[2], note)) == SENDOSHI_DONE)
+ *         printf("after %" PRIu32 " events: %.*s\n", note[0], (int)note[2], (const char *)(file + note[1]));
+ *
+ * It refuses nothing and does not judge the file: call sendoshi_read first. Of a file that sendoshi_read reads these are all notes. Of
+ * any other, they are looked for behind the 6 bytes of a head, as far as whole records go (question 2) and up to the first note of more
+ * than 64 bytes; a file of more than 32768 bytes has none. What counts as an event is every record of kinds 16 to 25.
+ */
+uint64_t sendoshi_next_note(const uint8_t *file, size_t file_length, uint32_t from, uint32_t note[3]);
+
+/*
+ * Writes the first `count` events as a history file of this edition, without notes, from the output's first byte. Done: the file's
+ * length. sendoshi_read gives edition, start values and events back.
  * Refuses: 17; 3; 4, 6 to 13 and 16 for each event in turn; 15.
  */
 uint64_t sendoshi_write(uint16_t edition, const uint32_t starts[SENDOSHI_REGISTERS],

@@ -5,6 +5,7 @@
 use outside::lent::lent_count;
 use outside::limits;
 use outside::marks::marked_history;
+use outside::notes::scattered;
 use outside::random::Random;
 use outside::shapes::{is_judged_quickly, marking_size};
 use outside::stores::damaged_store;
@@ -40,8 +41,10 @@ fn main() {
 fn round(random: &mut Random) {
     let (log, marking) = marked_history(random);
     let marking = marking.to_bytes();
-    all_calls(&log, &file(&log), &marking);
-    let file = damage::file(random, file(&log));
+    let noted = scattered(random, &file(&log)).file;
+    all_calls(&log, &noted, &marking);
+    let sound = if random.chance(50) { noted } else { file(&log) };
+    let file = damage::file(random, sound);
     let marking = damage::file(random, marking);
     let log = Log { store: damaged_store(random, log.store), events: damage::events(random, log.events) };
     all_calls(&log, &file, &marking);
@@ -56,6 +59,7 @@ fn all_calls(log: &Log, history: &[u8], marking: &[u8]) {
     let columns = Columns::of(events);
     let count = events.len();
     read(history, count);
+    notes(history);
     output_call(ffi_write, |output| entries::write(store, &columns, count, output), store, &columns, count, file(log).len());
     let exact = Exact::new(store, &columns);
     let marking: Box<[u8]> = marking.into();
@@ -168,6 +172,25 @@ fn read(file: &[u8], count: usize) {
         let (_, length) = got.halves();
         let read: Vec<Event> = (0..length).map(|at| expected_columns.event(at)).collect();
         assert_eq!(columns.set(length), Columns::of(&read));
+    }
+}
+
+/// Every note, each found from behind the one before it on, in three numbers of which nothing is set.
+fn notes(file: &[u8]) {
+    let file: Box<[u8]> = file.into();
+    let mut from = 0;
+    loop {
+        let mut note = Box::<[u32; 3]>::new_uninit();
+        // SAFETY: pointers and length are those of the boxes.
+        let got = unsafe { ffi::sendoshi_next_note(file.as_ptr(), file.len(), from, note.as_mut_ptr()) };
+        let mut expected = [0; 3];
+        assert_eq!(plain(sendoshi::Answer::of(got)), entries::next_note(&file, from, &mut expected));
+        if got != 0 {
+            return;
+        }
+        // SAFETY: the call said that it set all three; valgrind finds those that it did not.
+        assert_eq!(unsafe { *note.assume_init() }, expected);
+        from = expected[1] + expected[2];
     }
 }
 

@@ -3,6 +3,7 @@
 use crate::coverage::{Coverage, Entry};
 use crate::lent::{lent_count, lent_starts, Lent, LentColumns, LentStore};
 use crate::lone;
+use crate::notes;
 use crate::stores;
 use crate::tallies;
 use reference::entries::{self, Answer};
@@ -12,6 +13,7 @@ use sendoshi::{answer, calls};
 
 const BYTE: u8 = 0xa5;
 const EVENT: u32 = 0xc35a_a53c;
+const NUMBER: u32 = 0x69c3_3c96;
 
 fn same(entry: Entry, got: sendoshi::Answer, expected: Answer, coverage: &mut Coverage) -> Answer {
     let got = Answer { code: got.code, place: got.place };
@@ -31,6 +33,20 @@ pub fn read(file: &[u8], starts: &mut [u32; REGISTERS], columns: &mut Columns, c
     assert!(lent_file.holds(file), "read changed its file");
     assert!(lent_starts.holds(starts), "read left other start values than it should");
     assert!(lent.hold(columns), "read left other columns than it should");
+    if answer.code == answer::DONE {
+        notes::note(file, coverage);
+    }
+    answer
+}
+
+/// Finds the first note from a byte on, in three numbers that hold something already.
+pub fn next_note(file: &[u8], from: u32, note: &mut [u32; 3], coverage: &mut Coverage) -> Answer {
+    let lent_file = Lent::new(file, BYTE);
+    let mut lent_note = Lent::new(note, NUMBER);
+    let got = calls::next_note(lent_file.slice(), from, lent_note.note_mut());
+    let answer = same(Entry::NextNote, got, entries::next_note(file, from, note), coverage);
+    assert!(lent_file.holds(file), "next_note changed its file");
+    assert!(lent_note.holds(note), "next_note left another note than it should");
     answer
 }
 

@@ -1,5 +1,5 @@
 //! Which codes each entry has answered with, which transactions were tallied, what was read of start values, what was accessed outside
-//! transactions, what became of searches, and how often.
+//! transactions, where notes stood, what became of searches, and how often.
 
 use std::collections::BTreeMap;
 use std::fmt;
@@ -7,6 +7,7 @@ use std::fmt;
 #[derive(Clone, Copy, Debug, PartialEq, Eq, PartialOrd, Ord)]
 pub enum Entry {
     Read,
+    NextNote,
     Write,
     Find,
     Scan,
@@ -66,6 +67,27 @@ pub enum Lone {
     WriteSeenInVain,
 }
 
+/// Where a note of a file that was read can stand, and what it can carry.
+#[derive(Clone, Copy, Debug, PartialEq, Eq, PartialOrd, Ord)]
+pub enum Noted {
+    BeforeStarts,
+    BetweenStarts,
+    /// Behind start records and before an event.
+    BehindStarts,
+    /// Before the first event of a file without start records.
+    BeforeEvents,
+    BetweenEvents,
+    BehindEvents,
+    /// At the end of a file that has no event.
+    WithoutEvents,
+    /// Right behind another note.
+    InARow,
+    /// It has no byte.
+    Empty,
+    /// It has as many bytes as a note may have.
+    Full,
+}
+
 /// What a finder can make of a history.
 #[derive(Clone, Copy, Debug, PartialEq, Eq, PartialOrd, Ord)]
 pub enum Searched {
@@ -84,6 +106,7 @@ enum Met {
     Tallied(Tallied),
     Started(Started),
     Lone(Lone),
+    Noted(Noted),
     Searched(Searched),
 }
 
@@ -107,6 +130,10 @@ impl Coverage {
 
     pub fn note_lone(&mut self, what: Lone) {
         self.note_met(Met::Lone(what));
+    }
+
+    pub fn note_noted(&mut self, what: Noted) {
+        self.note_met(Met::Noted(what));
     }
 
     pub fn note_searched(&mut self, what: Searched) {
@@ -147,6 +174,11 @@ impl Coverage {
         self.require_met(all.iter().copied().map(Met::Lone));
     }
 
+    /// Fails if no file that was read had a note that stands, or carries what it does, in one of the ways there are.
+    pub fn require_every_noted(&self) {
+        self.require_met(NOTED.into_iter().map(Met::Noted));
+    }
+
     /// Fails if something that can become of a search never did.
     pub fn require_every_searched(&self) {
         self.require_met(SEARCHED.into_iter().map(Met::Searched));
@@ -176,6 +208,7 @@ impl fmt::Display for Coverage {
                 Met::Tallied(what) => writeln!(f, "tallied {what:?}: {count}")?,
                 Met::Started(what) => writeln!(f, "start values {what:?}: {count}")?,
                 Met::Lone(what) => writeln!(f, "lone accesses {what:?}: {count}")?,
+                Met::Noted(what) => writeln!(f, "notes {what:?}: {count}")?,
                 Met::Searched(what) => writeln!(f, "searched {what:?}: {count}")?,
             }
         }
@@ -192,7 +225,8 @@ const MARKING: [u32; 11] = [1, 2, 21, 22, 23, 24, 25, 26, 27, 28, 29];
 /// The questions that an entry can answer with no.
 pub fn refusals(entry: Entry) -> Vec<u32> {
     let own: Vec<u32> = match entry {
-        Entry::Read => return (1..=14).chain(41..=43).collect(),
+        Entry::Read => return (1..=14).chain(41..=44).collect(),
+        Entry::NextNote => return vec![],
         Entry::Write => vec![15],
         Entry::Find => vec![18, 31, 32],
         Entry::Scan => vec![31],
@@ -207,7 +241,7 @@ pub fn refusals(entry: Entry) -> Vec<u32> {
 /// among those of a straightened marking: nothing lies between a reader and a point at its place.
 pub fn judgements(entry: Entry) -> &'static [u32] {
     match entry {
-        Entry::Find => &[0, 100],
+        Entry::Find | Entry::NextNote => &[0, 100],
         Entry::Scan => &[0, 101, 102, 103],
         Entry::Check => &[0, 201, 202, 203, 204, 205],
         Entry::Straighten => &[0, 201, 202, 203, 205],
@@ -215,8 +249,9 @@ pub fn judgements(entry: Entry) -> &'static [u32] {
     }
 }
 
-pub const ENTRIES: [Entry; 9] = [
+pub const ENTRIES: [Entry; 10] = [
     Entry::Read,
+    Entry::NextNote,
     Entry::Write,
     Entry::Find,
     Entry::Scan,
@@ -249,6 +284,19 @@ pub const LONE: [Lone; 7] = [
     Lone::WriteSeen,
     Lone::WriteSeenAlone,
     Lone::WriteSeenInVain,
+];
+
+pub const NOTED: [Noted; 10] = [
+    Noted::BeforeStarts,
+    Noted::BetweenStarts,
+    Noted::BehindStarts,
+    Noted::BeforeEvents,
+    Noted::BetweenEvents,
+    Noted::BehindEvents,
+    Noted::WithoutEvents,
+    Noted::InARow,
+    Noted::Empty,
+    Noted::Full,
 ];
 
 pub const SEARCHED: [Searched; 3] = [Searched::Rising, Searched::NotRising, Searched::InVain];

@@ -1,13 +1,16 @@
-//! Damaged files, events and columns: cut, lengthened, with bits turned, with records out of their order.
+//! Damaged files, events and columns: cut, lengthened, with bits turned, with records out of their order, with stray notes.
 
 use crate::random::Random;
 use reference::event::{Columns, Event};
 use reference::history_file::START;
-use reference::record::{record, record_at};
+use reference::notes::NOTE;
+use reference::record::{record, records_from};
 
 /// Numbers next to which something changes.
-const EDGES: [u16; 29] =
-    [0, 1, 2, 3, 4, 5, 6, 8, 10, 11, 12, 15, 16, 17, 18, 19, 22, 23, 24, 25, 26, 31, 32, 33, 34, 63, 64, 2_048, 65_535];
+const EDGES: [u16; 34] = [
+    0, 1, 2, 3, 4, 5, 6, 8, 10, 11, 12, 15, 16, 17, 18, 19, 22, 23, 24, 25, 26, 31, 32, 33, 34, 47, 48, 49, 63, 64, 66, 67,
+    2_048, 65_535,
+];
 
 /// How many faults are put into one thing.
 fn faults(random: &mut Random) -> usize {
@@ -52,16 +55,17 @@ fn records(random: &mut Random, file: &[u8]) -> Vec<u8> {
         return file.to_vec();
     }
     let (at, other) = (random.below(records.len()), random.below(records.len()));
-    match random.below(10) {
+    match random.below(11) {
         0 => records.swap(at, other),
         1 => drop(records.remove(at)),
         2 => records.insert(other, records[at].clone()),
         3 => records.push(stray(random)),
         4 => records.insert(random.below(records.len() + 1).max(1), start(random)),
-        5 => put(&mut records[0].body, 0, random.pick(&[0, 1, 1, 2, 2, 3])),
-        6 => records[at].kind = random.pick(&EDGES),
-        7 => drop(records[at].body.pop()),
-        8 => records[at].body.push(random.word() as u8),
+        5 => records.insert(random.below(records.len() + 1), note(random)),
+        6 => put(&mut records[0].body, 0, random.pick(&[0, 1, 1, 2, 2, 3])),
+        7 => records[at].kind = random.pick(&EDGES),
+        8 => drop(records[at].body.pop()),
+        9 => records[at].body.push(random.word() as u8),
         _ => {
             let field = random.below(records[at].body.len() + 1) / 2 * 2;
             put(&mut records[at].body, field, random.pick(&EDGES));
@@ -77,14 +81,8 @@ struct Parts {
 }
 
 fn split(file: &[u8]) -> Vec<Parts> {
-    let mut found = Vec::new();
-    let mut byte = 0;
-    while byte < file.len() {
-        let Ok(record) = record_at(file, byte) else { break };
-        found.push(Parts { kind: record.kind, body: record.body.to_vec() });
-        byte = record.next;
-    }
-    found
+    let (records, _) = records_from(file, 0);
+    records.into_iter().map(|record| Parts { kind: record.kind, body: record.body.to_vec() }).collect()
 }
 
 /// A record of some kind with small fields.
@@ -104,6 +102,12 @@ fn start(random: &mut Random) -> Parts {
     let mut body = [&register.to_le_bytes()[..], &value.to_le_bytes()].concat();
     body.resize(random.pick(&[6, 6, 6, 6, 6, 6, 4, 5, 7, 8]), 0);
     Parts { kind: START, body }
+}
+
+/// A note, mostly about as long as it may be, and now and then before the head.
+fn note(random: &mut Random) -> Parts {
+    let size = random.pick(&[0, 1, 63, 64, 65, 65, 66, 320]);
+    Parts { kind: NOTE, body: (0..size).map(|_| random.word() as u8).collect() }
 }
 
 /// Events with a few faults, or none.

@@ -80,6 +80,11 @@ impl Guarded<u32> {
     pub fn starts_mut(&mut self) -> &mut [u32; 32] {
         self.slice_mut().try_into().expect("32 start values")
     }
+
+    /// The entries as the three numbers of a note.
+    pub fn note_mut(&mut self) -> &mut [u32; 3] {
+        self.slice_mut().try_into().expect("three numbers")
+    }
 }
 
 impl<T> Drop for Guarded<T> {

@@ -43,6 +43,11 @@ impl Lent<u32> {
     pub fn starts_mut(&mut self) -> &mut [u32; REGISTERS] {
         self.slice_mut().try_into().expect("as many start values as registers")
     }
+
+    /// The entries as the three numbers of a note.
+    pub fn note_mut(&mut self) -> &mut [u32; 3] {
+        self.slice_mut().try_into().expect("three numbers")
+    }
 }
 
 /// A store whose start values are lent to the library.

@@ -6,7 +6,7 @@
 //! from a seed of its own. [`stores`] has the editions and start values that go with them. [`lent`] and [`guarded`] are the
 //! buffers that the calls are lent, [`views`] those of a log that is lent as it stands, [`vast`] some with more entries than a count can
 //! say. [`straight`] has what is promised of a straightened marking, and [`tallies`] what is promised of a tally. [`lone`] writes accesses
-//! outside transactions out as the transactions that they stand for.
+//! outside transactions out as the transactions that they stand for, and [`notes`] puts notes into files.
 //!
 //! Searches have inputs of their own: [`digest`] is what a search goes by, [`random_digest`] makes some, [`hard`] makes some that
 //! are hard, and [`schedule`] makes histories of them. [`tables_by_force`] knows their lowest order without searching.
@@ -21,6 +21,7 @@ pub mod lent;
 pub mod limits;
 pub mod lone;
 pub mod marks;
+pub mod notes;
 pub mod random;
 pub mod random_digest;
 pub mod rounds;

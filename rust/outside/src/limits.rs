@@ -4,6 +4,7 @@ use crate::random::Random;
 use crate::simulate::{simulate, Faults, Plan};
 use reference::event::*;
 use reference::log::Log;
+use reference::notes::NOTE;
 use reference::store::Store;
 
 /// A log of exactly so many events, from a few long transactions.
@@ -65,6 +66,8 @@ fn single() -> Vec<Log> {
         Log::new().aborted(0),
         one().event(BEGIN - 1, 0, 0, 0, 0),
         one().event(LONE_WRITE + 1, 1, 0, 0, 1),
+        // A note is no event: in columns its kind is unknown, in a file it is passed over.
+        one().event(NOTE, 0, 0, 0, 0),
     ]
 }
 
@@ -134,6 +137,7 @@ fn crowded() -> Log {
 fn several() -> Vec<Log> {
     vec![
         full().event(LONE_WRITE + 1, 9, 9, 9, 9),
+        full().event(NOTE, 9, 9, 9, 9),
         full().event(BEGIN, 9, 9, 9, 16),
         full().event(READ_CALLED, 9, 32, 9, 9),
         crowded().event(BEGIN, 0, 1, 1, 16),

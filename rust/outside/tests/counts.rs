@@ -4,6 +4,7 @@ use outside::vast::Vast;
 use reference::event::Columns as Held;
 use reference::log::Log;
 use reference::worked::h0_marking;
+use sendoshi::answer::NONE;
 use sendoshi::{calls, ffi, Answer, Columns, ColumnsMut, History, Place, Question, Refusal, Store};
 use std::mem::transmute;
 
@@ -124,10 +125,10 @@ fn every_column_must_hold_the_count() {
     }
 }
 
-/// A file of more than 2^32 bytes is too long, whatever it begins with.
+/// A file of more than 2^32 bytes is too long, whatever it begins with, a note among it.
 #[test]
 fn vast_files_are_too_long() {
-    let (history, marking) = (Vast::new(&[4, 0, 1, 0, 1, 0], VAST), Vast::new(&h0_marking(), VAST));
+    let (history, marking) = (Vast::new(&NOTED, VAST), Vast::new(&h0_marking(), VAST));
     let (held, mut read) = (h0(), h0());
     let Held { kinds, transactions, registers, values, threads } = &mut read;
     let columns = ColumnsMut { kinds, transactions, registers, values, threads };
@@ -135,6 +136,28 @@ fn vast_files_are_too_long() {
     assert_eq!(calls::read(history.slice(), &mut [0; 32], columns), too_long);
     assert_eq!(calls::check(Store::ZERO, view(&held), 10, marking.slice()), too_long);
     assert_eq!(calls::straighten(Store::ZERO, view(&held), 10, marking.slice(), &mut [0; 42], &mut [0; 2]), too_long);
+    for from in [0, 6, 7].into_iter().chain(BEYOND) {
+        let mut note = [0xeeee; 3];
+        assert_eq!(calls::next_note(history.slice(), from, &mut note), Answer { code: NONE, place: 0 }, "from {from}");
+        assert_eq!(note, [0xeeee; 3]);
+    }
+    assert_eq!(sendoshi::notes(history.slice()).next(), None);
+}
+
+/// A head and a note, ten bytes.
+const NOTED: [u8; 10] = [4, 0, 1, 0, 1, 0, 2, 0, 48, 0];
+
+/// From a byte beyond the file there is no note, whatever the lower bits of its number are.
+#[test]
+fn no_note_is_found_beyond_the_file() {
+    for from in (7..=10).chain(BEYOND).chain([65_536, 65_536 + 6, 256 + 6, 1 << 16, (1 << 31) + 6]) {
+        let mut note = [0xeeee; 3];
+        assert_eq!(calls::next_note(&NOTED, from, &mut note), Answer { code: NONE, place: 0 }, "from {from}");
+        assert_eq!(note, [0xeeee; 3], "from {from}");
+    }
+    let mut note = [0xeeee; 3];
+    assert_eq!(calls::next_note(&NOTED, 6, &mut note), Answer { code: 0, place: 0 });
+    assert_eq!(note, [0, 10, 0]);
 }
 
 type W = u64;
@@ -151,8 +174,8 @@ unsafe fn called(function: *const (), words: &[&[W]]) -> Answer {
     Answer::of(transmute::<*const (), Words>(function)(a, b, c, d, e, f, g, h, i, j, k, l, m, n, o, p, q, r, s))
 }
 
-/// The archive takes counts and prefixes of 32 bits, as header and wrapper declare them: what a caller leaves in the upper half of a
-/// word makes no difference.
+/// The archive takes counts, prefixes and the byte from which a note is looked for in 32 bits, as header and wrapper declare them: what a
+/// caller leaves in the upper half of a word makes no difference.
 #[test]
 fn counts_have_32_bits_in_the_archive() {
     let (held, starts, file) = (h0(), [0u32; 32], h0_marking());
@@ -181,5 +204,9 @@ fn counts_have_32_bits_in_the_archive() {
         // H0 has 88 bytes and its marking 42; that of its first six events has a read point less.
         let expected = [88, 32, 0, 0, 42, 2, 2, 0x0100_0001].map(|place| Answer { code: 0, place });
         assert_eq!(answers, expected, "with {above:x} above each number");
+        let (mut note, history) = ([0u32; 3], [NOTED.as_ptr() as W, NOTED.len() as W]);
+        // SAFETY: as above.
+        let found = unsafe { called(ffi::sendoshi_next_note as *const (), &[&history, &[above | 6], &[note.as_mut_ptr() as W]]) };
+        assert_eq!((found, note), (Answer { code: 0, place: 0 }, [0, 10, 0]), "with {above:x} above the byte");
     }
 }

@@ -5,6 +5,7 @@ use outside::coverage::{refusals, Coverage, ENTRIES};
 use outside::damage;
 use outside::limits;
 use outside::marks::random_marking;
+use outside::notes;
 use outside::random::Random;
 use outside::rounds;
 use outside::shapes::{columns_for, columns_of, is_judged_quickly, list_for, marking_size, output_for};
@@ -12,6 +13,7 @@ use outside::stores::{damaged_store, random_store, starts_for};
 use outside::walk::{walk, Shape};
 use reference::event::{Columns, Event};
 use reference::log::Log;
+use reference::notes::without_notes;
 use reference::reads::store_reads;
 use reference::store::Store;
 use reference::{history_file, record, worked};
@@ -91,15 +93,17 @@ fn history(random: &mut Random) -> Log {
 
 /// True where the file is not what it was.
 fn file(random: &mut Random, log: &Log, coverage: &mut Coverage) -> bool {
-    let sound = history_file::write(&log.store, &log.events);
+    let bare = history_file::write(&log.store, &log.events);
+    let sound = if random.chance(30) { notes::scattered(random, &bare).file } else { bare };
     let file = damage::file(random, sound.clone());
+    compare::next_note(&file, random.below(file.len() + 2) as u32, &mut [0xeeee; 3], coverage);
     let (mut starts, mut columns) = (starts_for(random), columns_for(random, log.events.len()));
     let answer = compare::read(&file, &mut starts, &mut columns, coverage);
     if answer.code == 0 {
         let mut again = vec![0; record::LONGEST_FILE];
         let (edition, count) = ((answer.place >> 16) as u16, (answer.place & 0xffff) as usize);
         let written = compare::write(&Store { edition, starts }, &columns, count, &mut again, coverage);
-        assert_eq!(again[..written.place as usize], file, "a file that is read and written again");
+        assert_eq!(again[..written.place as usize], without_notes(&file), "a file that is read and written again");
     }
     file != sound
 }

@@ -6,6 +6,7 @@ use outside::guarded::{Guarded, Side};
 use outside::lent::lent_count;
 use outside::limits;
 use outside::marks::marked_history;
+use outside::notes::scattered;
 use outside::random::Random;
 use outside::rounds;
 use outside::shapes::{columns_for, columns_of, list_for, marking_size, output_for};
@@ -27,6 +28,7 @@ fn no_call_reaches_beyond_a_buffer() {
     rounds::run((rounds::rounds() / 20).max(1), |random, _| {
         let (log, marking) = marked_history(random);
         let (file, marking) = (history_file::write(&log.store, &log.events), marking.to_bytes());
+        let file = if random.chance(50) { scattered(random, &file).file } else { file };
         all_calls(random, &log, &file, &marking);
         let file = damage::file(random, file);
         let marking = damage::file(random, marking);
@@ -71,8 +73,10 @@ fn all_calls(random: &mut Random, log: &Log, file: &[u8], marking: &[u8]) {
     let (count, prefix) = (lent_count(events.len()), lent_count(prefix));
     let straight = output_for(random, marking.len());
     let moved = list_for(random, store_reads(events).count());
+    let bytes = [0, random.below(file.len() + 1) as u32, u32::MAX];
     for side in SIDES {
         read(side, file, &starts, &lent);
+        next_notes(side, file, bytes);
         let guarded = GuardedGiven::new(&held, side);
         let marking_file = Guarded::new(marking, side);
         both(&guarded, &held, |store, columns| calls::scan(store, columns, count));
@@ -97,6 +101,17 @@ fn read(side: Side, file: &[u8], starts: &[u32; 32], lent: &Held) {
     assert_eq!(calls::read(file.slice(), guarded_starts.starts_mut(), columns.view_mut()), expected);
     assert_eq!(guarded_starts.starts(), &plain_starts, "the reader left other start values");
     assert!(columns.hold(&plain), "the reader left other columns");
+}
+
+/// The first note from each of some bytes on, into three numbers that keep the one found before.
+fn next_notes(side: Side, file: &[u8], bytes: [u32; 3]) {
+    let (guarded_file, mut guarded, mut plain) = (Guarded::new(file, side), Guarded::new(&[0xeeee; 3], side), [0xeeee; 3]);
+    for from in bytes {
+        let expected = calls::next_note(file, from, &mut plain);
+        assert_eq!(calls::next_note(guarded_file.slice(), from, guarded.note_mut()), expected);
+        assert_eq!(guarded.slice(), plain);
+    }
+    assert_eq!(guarded_file.slice(), file, "a file that is only read has changed");
 }
 
 /// A call that only reads.

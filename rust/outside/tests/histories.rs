@@ -3,6 +3,7 @@
 use outside::compare;
 use outside::coverage::{judgements, Coverage, Entry, ENTRIES, LONE, STARTED};
 use outside::marks::{careless, changed, random_marking};
+use outside::notes::{self, Remarked};
 use outside::random::Random;
 use outside::rounds;
 use outside::shapes::{columns_for, columns_of, list_for, marking_size, output_for};
@@ -79,8 +80,12 @@ fn files(random: &mut Random, log: &Log, columns: &Columns, coverage: &mut Cover
     if written.code == 0 {
         assert_eq!(output[..written.place as usize], file);
     }
+    // Half of the files have notes, which are not written again.
+    let bare = Remarked { file: file.clone(), notes: vec![] };
+    let remarked = if random.chance(50) { notes::scattered(random, &file) } else { bare };
+    remarks(random, &remarked, coverage);
     let (mut starts, mut back) = (starts_for(random), columns_for(random, events.len()));
-    let read = compare::read(&file, &mut starts, &mut back, coverage);
+    let read = compare::read(&remarked.file, &mut starts, &mut back, coverage);
     if read.code == 0 {
         let mut again = vec![0; file.len()];
         assert_eq!(read.place as usize, usize::from(store.edition) * 65_536 + events.len());
@@ -89,6 +94,17 @@ fn files(random: &mut Random, log: &Log, columns: &Columns, coverage: &mut Cover
         compare::write(store, &back, events.len(), &mut again, coverage);
         assert_eq!(again, file, "a file that is read and written again");
     }
+}
+
+/// The first note behind one of them or behind none, which is the next that was put in.
+fn remarks(random: &mut Random, remarked: &Remarked, coverage: &mut Coverage) {
+    let Remarked { file, notes } = remarked;
+    let passed = random.below(notes.len() + 1);
+    let from = passed.checked_sub(1).map_or(0, |last| notes[last][1] + notes[last][2]);
+    let mut note = [0xeeee; 3];
+    let found = compare::next_note(file, from, &mut note, coverage);
+    let (code, expected) = notes.get(passed).map_or((NONE, [0xeeee; 3]), |&next| (0, next));
+    assert_eq!((found.code, note), (code, expected), "from {from}");
 }
 
 /// The finder's marking of a prefix, which the checker accepts.

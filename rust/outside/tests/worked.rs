@@ -14,20 +14,13 @@ fn view(held: &Held) -> Columns<'_> {
 
 fn answered(call: &Call) -> (Answer, Buffers) {
     let mut buffers = Buffers::for_call(call);
-    let Buffers { output, moved, starts } = &mut buffers;
+    let Buffers { output, moved, starts, columns, note } = &mut buffers;
     let answer = match call {
         Call::Read(file) => {
-            let (mut kinds, mut transactions, mut registers) = ([0; 2_048], [0; 2_048], [0; 2_048]);
-            let (mut values, mut threads) = ([0; 2_048], [0; 2_048]);
-            let columns = ColumnsMut {
-                kinds: &mut kinds,
-                transactions: &mut transactions,
-                registers: &mut registers,
-                values: &mut values,
-                threads: &mut threads,
-            };
-            calls::read(file, starts, columns)
+            let Held { kinds, transactions, registers, values, threads } = columns;
+            calls::read(file, starts, ColumnsMut { kinds, transactions, registers, values, threads })
         }
+        Call::NextNote(file, from) => calls::next_note(file, *from, note),
         Call::Write(log) => with(log, |store, columns, count| calls::write(store, columns, count, output)),
         Call::Scan(log) => with(log, calls::scan),
         Call::Find(log) => with(log, |store, columns, count| calls::find(store, columns, count, count, output)),

@@ -4,6 +4,7 @@ use crate::event::{Columns, Event};
 use crate::history_file;
 use crate::judgement::{lowest, scan as judge, Scanned};
 use crate::marking_file::Marking;
+use crate::notes::notes;
 use crate::questions::refused_in_columns;
 use crate::reads;
 use crate::record::{refuse, Refusal};
@@ -19,7 +20,7 @@ pub struct Answer {
     pub place: u32,
 }
 
-/// The code of a finder that found no justification.
+/// The code of a finder that found no justification, and of a walk that found no note.
 pub const NONE: u32 = 100;
 
 /// The most transactions that are judged.
@@ -42,6 +43,15 @@ pub fn read(file: &[u8], starts: &mut [u32; REGISTERS], columns: &mut Columns) -
         *starts = store.starts;
         Ok((0, usize::from(store.edition) * 65_536 + events.len()))
     }))
+}
+
+/// The first note of a file whose record begins at a byte or later: the events before it, where its bytes begin, and how many it has.
+pub fn next_note(file: &[u8], from: u32, note: &mut [u32; 3]) -> Answer {
+    let found = notes(file).into_iter().find(|found| found.byte as u64 >= u64::from(from));
+    if let Some(found) = found {
+        *note = [found.events, found.start(), found.bytes.len()].map(|number| number as u32);
+    }
+    Answer { code: if found.is_some() { 0 } else { NONE }, place: 0 }
 }
 
 /// Writes columns as a file.

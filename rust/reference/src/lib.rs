@@ -13,6 +13,7 @@ pub mod judgement;
 pub mod justification;
 pub mod log;
 pub mod marking_file;
+pub mod notes;
 pub mod orders;
 pub mod questions;
 pub mod reads;

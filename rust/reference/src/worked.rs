@@ -2,9 +2,11 @@
 //! the library alike.
 
 mod lone;
+mod notes;
 mod starts;
 
 use crate::entries::{Answer, NONE};
+use crate::event::{Columns, Event};
 use crate::history_file;
 use crate::justification::{Outcome, Place};
 use crate::log::Log;
@@ -17,6 +19,8 @@ use Outcome::{Aborted, Committed};
 #[derive(Clone, Debug)]
 pub enum Call {
     Read(Vec<u8>),
+    /// The first note of a file from a byte on.
+    NextNote(Vec<u8>, u32),
     Write(Log),
     Scan(Log),
     /// The finder on the whole history.
@@ -27,30 +31,41 @@ pub enum Call {
     Tally(Log),
 }
 
-/// What a call may write to, besides columns.
+/// What a call may write to.
 #[derive(Clone, Debug)]
 pub struct Buffers {
     pub output: Vec<u8>,
     pub moved: Vec<u32>,
     pub starts: [u32; REGISTERS],
+    /// The columns that a reader fills.
+    pub columns: Columns,
+    pub note: [u32; 3],
 }
 
-/// What the start values hold before a call.
+/// What the start values hold before a call, and what a note does.
 const UNREAD: [u32; REGISTERS] = [0xeeee_eeee; REGISTERS];
+const UNFOUND: [u32; 3] = [0xeeee_eeee; 3];
+
+/// What each entry of the columns holds.
+const UNFILLED: Event = Event { kind: 0, transaction: 0, register: 0, value: 0, thread: 0 };
 
 impl Buffers {
-    /// An output of zeros for any file, a list of zeros with an entry for every event, and start values that are none.
+    /// An output of zeros for any file, a list of zeros with an entry for every event, columns of zeros for any history that is read,
+    /// and start values and a note that are none.
     pub fn for_call(call: &Call) -> Buffers {
-        let entries = match call {
-            Call::Straighten(log, _) => log.events.len(),
-            _ => 0,
+        let (entries, events) = match call {
+            Call::Straighten(log, _) => (log.events.len(), 0),
+            Call::Read(_) => (0, 2_048),
+            _ => (0, 0),
         };
-        Buffers { output: vec![0; 32_768], moved: vec![0; entries], starts: UNREAD }
+        let columns = Columns::of(&vec![UNFILLED; events]);
+        Buffers { output: vec![0; 32_768], moved: vec![0; entries], starts: UNREAD, columns, note: UNFOUND }
     }
 }
 
-/// A call with its answer, and with what it writes to the output and to the list of moved events, where that is of interest. Nothing
-/// is written behind it. Start values are written by a reader that is done, and by nothing else.
+/// A call with its answer, and with what it writes to the output, to the list of moved events and to the columns, where that is of
+/// interest. Nothing is written behind it. Start values and columns are written by a reader that is done, a note by a walk that finds
+/// one, and neither by anything else.
 #[derive(Clone, Debug)]
 pub struct Worked {
     pub name: String,
@@ -59,6 +74,8 @@ pub struct Worked {
     pub output: Option<Vec<u8>>,
     pub moved: Option<Vec<u32>>,
     pub starts: Option<[u32; REGISTERS]>,
+    pub events: Option<Vec<Event>>,
+    pub note: Option<[u32; 3]>,
 }
 
 impl Worked {
@@ -66,7 +83,19 @@ impl Worked {
     pub fn is_written(&self, buffers: &Buffers) -> bool {
         let output_is = self.output.as_ref().is_none_or(|bytes| begins_with_only(&buffers.output, bytes));
         let list_is = self.moved.as_ref().is_none_or(|events| begins_with_only(&buffers.moved, events));
-        output_is && list_is && buffers.starts == self.starts.unwrap_or(UNREAD)
+        let lent_are = buffers.starts == self.starts.unwrap_or(UNREAD) && buffers.note == self.note.unwrap_or(UNFOUND);
+        output_is && list_is && lent_are && self.is_filled(&buffers.columns)
+    }
+
+    /// Do the columns hold the events that are read, and nothing where none are?
+    fn is_filled(&self, columns: &Columns) -> bool {
+        let read = match (&self.events, self.answer.code) {
+            (Some(events), _) => &events[..],
+            (None, 0) => return true,
+            (None, _) => &[],
+        };
+        let behind = columns.kinds.len().saturating_sub(read.len());
+        *columns == Columns::of(&[read, &vec![UNFILLED; behind]].concat())
     }
 }
 
@@ -75,7 +104,8 @@ fn begins_with_only<T: PartialEq + Default>(buffer: &[T], entries: &[T]) -> bool
 }
 
 fn worked(name: &str, call: Call, code: u32, place: u32) -> Worked {
-    Worked { name: name.to_string(), call, answer: Answer { code, place }, output: None, moved: None, starts: None }
+    let answer = Answer { code, place };
+    Worked { name: name.to_string(), call, answer, output: None, moved: None, starts: None, events: None, note: None }
 }
 
 /// A broken rule, packed as the library does.
@@ -93,11 +123,16 @@ fn is_read(name: &str, file: Vec<u8>, store: Store, count: u32) -> Worked {
     Worked { starts: Some(store.starts), ..worked(name, Call::Read(file), 0, place) }
 }
 
-/// A file that is read, and written back as it was.
+/// A file whose events are read, and written back as it was.
 fn read_and_written(name: &str, file: Vec<u8>, log: Log) -> [Worked; 2] {
-    let (count, length) = (log.events.len() as u32, file.len() as u32);
-    let read = is_read(name, file.clone(), log.store, count);
+    let length = file.len() as u32;
+    let read = is_read_as(name, file.clone(), &log);
     [read, Worked { output: Some(file), ..worked(name, Call::Write(log), 0, length) }]
+}
+
+/// A file that is read: its edition, its start values and its events.
+fn is_read_as(name: &str, file: Vec<u8>, log: &Log) -> Worked {
+    Worked { events: Some(log.events.clone()), ..is_read(name, file, log.store, log.events.len() as u32) }
 }
 
 /// The finder's marking of a whole history.
@@ -149,6 +184,19 @@ fn file_of(edition: u16, records: &[&[u8]]) -> Vec<u8> {
     [&record(history_file::HEAD, &edition.to_le_bytes())[..], &records.concat()].concat()
 }
 
+/// Every call that is given columns, each refused alike.
+fn refused_alike(name: &str, log: Log, code: u32, event: u32) -> Vec<Worked> {
+    let calls = [
+        Call::Write(log.clone()),
+        scan(&log),
+        find(&log),
+        Call::Check(log.clone(), h0_marking()),
+        Call::Straighten(log.clone(), vec![]),
+        tally(&log),
+    ];
+    calls.map(|call| Worked { output: Some(vec![]), moved: Some(vec![]), ..worked(name, call, code, event) }).to_vec()
+}
+
 /// The bytes of a marking with these places and points.
 pub fn marking(places: &[(u16, Outcome)], points: &[(u32, u16)]) -> Vec<u8> {
     let place = |&(transaction, outcome)| Place { transaction, outcome };
@@ -164,7 +212,7 @@ pub fn h0_marking() -> Vec<u8> {
 
 /// Every example.
 pub fn all() -> Vec<Worked> {
-    [starred(), straightenings(), tallies(), limits(), sources(), starts::all(), lone::all()].concat()
+    [starred(), straightenings(), tallies(), limits(), sources(), starts::all(), lone::all(), notes::all()].concat()
 }
 
 /// The starred histories of the paper, in its order.

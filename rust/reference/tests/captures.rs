@@ -1,11 +1,12 @@
-//! The captures under `examples/captures`: the bytes of each, and the report on it. With SENDOSHI_WRITE_CAPTURES set, the test writes
-//! the files instead of comparing them.
+//! The captures under `examples/captures`: the bytes of each, the report on it, and the notes in it. With SENDOSHI_WRITE_CAPTURES set, the
+//! test writes the files instead of comparing them.
 
 use reference::event::{BEGIN, LONE_READ};
 use reference::history_file::{self, start_record};
 use reference::justification::Outcome::{Aborted, Committed};
 use reference::log::Log;
-use reference::record::record;
+use reference::notes::{note_record, notes, without_notes, Note};
+use reference::record::{record, records_from};
 use reference::report::{counted, report, tallied};
 use reference::worked::{h0_marking, marking};
 use std::path::PathBuf;
@@ -15,23 +16,54 @@ fn top() -> PathBuf {
     PathBuf::from(env!("CARGO_MANIFEST_DIR")).join("../../examples/captures")
 }
 
-/// A folder, its two files (none: absent) and its report.
+/// A folder, its two files (none: absent), its report, and a line for each note of a history that is read, if it has any.
 struct Capture {
     name: &'static str,
     history: Option<Vec<u8>>,
     marking: Option<Vec<u8>>,
     report: String,
+    notes: Option<String>,
 }
 
 /// A readable history, with the four lines of its report.
 fn capture(name: &'static str, log: &Log, marking: Option<Vec<u8>>, lines: [&str; 4]) -> Capture {
     let history = history_file::write(&log.store, &log.events);
-    Capture { name, history: Some(history), marking, report: lines.join("\n") + "\n" }
+    Capture { name, history: Some(history), marking, report: lines.join("\n") + "\n", notes: None }
 }
 
 /// A history that is refused, with the one line of its report.
 fn refused(name: &'static str, history: Option<Vec<u8>>, marking: Option<Vec<u8>>, line: &str) -> Capture {
-    Capture { name, history, marking, report: format!("{line}\n") }
+    Capture { name, history, marking, report: format!("{line}\n"), notes: None }
+}
+
+impl Capture {
+    /// The same with notes in its history, each before the record of this number behind the head, and with the lines on them.
+    fn noted(self, notes: &[(usize, &[u8])], lines: &[&str]) -> Capture {
+        let history = self.history.map(|file| with_notes(&file, notes));
+        Capture { history, notes: Some(lines.join("\n") + "\n"), ..self }
+    }
+}
+
+/// A file with notes before some of its records; those before the record behind the last stand at the end.
+fn with_notes(file: &[u8], notes: &[(usize, &[u8])]) -> Vec<u8> {
+    let (records, _) = records_from(file, 6);
+    let before = |at| notes.iter().filter(move |note| note.0 == at).flat_map(|note| note_record(note.1));
+    let behind_head = records.iter().enumerate().flat_map(|(at, r)| before(at).chain(file[r.byte..r.next].to_vec()));
+    file[..6].iter().copied().chain(behind_head).chain(before(records.len())).collect()
+}
+
+/// The lines on the notes of a file that is read: what `examples/notes.c` prints. None where it has none.
+fn lines(file: &[u8]) -> Option<String> {
+    let line = |note: &Note| {
+        let space = if note.bytes.is_empty() { "" } else { " " };
+        let shown = note.bytes.iter().map(|&byte| match byte {
+            b' '..=b'~' if byte != b'\\' => char::from(byte).to_string(),
+            _ => format!("\\x{byte:02x}"),
+        });
+        format!("after {} events:{space}{}\n", note.events, shown.collect::<String>())
+    };
+    let lines: String = history_file::read(file).ok().map(|_| notes(file))?.iter().map(line).collect();
+    Some(lines).filter(|lines| !lines.is_empty())
 }
 
 /// Transactions in each state that the tally tells apart, by each way to be aborted and to be live.
@@ -232,6 +264,116 @@ fn lone() -> Vec<Capture> {
     lone_reads().into_iter().chain(lone_writes()).chain(lone_rules()).chain(lone_refused()).collect()
 }
 
+/// T0 reads a start value, and a lone write comes between that and its commit. Notes stand before, between and behind the start records,
+/// between a call and its answer, and at the end.
+fn notes_everywhere() -> Capture {
+    let sound = Log::starting(&[(3, 9), (31, 1)]).begin(0).read(0, 3, 9).lone_write(1, 3, 5).commit(0);
+    let in_turn = marking(&[(0, Committed), (1, Committed)], &[(2, 0)]);
+    let (counts, tally) = ("events 6 transactions 2 reads 1", "committed 2 aborted 0 pending 0 live 0");
+    capture("notes", &sound, Some(in_turn), [counts, tally, "marking accepted", "opaque yes"]).noted(
+        &[
+            (0, b"night shift, recorder 2"),
+            (1, b"register 31 preset by hand"),
+            (2, b""),
+            (2, b"display task on"),
+            (4, b"slow\xbf \\ ask"),
+            (5, &[6, 0, 16, 0, 9, 0, 0, 0]), // like the begin of a tenth transaction
+            (8, b"end of shift"),
+            (8, b""),
+        ],
+        &[
+            "after 0 events: night shift, recorder 2",
+            "after 0 events: register 31 preset by hand",
+            "after 0 events:",
+            "after 0 events: display task on",
+            "after 2 events: slow\\xbf \\x5c ask",
+            "after 3 events: \\x06\\x00\\x10\\x00\\x09\\x00\\x00\\x00",
+            "after 6 events: end of shift",
+            "after 6 events:",
+        ],
+    )
+}
+
+/// Captures that are read with notes in them.
+fn notes_passed_over() -> Vec<Capture> {
+    let h7_marking = marking(&[(0, Committed), (1, Aborted)], &[(5, 1), (9, 1)]);
+    let (h7_counts, h7_tally) = ("events 10 transactions 2 reads 2", "committed 1 aborted 0 pending 0 live 1");
+    let (h7_rule, h7_fault) = ("marking rule E event 5 transaction 1", "opaque no event 9 cause 1");
+    let alone = Log::starting(&[(3, 9)]).lone_read(0, 3, 9);
+    let alone_marking = marking(&[(0, Committed)], &[(0, 0)]);
+    let (one, one_tally) = ("events 1 transactions 1 reads 1", "committed 1 aborted 0 pending 0 live 0");
+    vec![
+        notes_everywhere(),
+        capture("notes-torn", &Log::h7(), Some(h7_marking), [h7_counts, h7_tally, h7_rule, h7_fault]).noted(
+            &[(0, b"bench 4"), (5, b"T1 waits"), (9, b"this read?"), (9, b"yes")],
+            &["after 0 events: bench 4", "after 5 events: T1 waits", "after 9 events: this read?", "after 9 events: yes"],
+        ),
+        capture("note-before-start", &alone, Some(alone_marking), [one, one_tally, "marking accepted", "opaque yes"])
+            .noted(&[(0, b"restarted at 06:12")], &["after 0 events: restarted at 06:12"]),
+    ]
+}
+
+/// A remark of 65 bytes, one more than a note carries.
+const REMARK: &[u8; 65] = b"pump 2 off since 05:40, valve 3 by hand until the day shift is in";
+
+/// Notes that are as long, as short and as late as they may be.
+fn notes_at_limits() -> Vec<Capture> {
+    let read = Log::new().begin(0).read(0, 3, 0);
+    let read_marking = Some(marking(&[(0, Aborted)], &[(2, 0)]));
+    let begun = "committed 0 aborted 0 pending 0 live 1";
+    // The events of `events-2048`: T0 writes 1,023 times and calls commit.
+    let full = (0..1_023).fold(Log::new().begin(0), |log, value| log.write(0, 0, value)).commit_called(0);
+    let full_marking = Some(marking(&[(0, Committed)], &[]));
+    let (counts, tally) = ("events 2048 transactions 1 reads 0", "committed 0 aborted 0 pending 1 live 0");
+    let longest = format!("after 1 events: {}", String::from_utf8_lossy(&REMARK[..64]));
+    vec![
+        capture("note-64", &read, read_marking, ["events 3 transactions 1 reads 1", begun, "marking accepted", "opaque yes"])
+            .noted(&[(1, &REMARK[..64])], &[&longest]),
+        capture(
+            "note-empty",
+            &Log::new().begin(0),
+            Some(marking(&[(0, Aborted)], &[])),
+            ["events 1 transactions 1 reads 0", begun, "marking accepted", "opaque yes"],
+        )
+        .noted(&[(0, b""), (1, b""), (1, b"")], &["after 0 events:", "after 1 events:", "after 1 events:"]),
+        capture("notes-2048", &full, full_marking, [counts, tally, "marking accepted", "opaque yes"]).noted(
+            &[(0, b"long run"), (2_048, b"memory full"), (2_048, &REMARK[..64])],
+            &["after 0 events: long run", "after 2048 events: memory full", &longest.replace("after 1 ", "after 2048 ")],
+        ),
+    ]
+}
+
+/// Files with notes that are refused, and a note in a marking.
+fn notes_refused() -> Vec<Capture> {
+    let (head, begin) = (record(1, &[1, 0]), record(BEGIN, &[0, 0, 0, 0]));
+    let file = |records: &[&[u8]]| Some(records.concat());
+    let (note, long) = (note_record(b"ok"), note_record(REMARK));
+    let late = file(&[&record(1, &[2, 0]), &begin, &note, &start_record(3, 9)]);
+    // T0 writes 1,023 times, calls commit, and commits behind a note.
+    let full = (0..1_023).fold(Log::new().begin(0), |log, value| log.write(0, 0, value)).commit(0);
+    let full = with_notes(&history_file::write(&full.store, &full.events), &[(2_048, b"one more?")]);
+    let h0 = [
+        "events 10 transactions 2 reads 2",
+        "committed 1 aborted 0 pending 0 live 1",
+        "marking refused 22 byte 42",
+        "opaque yes",
+    ];
+    vec![
+        refused("note-65", file(&[&head, &begin, &note, &long]), None, "history refused 44 byte 20"),
+        refused("note-cut", file(&[&head, &note, &begin, &note[..5]]), None, "history refused 2 byte 20"),
+        refused("note-first", file(&[&note, &head, &begin]), None, "history refused 3 byte 0"),
+        refused("note-start-late", late, None, "history refused 43 byte 20"),
+        // Behind a head, a begin, writes of 18 bytes each with their answers, a call and a note.
+        refused("notes-2049", Some(full), None, &format!("history refused 6 byte {}", 6 + 8 + 1_023 * 18 + 6 + 13)),
+        capture("note-in-marking", &Log::h0(), Some([h0_marking(), note].concat()), h0),
+    ]
+}
+
+/// Notes in the log.
+fn with_remarks() -> Vec<Capture> {
+    notes_passed_over().into_iter().chain(notes_at_limits()).chain(notes_refused()).collect()
+}
+
 fn captures() -> Vec<Capture> {
     let head = vec![4, 0, 2, 0, 1, 0];
     let gap_2 = marking(&[(1, Aborted), (0, Committed)], &[(5, 0), (9, 2)]);
@@ -298,13 +440,15 @@ fn reports_count_what_the_events_say() {
 #[test]
 fn captures_have_their_bytes_and_their_report() {
     let top = top();
-    for capture in captures().into_iter().chain(starts()).chain(lone()) {
+    for capture in captures().into_iter().chain(starts()).chain(lone()).chain(with_remarks()) {
         let bytes = |file: &Option<Vec<u8>>| file.clone().unwrap_or_default();
         assert_eq!(report(&bytes(&capture.history), &bytes(&capture.marking)), capture.report, "{}", capture.name);
+        assert_eq!(lines(&bytes(&capture.history)), capture.notes, "{}", capture.name);
         let files = [
             ("capture.hst", capture.history),
             ("capture.mrk", capture.marking),
             ("report.txt", Some(capture.report.into_bytes())),
+            ("notes.txt", capture.notes.map(String::into_bytes)),
         ];
         for (name, contents) in files {
             let path = top.join(capture.name).join(name);
@@ -315,4 +459,20 @@ fn captures_have_their_bytes_and_their_report() {
             assert_eq!(fs::read(&path).ok(), contents, "{}/{name}", capture.name);
         }
     }
+}
+
+/// Captures that differ in notes only, and the reports on them, which do not differ, or in the byte only where a history is refused.
+#[test]
+fn captures_without_their_notes() {
+    let read = |name: &str, file: &str| fs::read(top().join(name).join(file)).expect("a file of a capture");
+    for (noted, bare) in [("notes-torn", "h7"), ("note-before-start", "lone-read-start"), ("notes-2048", "events-2048")] {
+        assert_ne!(read(noted, "capture.hst"), read(bare, "capture.hst"));
+        assert_eq!(without_notes(&read(noted, "capture.hst")), read(bare, "capture.hst"), "{noted}");
+        assert_eq!(read(noted, "capture.mrk"), read(bare, "capture.mrk"), "{noted}");
+        assert_eq!(read(noted, "report.txt"), read(bare, "report.txt"), "{noted}");
+    }
+    assert_eq!(without_notes(&read("notes-2049", "capture.hst")), read("events-2049", "capture.hst"));
+    assert_eq!(read("events-2049", "report.txt"), b"history refused 6 byte 18434\n");
+    assert_eq!(read("notes-2049", "report.txt"), b"history refused 6 byte 18447\n");
+    // behind a note of 13 bytes
 }

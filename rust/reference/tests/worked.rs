@@ -13,13 +13,11 @@ use reference::{history_file, questions};
 
 fn answered(call: &Call) -> (Answer, Buffers) {
     let mut buffers = Buffers::for_call(call);
-    let Buffers { output, moved, starts } = &mut buffers;
+    let Buffers { output, moved, starts, columns: filled, note } = &mut buffers;
     let columns = |log: &Log| Columns::of(&log.events);
     let answer = match call {
-        Call::Read(file) => {
-            let mut columns = Columns::of(&[Event { kind: 0, transaction: 0, register: 0, value: 0, thread: 0 }; 2_048]);
-            entries::read(file, starts, &mut columns)
-        }
+        Call::Read(file) => entries::read(file, starts, filled),
+        Call::NextNote(file, from) => entries::next_note(file, *from, note),
         Call::Write(log) => entries::write(&log.store, &columns(log), log.events.len(), output),
         Call::Scan(log) => entries::scan(&log.store, &columns(log), log.events.len()),
         Call::Find(log) => entries::find(&log.store, &columns(log), log.events.len(), log.events.len(), output),

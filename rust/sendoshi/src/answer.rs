@@ -12,7 +12,7 @@ pub struct Answer {
 
 /// What was asked for is done; the place is the count or the length, or several of them in one number.
 pub const DONE: u32 = 0;
-/// The finder's answer where no order justifies the prefix.
+/// The finder's answer where no order justifies the prefix, and that of the walk through notes where none is left.
 pub const NONE: u32 = 100;
 
 impl Answer {

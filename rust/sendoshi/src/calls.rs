@@ -1,7 +1,7 @@
 //! The library's calls on lent slices, as they are: every refusal comes back as a number, and every buffer is the caller's.
 //!
 //! Nothing is tested before a call. The library has no condition on numbers or contents, and what it cannot test is given by the
-//! types: a slice is good for its length, an array has its 32 entries, and what is borrowed by `&mut` overlaps nothing else.
+//! types: a slice is good for its length, an array has its entries, and what is borrowed by `&mut` overlaps nothing else.
 
 use crate::answer::Answer;
 use crate::ffi;
@@ -65,7 +65,8 @@ macro_rules! with_store {
     }};
 }
 
-/// Reads a history file into the start values and the columns. Code 0: the edition and the event count ([`Answer::halves`]).
+/// Reads a history file into the start values and the columns, and passes its notes over. Code 0: the edition and the event count
+/// ([`Answer::halves`]).
 pub fn read(file: &[u8], starts: &mut [u32; 32], columns: ColumnsMut) -> Answer {
     // SAFETY: as in `with_store`.
     let answer = unsafe {
@@ -86,6 +87,15 @@ pub fn read(file: &[u8], starts: &mut [u32; 32], columns: ColumnsMut) -> Answer 
         )
     };
     Answer::of(answer)
+}
+
+/// Finds the first note of a history file whose record begins at byte `from` or later. Code 0: how many events stand before it, the
+/// byte at which its own bytes begin, and how many it has are put into `note`; code 100: there is none, and `note` stays as it is. The
+/// next one is found from the sum of the last two numbers on. The file is not judged otherwise; of one that [`read`] takes, these are
+/// all notes. [`notes`](crate::notes()) goes through them.
+pub fn next_note(file: &[u8], from: u32, note: &mut [u32; 3]) -> Answer {
+    // SAFETY: as in `with_store`.
+    Answer::of(unsafe { ffi::sendoshi_next_note(file.as_ptr(), file.len(), from, note) })
 }
 
 /// Writes the first `count` events as a history file. Code 0: its length.

@@ -1,9 +1,9 @@
-//! The library's functions as version 4 of `include/sendoshi.h` declares them. A slice is passed as a pointer and a length, the 32
-//! start values as one pointer.
+//! The library's functions as version 5 of `include/sendoshi.h` declares them. A slice is passed as a pointer and a length, the 32
+//! start values and the three numbers of a note as one pointer each.
 //!
 //! Each answers code × 2^32 + place. They have no condition on numbers or contents. What they cannot test, and a caller must see
-//! to, is that each pointer is good for its length, that of the start values for 32 of them, and that a buffer that is written
-//! overlaps no other.
+//! to, is that each pointer is good for its length, that of the start values for 32 of them and that of a note for three, and that a
+//! buffer that is written overlaps no other.
 
 extern "C" {
     pub fn sendoshi_read(
@@ -21,6 +21,8 @@ extern "C" {
         threads: *mut u16,
         threads_length: usize,
     ) -> u64;
+
+    pub fn sendoshi_next_note(file: *const u8, file_length: usize, from: u32, note: *mut [u32; 3]) -> u64;
 
     pub fn sendoshi_write(
         edition: u16,

@@ -45,7 +45,7 @@ pub struct History {
 }
 
 impl History {
-    /// Reads a history file.
+    /// Reads a history file. Notes among its records are passed over; [`notes`](crate::notes()) gives them.
     ///
     /// ```
     /// let head = [4, 0, 1, 0, 1, 0];
@@ -243,7 +243,7 @@ impl History {
         })
     }
 
-    /// The history as a file.
+    /// The history as a file. It has no notes.
     pub fn to_bytes(&self) -> Vec<u8> {
         // The head has 6 bytes, a start record 10 and no event more than 14: the output is never too short.
         let mut output = vec![0; 6 + 10 * REGISTERS + 14 * self.len()];

@@ -3,7 +3,8 @@
 //! A [`History`] is read from a file or taken from columns, in edition 1, in which every register starts at 0, or in edition 2 with
 //! start values and with accesses outside transactions, each of which is a transaction of its own. It can be written back, tallied by
 //! what has become of its transactions, scanned for the first prefix that no order of them justifies, given its lowest marking, and
-//! compared with a marking from elsewhere, whose read points it can straighten.
+//! compared with a marking from elsewhere, whose read points it can straighten. [`notes()`] gives what technicians have typed into a file
+//! between its events; a history has none of it.
 //!
 //! ```
 //! use sendoshi::History;
@@ -43,6 +44,7 @@ pub mod calls;
 pub mod ffi;
 mod history;
 mod judgement;
+mod notes;
 mod question;
 mod tally;
 
@@ -50,5 +52,6 @@ pub use answer::Answer;
 pub use calls::{Columns, ColumnsMut, Store};
 pub use history::History;
 pub use judgement::{Cause, Rule, Scan, Straightening, Verdict};
+pub use notes::{notes, Note, Notes};
 pub use question::{Place, Question, Refusal};
 pub use tally::Tally;

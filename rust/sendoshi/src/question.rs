@@ -38,7 +38,7 @@ questions! {
     1 FileTooLong "the file is longer than 32,768 bytes"
     2 RecordCut "a record is cut off, or its length is too small to cover a kind"
     3 HistoryHead "there is no head of a history of edition 1 or 2, or edition 1 is given with a start value that is not 0"
-    4 EventKind "the kind is none of the event kinds, 16 to 23 and in edition 2 also 24 and 25, nor 3 in a file of edition 2"
+    4 EventKind "the kind is none of the event kinds, 16 to 23 and in edition 2 also 24 and 25, nor 48 in a file, nor 3 in one of edition 2"
     5 EventSize "the record is longer or shorter than its kind asks for"
     6 TooManyEvents "there are more than 2,048 events"
     7 TooManyTransactions "more than 64 transactions begin, lone accesses among them"
@@ -67,6 +67,7 @@ questions! {
     41 StartRegister "the start record's register is not above the last one's, or not below 32"
     42 StartZero "the start record's value is 0"
     43 StartLate "a start record follows an event"
+    44 NoteLong "the note has more than 64 bytes"
 }
 
 impl Question {

@@ -1,7 +1,8 @@
 //! The wrapper's own promises: what it takes, how it refuses and how its answers read.
 
 use sendoshi::{
-    calls, Answer, Cause, Columns, History, Place, Question, Refusal, Rule, Scan, Store, Straightening, Tally, Verdict,
+    calls, notes, Answer, Cause, Columns, History, Note, Place, Question, Refusal, Rule, Scan, Store, Straightening, Tally,
+    Verdict,
 };
 use std::error::Error;
 
@@ -337,6 +338,96 @@ fn lone_accesses_are_refused_by_their_own_questions() {
     assert_eq!(read(2, &late), Err(refusal(Question::StartLate, Place::Byte(20))));
 }
 
+/// The record of a note.
+fn note(bytes: &[u8]) -> Vec<u8> {
+    [&[2 + bytes.len() as u8, 0, 48, 0], bytes].concat()
+}
+
+/// H0's file with notes behind its head, between its first two events, where two stand in a row, and at its end.
+fn noted_h0() -> Vec<u8> {
+    let file = h0().to_bytes();
+    let parts: [&[u8]; 7] =
+        [&file[..6], &note(b"shift A"), &file[6..14], &note(b""), &note(&[0xff; 64]), &file[14..], &note(b"end")];
+    parts.concat()
+}
+
+#[test]
+fn notes_are_passed_over() {
+    let (history, file) = (h0(), noted_h0());
+    assert_eq!(file.len(), 88 + 11 + 4 + 68 + 7);
+    let read = History::read(&file).unwrap();
+    assert_eq!(read, history);
+    assert_eq!(read.to_bytes(), history.to_bytes());
+    // Before, between and behind start records, which are not late for that.
+    let started = started(&VALUES);
+    let file = started.to_bytes();
+    let parts: [&[u8]; 7] = [&file[..6], &note(b"a"), &file[6..16], &note(b"b"), &file[16..26], &note(b"c"), &file[26..]];
+    assert_eq!(History::read(&parts.concat()), Ok(started));
+}
+
+#[test]
+fn notes_are_given_in_the_order_of_the_file() {
+    let file = noted_h0();
+    let expected = [
+        Note { events: 0, start: 10, bytes: b"shift A" },
+        Note { events: 1, start: 29, bytes: b"" },
+        Note { events: 1, start: 33, bytes: &[0xff; 64] },
+        Note { events: 10, start: 175, bytes: b"end" },
+    ];
+    assert_eq!(notes(&file).collect::<Vec<_>>(), expected);
+    let mut walk = notes(&file);
+    assert_eq!((walk.by_ref().count(), walk.next(), walk.next()), (4, None, None));
+    assert_eq!(notes(&h0().to_bytes()).next(), None);
+    assert_eq!(notes(&[]).next(), None);
+    // The bytes are the file's own.
+    let third = notes(&file).nth(2).unwrap();
+    assert!(std::ptr::eq(third.bytes, &file[33..97]));
+}
+
+/// A file that is refused: its notes up to what is cut off or too long.
+#[test]
+fn notes_of_a_file_that_is_refused() {
+    let file = noted_h0();
+    let mut long = [&file[..25], &note(&[7; 65]), &file[25..]].concat();
+    assert_eq!(History::read(&long), Err(refusal(Question::NoteLong, Place::Byte(25))));
+    assert_eq!(notes(&long).count(), 1);
+    assert_eq!(History::read(&file[..96]), Err(refusal(Question::RecordCut, Place::Byte(29))));
+    assert_eq!(notes(&file[..96]).count(), 2);
+    long.resize(32_769, 0);
+    assert_eq!(History::read(&long), Err(refusal(Question::FileTooLong, Place::Byte(0))));
+    assert_eq!(notes(&long).count(), 0);
+    let torn = [&file[..25], &[4, 0, 22, 0, 0, 0], &file[25..]].concat();
+    assert_eq!(History::read(&torn), Err(refusal(Question::EventNotDue, Place::Byte(25))));
+    assert_eq!(notes(&torn).map(|note| note.events).collect::<Vec<_>>(), [0, 2, 2, 11]);
+}
+
+#[test]
+fn notes_are_refused_by_their_own_questions() {
+    let head = [4, 0, 1, 0, 1, 0];
+    let read = |parts: &[&[u8]]| History::read(&parts.concat()).map(|history| history.len());
+    assert_eq!(read(&[&head, &note(&[7; 64])]), Ok(0));
+    assert_eq!(read(&[&head, &note(&[7; 65])]), Err(refusal(Question::NoteLong, Place::Byte(6))));
+    assert_eq!(read(&[&head, &note(b"abc")[..6]]), Err(refusal(Question::RecordCut, Place::Byte(6))));
+    assert_eq!(read(&[&note(b"abc"), &head]), Err(refusal(Question::HistoryHead, Place::Byte(0))));
+    let columns = Columns { kinds: &[48], transactions: &[0], registers: &[0], values: &[0], threads: &[0] };
+    assert_eq!(History::from_columns(columns), Err(refusal(Question::EventKind, Place::Event(0))));
+    assert_eq!(History::with_starts([0; 32], columns), Err(refusal(Question::EventKind, Place::Event(0))));
+}
+
+/// The call itself: three numbers, which stay where no note is found.
+#[test]
+fn the_next_note_is_found_from_a_byte_on() {
+    let (file, mut found) = (noted_h0(), [9; 3]);
+    let (done, none) = (Answer { code: 0, place: 0 }, Answer { code: 100, place: 0 });
+    for (from, note) in [(0, [0, 10, 7]), (6, [0, 10, 7]), (7, [1, 29, 0]), (29, [1, 33, 64]), (30, [10, 175, 3])] {
+        assert_eq!((calls::next_note(&file, from, &mut found), found), (done, note), "from {from}");
+    }
+    for from in [172, 178, 179, 32_768, u32::MAX] {
+        found = [9; 3];
+        assert_eq!((calls::next_note(&file, from, &mut found), found), (none, [9; 3]), "from {from}");
+    }
+}
+
 #[test]
 fn what_is_judged_has_at_most_10_transactions() {
     let threads = [0, 1, 2, 3, 4, 5, 6, 7, 8, 9, 10];
@@ -352,7 +443,7 @@ fn what_is_judged_has_at_most_10_transactions() {
 #[test]
 fn questions_keep_their_numbers_and_say_what_is_wrong() {
     let numbers: Vec<u8> = Question::ALL.iter().map(|question| question.number()).collect();
-    let expected: Vec<u8> = (1..=18).chain(21..=29).chain(31..=32).chain(41..=43).collect();
+    let expected: Vec<u8> = (1..=18).chain(21..=29).chain(31..=32).chain(41..=44).collect();
     assert_eq!(numbers, expected);
     for &question in Question::ALL {
         assert_eq!(Question::from_number(question.number()), Some(question));
@@ -361,7 +452,7 @@ fn questions_keep_their_numbers_and_say_what_is_wrong() {
     assert_eq!(Question::from_number(0), None);
     assert_eq!(Question::from_number(30), None);
     assert_eq!(Question::from_number(40), None);
-    assert_eq!(Question::from_number(44), None);
+    assert_eq!(Question::from_number(45), None);
 }
 
 #[test]

@@ -1,6 +1,6 @@
-//! Reading, writing, tallying, checking and straightening.
+//! Reading, writing, going through notes, tallying, checking and straightening.
 
-use crate::inputs::{careless, serial, serial_reads, simulated, simulated_lone};
+use crate::inputs::{careless, noted, serial, serial_reads, simulated, simulated_lone};
 use crate::sides::Capture;
 use crate::table;
 use reference::event::Event;
@@ -16,6 +16,11 @@ pub fn print() {
     let bytes = lone.file.len();
     table::rate_row(&format!("read a history of 2,048 events, lone accesses among them, {bytes} bytes"), bytes, &lone.read());
     table::rate_row(&format!("write a history of 2,048 events, lone accesses among them, {bytes} bytes"), bytes, &lone.write());
+    let mut remarked = Capture::new(&simulated(10, 2_048, 1));
+    remarked.file = noted(&full.file, 16, 32);
+    let (bytes, notes) = (remarked.file.len(), 2_048 / 16);
+    table::rate_row(&format!("read a history of 2,048 events and {notes} notes, {bytes} bytes"), bytes, &remarked.read());
+    table::row(&format!("find its {notes} notes, one after the other"), &remarked.notes(notes));
     let small = Capture::new(&Log::h0().events);
     table::row("read the paper's H0, 88 bytes", &small.read());
     table::row("write the paper's H0, 88 bytes", &small.write());

@@ -5,7 +5,9 @@ use outside::simulate::{simulate, Faults, Plan};
 use reference::event::*;
 use reference::justification::Outcome;
 use reference::log::Log;
+use reference::notes::note_record;
 use reference::reads::transactions;
+use reference::record::records_from;
 use reference::store::Store;
 use reference::worked::marking;
 
@@ -31,6 +33,14 @@ fn some_log(store: Store, plan: Plan, seed: u64) -> Log {
     let mut logs = (seed * 1_000_000..).map(|seed| simulate(&mut Random::new(seed), store, plan));
     let is_whole = |log: &Log| log.events.len() == plan.events && transactions(&log.events) == plan.transactions;
     logs.find(is_whole).expect("some seed gives such a log")
+}
+
+/// A file with a note of so many bytes before every so many of the records behind its head.
+pub fn noted(file: &[u8], every: usize, size: usize) -> Vec<u8> {
+    let (records, _) = records_from(file, 6);
+    let note = |at: usize| if at % every == 0 { note_record(&vec![b'-'; size]) } else { vec![] };
+    let behind = records.iter().enumerate().flat_map(|(at, record)| [&note(at)[..], &file[record.byte..record.next]].concat());
+    file[..6].iter().copied().chain(behind).collect()
 }
 
 /// The same log with another value at its last returned read of a register that the transaction had not written: nothing

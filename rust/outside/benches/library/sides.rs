@@ -91,6 +91,24 @@ impl Capture {
         measure(|| library(&mut held), || plain(&mut other))
     }
 
+    /// The notes of the file, so many, each found from behind the one before it on.
+    pub fn notes(&self, count: usize) -> Measured {
+        let file = &self.file;
+        let library = || {
+            let (mut note, mut found) = ([0; 3], 0);
+            while calls::next_note(black_box(file), note[1] + note[2], &mut note).code == 0 {
+                found += 1;
+            }
+            found
+        };
+        let plain = || {
+            let next = |note: &plain::Note| plain::next_note(black_box(file), note.start + note.length);
+            std::iter::successors(plain::next_note(black_box(file), 0), next).count()
+        };
+        assert_eq!((library(), plain()), (count, count));
+        measure(library, plain)
+    }
+
     pub fn write(&self) -> Measured {
         let mut output = self.output.clone();
         let mut other = self.output.clone();

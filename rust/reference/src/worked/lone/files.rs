@@ -165,19 +165,6 @@ fn after_a_lone_access() -> Vec<Worked> {
     LONE.map(rows).concat()
 }
 
-/// Every call, each refused alike.
-fn refused_alike(name: &str, log: Log, code: u32, event: u32) -> Vec<Worked> {
-    let calls = [
-        Call::Write(log.clone()),
-        scan(&log),
-        find(&log),
-        Call::Check(log.clone(), h0_marking()),
-        Call::Straighten(log.clone(), vec![]),
-        tally(&log),
-    ];
-    calls.map(|call| Worked { output: Some(vec![]), moved: Some(vec![]), ..worked(name, call, code, event) }).to_vec()
-}
-
 /// Edition 1 has no lone access in columns either.
 fn first_edition() -> Vec<Worked> {
     let crowded = (0..11).fold(Log::new(), |log, thread| log.begin(thread));
