@@ -1,2 +1,6 @@
+pub mod KeptLaws
+pub mod Moved
+pub mod Without
+pub mod Theorems
 pub mod NextLaws
 pub mod NoteLaws

@@ -6,3 +6,4 @@ pub mod WriteBack
 pub mod RoundTrip
 pub mod SaidLaws
 pub mod PutLaws
+pub mod NoNotes
