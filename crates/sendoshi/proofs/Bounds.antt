@@ -344,11 +344,10 @@ note-fits file from = go (nextNote file from) refl
     tells : (a : NextNote) → nextNote file from ≡ a → AnswerFits a
     tells (NextNote.Next x) w =
         let i = next-is file from x w in
-        let l = i .lies in
         record {
-          events = omega (arith, i .fits, l .few, l .within);
-          start = omega (arith, i .fits, l .within);
-          size = omega (arith, i .fits, l .within);
+          events = omega (arith, i .fits, i .few, i .stands .within);
+          start = omega (arith, i .fits, i .stands .within);
+          size = omega (arith, i .fits, i .stands .within);
         }
     tells NextNote.None w = tt
 

@@ -1,7 +1,7 @@
 -- `sendoshi::sendoshi_next_note` meets its contract.
 -- Assumes nothing.
 use mathlib.Core.Path.{sym, ap, subst}
-use Rattle.notes.specs.Notes.{nextNote, said}
+use Rattle.notes.specs.Notes.{said}
 use Rattle.codes.specs.Decoded.{noValue, never}
 use Rattle.codes.proofs.CodeLaws.{call-decoded}
 use Rattle.sendoshi.specs.Calls.{AnswerFits, noteFilled, nextNoteCall}
