@@ -19,13 +19,13 @@ after : (lent : List ℕ) {a b : NextNote} → a ≡ b → noteAfter b lent ≡ 
 after lent e = sym (ap (λ (a : NextNote). noteAfter a lent) e)
 
 cast-t4 : tie.Need-cast-t4
-cast-t4 c = omega (arith, fits (c .before .before) .events)
+cast-t4 c = let f = fits (c .before .before) in omega arith
 
 cast-t5 : tie.Need-cast-t5
-cast-t5 c = omega (arith, fits (c .before .before .before) .start)
+cast-t5 c = let f = fits (c .before .before .before) in omega arith
 
 cast-t6 : tie.Need-cast-t6
-cast-t6 c = omega (arith, fits (c .before .before .before .before) .size)
+cast-t6 c = let f = fits (c .before .before .before .before) in omega arith
 
 returns : tie.Need-returns
 unfolding noteAfter
