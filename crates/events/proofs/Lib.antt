@@ -5,3 +5,5 @@ pub mod BodyLaws
 pub mod StateLaws
 pub mod ReadableLaws
 pub mod AskedLaws
+pub mod RegisterLaws
+pub mod SpelledLaws

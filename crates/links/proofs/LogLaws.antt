@@ -12,7 +12,8 @@ use Rattle.events.specs.Questions.{readable}
 use Rattle.events.proofs.ReadableLaws.{readable-most}
 use Rattle.log.specs.Rows.{logged}
 use Rattle.log.proofs.RowLaws.{logged-length}
-use Rattle.opacity.proofs.Bounds.{transaction-low, register-low}
+use Rattle.events.proofs.RegisterLaws.{register-low}
+use Rattle.opacity.proofs.Bounds.{transaction-low}
 
 module _ (log : List (List ℕ)) where
   pub in-history : {i : ℕ} → i < length log → i < length (logged log)

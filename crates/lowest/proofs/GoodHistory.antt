@@ -13,7 +13,8 @@ use Rattle.events.specs.declared.event.Event.{Event}
 use Rattle.events.specs.Events.{noEvent, eventAt, isBegin, isEnd, by, has, ended, begins}
 use Rattle.events.specs.Questions.{readable}
 use Rattle.events.proofs.QuestionLaws.{asked-at, readable-take}
-use Rattle.opacity.proofs.Bounds.{transaction-known, register-low}
+use Rattle.events.proofs.RegisterLaws.{register-low}
+use Rattle.opacity.proofs.Bounds.{transaction-known}
 use Rattle.tables.specs.Tables.{Tabled}
 use Rattle.lowest.specs.Order.{Judged}
 use Rattle.lowest.proofs.Meaning.{Good}

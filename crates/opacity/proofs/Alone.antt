@@ -10,24 +10,24 @@ use mathlib.Core.Bool.{Bool, true, false, cond, true≢false}
 use mathlib.Core.List.{List, [], _∷_, _++_, append-nil, append-assoc}
 use mathlib.Core.Option.{Option, none, some}
 use lib.Dec.{eqb, ltb}
-use lib.ListN.{length, length-append, List·getD-append}
+use lib.ListN.{length, drop, length-append, List·getD-append}
 use lib.Seq.{take-at, getD-append-seam}
 use borrow.Author.Tests.{eqb-true, ltb-true, lt-ltb}
 use Rattle.lists.specs.Lists.{_and_, _or_, _implies_, push, any, all, keep}
 use Rattle.events.specs.declared.event.Event.{Event}
 use Rattle.events.specs.Events.{noEvent, eventAt, isLone, isBegin, answersRead, isRead, isWrite, asksCommit, isCommit, isAbort, isEnd, by, has, begins}
 use Rattle.events.specs.Questions.{readable}
-use Rattle.lists.proofs.ListLaws.{and-l, and-r, and-false-r, or-r, nor-l, nor-r, every-e, every-i, eqb-self, keep-append}
+use Rattle.events.specs.Spelled.{spelled}
+use Rattle.lists.proofs.ListLaws.{and-l, and-r, and-i, and-false-r, or-l, or-r, nor-l, nor-r, every-e, every-i, eqb-self, all-weaken, keep-append}
 use Rattle.events.proofs.EventLaws.{begins-snoc, begins-same}
-use Rattle.events.proofs.KindLaws.{lone-by}
+use Rattle.events.proofs.KindLaws.{of-kind, lone-by}
 use Rattle.events.proofs.QuestionLaws.{eventless}
+use Rattle.events.proofs.SpelledLaws.{spelled-own, spelled-starts, spelled-once, spelled-commits}
 use Rattle.opacity.specs.Transactions.{committed, status, precedes}
 use Rattle.opacity.specs.Justification.{Place, outcomeKept, preceded, realTimeKept, Justified}
 use Rattle.opacity.specs.Lowest.{lowestOf}
 use Rattle.opacity.specs.Store.{Store}
-use Rattle.opacity.specs.Spelled.{sameTransaction, spelled}
 use Rattle.opacity.specs.Serial.{does, eventsOf, run, readsRight, after, runsRight, Serial}
-use Rattle.opacity.proofs.EventKinds.{of-kind}
 use Rattle.opacity.proofs.Bounds.{transaction-known}
 use Rattle.opacity.proofs.Snoc.{precedes-more, precedes-snoc}
 use Rattle.opacity.proofs.Serial.{Known, known-serial}
@@ -207,29 +207,28 @@ module _ (h : List Event) (t : ℕ) (eventless : (p : Event → Bool) → has p 
 
 -- ---- a lone access
 
-module _ (h : List Event) (e : Event) (eventless : (p : Event → Bool) → has p (e .transaction) h ≡ false) where
-  Spelled : ℕ → Type 0
-  Spelled k = Alike (h ++ (of-kind e k ∷ [])) (h ++ spelled (of-kind e k))
+module _ (e : Event) where
+  -- the access is a transaction at once, and so is the one that it stands for
+  alone : isLone e ≡ true → AtOnce (e .transaction) e []
+  unfolding all any isBegin isCommit
+  alone l = record { own = and-i _ _ (eqb-self (e .transaction)) refl; starts = or-r _ _ l; once = refl; commits = or-l _ _ (or-l _ _ l) }
 
-  a-read : Spelled 24
-  unfolding Spelled spelled all any isLone isBegin answersRead isRead isWrite isCommit run does readsRight _and_ _or_ _implies_
-  a-read =
-      alike h (e .transaction) eventless _ _ _ _
-      (record { own = rw (eqb-self (e .transaction)); starts = refl; once = refl; commits = refl })
-      (record { own = rw (eqb-self (e .transaction)); starts = refl; once = refl; commits = refl })
-      (λ s. refl) (λ s. refl)
+  stood-for : AtOnce (e .transaction) (eventAt (spelled e) 0) (drop 1 (spelled e))
+  unfolding spelled
+  stood-for = record { own = spelled-own e; starts = spelled-starts e; once = spelled-once e; commits = spelled-commits e }
 
-  a-write : Spelled 25
-  unfolding Spelled spelled all any isLone isBegin answersRead isRead isWrite isCommit run does readsRight _and_ _or_ _implies_
-  a-write =
-      alike h (e .transaction) eventless _ _ _ _
-      (record { own = rw (eqb-self (e .transaction)); starts = refl; once = refl; commits = refl })
-      (record { own = rw (eqb-self (e .transaction)); starts = refl; once = refl; commits = refl })
-      (λ s. refl) (λ s. refl)
+  -- they leave the same and have the same reads right
+  same : isLone e ≡ true → (s : Store) → (run (e ∷ []) s ≡ run (spelled e) s) × (readsRight (e ∷ []) s ≡ readsRight (spelled e) s)
+  unfolding spelled answersRead isRead isWrite run does readsRight _and_ _or_ _implies_
+  same l s =
+      lone-by (λ k. (run (of-kind e k ∷ []) s ≡ run (spelled (of-kind e k)) s) × (readsRight (of-kind e k ∷ []) s ≡ readsRight (spelled (of-kind e k)) s)) e
+      (refl, refl) (refl, refl) l
 
-  pub lone-alike : isLone e ≡ true → Alike (h ++ (e ∷ [])) (h ++ spelled e)
-  unfolding Spelled
-  lone-alike l = lone-by Spelled e a-read a-write l
+-- so a history in which that transaction has no event is alike with either at its end
+pub lone-alike : (h : List Event) (e : Event) → ((p : Event → Bool) → has p (e .transaction) h ≡ false) → isLone e ≡ true
+    → Alike (h ++ (e ∷ [])) (h ++ spelled e)
+unfolding spelled
+lone-alike h e n l = alike h (e .transaction) n e _ [] _ (alone e l) (stood-for e) (λ s. same e l s .0) (λ s. same e l s .1)
 
 -- every event is of a transaction below n, where those of k and of X are
 below-append : (n : ℕ) (k X : List Event) → ((i : ℕ) → i < length k → eventAt k i .transaction < n) → all (λ x. ltb (x .transaction) n) X ≡ true
@@ -242,18 +241,9 @@ below-append n (x ∷ k) X f a zero l = f 0 (zero-lt-suc (length k))
 below-append n (x ∷ k) X f a (suc i) l = below-append n k X (λ j m. f (suc j) (suc-le-suc-iff .1 m)) a i (le-of-suc-le-suc l)
 
 spelled-below : (n : ℕ) (e : Event) → e .transaction < n → all (λ x. ltb (x .transaction) n) (spelled e) ≡ true
-unfolding spelled all _and_
-spelled-below n e l = go (isRead e)
-  where
-    go : (b : Bool)
-        → all (λ x. ltb (x .transaction) n)
-        (sameTransaction e 16 0 0 (e .thread)
-        ∷ cond b (sameTransaction e 17 (e .register) 0 0) (sameTransaction e 19 (e .register) (e .value) 0)
-        ∷ cond b (sameTransaction e 18 (e .register) (e .value) 0) (sameTransaction e 20 0 0 0)
-        ∷ sameTransaction e 21 0 0 0 ∷ sameTransaction e 22 0 0 0 ∷ [])
-        ≡ true
-    go true = rw (lt-ltb (e .transaction) n l)
-    go false = rw (lt-ltb (e .transaction) n l)
+spelled-below n e l =
+    all-weaken (λ x. eqb (x .transaction) (e .transaction)) (λ x. ltb (x .transaction) n) (spelled e)
+    (λ x q. lt-ltb (x .transaction) n (omega (arith, l, eqb-true (x .transaction) (e .transaction) q))) (spelled-own e)
 
 module _ (start : Store) (h : List Event) (e : Event) (r : readable (h ++ (e ∷ [])) ≡ true) (l : isLone e ≡ true) where
   inside : length h < length (h ++ (e ∷ []))

@@ -15,12 +15,12 @@ use Rattle.events.specs.declared.event.Event.{Event}
 use Rattle.events.specs.Events.{noEvent, eventAt, isBegin, isRead, isCommit, isAbort, isEnd}
 use Rattle.events.specs.Questions.{readable}
 use Rattle.lists.proofs.ListLaws.{and-l, imp-e, nor-i, or-l, or-r, clash, not-true}
+use Rattle.events.proofs.KindLaws.{access-open}
 use Rattle.events.proofs.QuestionLaws.{asked-at, begun, eventless, unended}
 use Rattle.opacity.specs.Transactions.{status, allows}
 use Rattle.opacity.specs.Justification.{Place, outcome, contents, outcomeKept, Justified}
 use Rattle.opacity.specs.Lowest.{place}
 use Rattle.opacity.specs.Carry.{seen, carries, carried}
-use Rattle.opacity.proofs.EventKinds.{access-open}
 use Rattle.opacity.proofs.Opacity.{begun-prefix}
 use Rattle.opacity.proofs.Pending.{named, stays-live}
 use Rattle.opacity.proofs.Kept.{kept-justified}

@@ -17,7 +17,6 @@ pub mod Serial
 pub mod Contents
 pub mod LowestSerial
 pub mod Explained
-pub mod EventKinds
 pub mod Statuses
 pub mod Pending
 pub mod Snoc

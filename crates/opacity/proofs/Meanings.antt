@@ -35,11 +35,11 @@ any-at p (x ∷ xs) d zero l t = or-l _ _ t
 any-at p (x ∷ xs) d (suc j) l t = or-r _ _ (any-at p xs d j (le-of-suc-le-suc l) t)
 
 -- the last element with an answer
-pub record Latest {A B : Type 0} (f : A → Option B) (xs : List A) (d : A) (y : B) : Type 0 where
-  pub index : ℕ
-  pub inside : index < length xs
-  pub answer : f (getD xs index d) ≡ some y
-  pub later : (j : ℕ) → index < j → j < length xs → f (getD xs j d) ≡ none
+record Latest {A B : Type 0} (f : A → Option B) (xs : List A) (d : A) (y : B) : Type 0 where
+  index : ℕ
+  inside : index < length xs
+  answer : f (getD xs index d) ≡ some y
+  later : (j : ℕ) → index < j → j < length xs → f (getD xs j d) ≡ none
 
 latest-none : {A B : Type 0} (f : A → Option B) (xs : List A) (d : A) → latest f xs ≡ none → (j : ℕ) → j < length xs → f (getD xs j d) ≡ none
 unfolding latest
@@ -52,7 +52,7 @@ latest-none f (x ∷ xs) d e j l = go (latest f xs) refl e (latest-none f xs d) 
     go none q a ih (suc k) m = ih q k (le-of-suc-le-suc m)
     go (some y) q a ih k m = absurd (Option·some-ne-none y a)
 
-pub latest-some : {A B : Type 0} (f : A → Option B) (xs : List A) (d : A) {y : B} → latest f xs ≡ some y → Latest f xs d y
+latest-some : {A B : Type 0} (f : A → Option B) (xs : List A) (d : A) {y : B} → latest f xs ≡ some y → Latest f xs d y
 unfolding latest
 latest-some f [] d {y} e = absurd (Option·none-ne-some y e)
 latest-some f (x ∷ xs) d {y} e = go (latest f xs) refl e (λ q. latest-some f xs d q)

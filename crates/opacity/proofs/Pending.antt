@@ -17,12 +17,12 @@ use Rattle.events.specs.Events.{noEvent, eventAt, isBegin, isCall, asksCommit, 
 use Rattle.events.specs.Questions.{past, readable, due}
 use Rattle.lists.proofs.ListLaws.{and-false-r, and-false-l, and-false-e, and-l, nor-l, nor-r, clash, any-append, latest-snoc}
 use Rattle.events.proofs.EventLaws.{begins-take}
+use Rattle.events.proofs.KindLaws.{due-commit, asks-is-call}
 use Rattle.events.proofs.QuestionLaws as asking
 use Rattle.events.proofs.QuestionLaws.{Fit, fit-at, asked, begun}
 use Rattle.lists.proofs.ListLaws.{any-index}
 use Rattle.opacity.specs.Transactions.{live, status}
 use Rattle.opacity.proofs.Statuses.{not-committed, not-aborted}
-use Rattle.opacity.proofs.EventKinds.{due-commit, asks-is-call}
 
 pending-other : (h : List Event) (e : Event) (t : ℕ) → eqb (e .transaction) t ≡ false → pendingOf (h ++ (e ∷ [])) t ≡ pendingOf h t
 unfolding pendingOf pendingCall lastOf

@@ -15,10 +15,10 @@ use Rattle.events.specs.declared.event.Event.{Event}
 use Rattle.events.specs.Events.{noEvent, eventAt, asksCommit, isCommit, isAbort, isEnd, by, has, ended}
 use Rattle.events.specs.Questions.{readable}
 use Rattle.lists.proofs.ListLaws.{and-l, and-r, and-i, or-l, or-r, or-cases, nor-l, nor-r, nor-i, clash}
+use Rattle.events.proofs.KindLaws.{commit-no-abort}
 use Rattle.events.proofs.QuestionLaws.{unended}
 use Rattle.events.proofs.StateLaws.{has-snoc}
 use Rattle.opacity.specs.Transactions.{Status, committed, aborted, pending, live, HasStatus, status}
-use Rattle.opacity.proofs.EventKinds.{commit-no-abort}
 
 -- a transaction has ended if it is committed or aborted
 pub ended-by : (t : ℕ) (h : List Event) → ended t h ≡ (has isCommit t h or has isAbort t h)

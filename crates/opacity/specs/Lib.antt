@@ -8,6 +8,5 @@ pub mod Store
 pub mod Serial
 pub mod Counts
 pub mod Explains
-pub mod Spelled
 pub mod Verdicts
 pub mod Arrays

@@ -20,7 +20,8 @@ use Rattle.events.specs.Events.{noEvent, eventAt, isRead, isWrite, by, begins}
 use Rattle.events.specs.Questions.{readable}
 use Rattle.opacity.specs.Transactions.{lastWrite, ownWrite, isOwnRead, isStoreRead, storeReads, isValue, ownRight}
 use Rattle.opacity.specs.Counts.{one}
-use Rattle.opacity.proofs.Bounds.{transaction-known, transaction-low, register-low}
+use Rattle.events.proofs.RegisterLaws.{register-low}
+use Rattle.opacity.proofs.Bounds.{transaction-known, transaction-low}
 use Rattle.opacity.proofs.HowMany.{how-many-more, how-many-low}
 use Rattle.reads.specs.Own.{Low, Blank, slotOf, notedAt, readsStore, valueBefore, OwnWrites}
 

@@ -21,6 +21,10 @@ use Rattle.counts.specs.Tally.{ofStatus, tally}
 use Rattle.marking_reader.specs.File.{nextEvent, everyPlaced, hasPoint, everyPointed, headQuestions, recordQuestions, endQuestions, bodyStep, endStep, stepAt, walk as walkMarking, opening, fileRead}
 use Rattle.marking.specs.Answer.{verdictAnswer, said as checkSaid}
 use Rattle.straighten.specs.Straight.{staysPut, straightPoint, straightened, movedEvents}
+use Rattle.steps.specs.Steps.{recordQuestions as asksOfRecord, isStart, startQuestions, isNote, recordStep}
+use Rattle.reader.specs.Reading.{isUncut, isEdition, isHead, headed, opening as openingLog, walk as walkLog, historyOf, readAnswer, said as readSaid}
+use Rattle.notes.specs.Without.{kept, keptFrom, withoutNotes}
+use Rattle.notes.specs.Notes.{notesFrom, notesOf, firstFrom, nextNote}
 use Rattle.worked.specs.Cases.{right}
 use Rattle.worked.specs.Worked.{worked}
 
@@ -39,5 +43,7 @@ unfolding
     nextEvent everyPlaced hasPoint everyPointed headQuestions recordQuestions endQuestions bodyStep endStep stepAt
     walkMarking opening fileRead verdictAnswer checkSaid
     staysPut straightPoint straightened movedEvents
+    isStart startQuestions isNote recordStep isUncut isEdition isHead headed openingLog walkLog historyOf readAnswer readSaid asksOfRecord
+    kept keptFrom withoutNotes notesFrom notesOf firstFrom nextNote
     right worked
 worked-hold = refl

@@ -13,6 +13,11 @@ use Rattle.log.specs.Starts.{startOf, noStarts}
 use Rattle.log.specs.Columns.{Columns, columns, filledWith}
 use Rattle.events.specs.Said.{Said, done, nothing, faulted, broken, atEvent, atByte}
 use Rattle.log.specs.Answer.{historyAnswer, said}
+use Rattle.reader.specs.Reading.{readAnswer, said as readSaid}
+use Rattle.notes.specs.declared.NextNote.{NextNote}
+use Rattle.notes.specs.declared.NextNote.the-variants.{Next, None}
+use Rattle.notes.specs.Without.{withoutNotes}
+use Rattle.notes.specs.Notes.{nextNote}
 use Rattle.opacity.specs.declared.verdict.Verdict.{Verdict}
 use Rattle.opacity.specs.declared.verdict.Scanned.{Scanned}
 use Rattle.opacity.specs.Transactions.{storeReads}
@@ -88,7 +93,7 @@ marking J ps = record { places = J; points = ps }
 -- ---- what is said of a history: the scan's answer; its lowest marking, and that marking's file; the verdict on a marking; what the checker says
 -- of a marking file; a marking with its points straightened, the events moved, and the verdict then; whether an order run one at a time
 -- gives every read its value; the counts of the report; its tally; the question, with its event, that refuses a call with this edition and
--- these start values
+-- these start values; what the reader says of a history file, the file without its notes, and its next note from a byte on
 
 pub data Claim : Type 0 where
   scanned : Scanned → Claim
@@ -101,6 +106,9 @@ pub data Claim : Type 0 where
   counted : ℕ → ℕ → ℕ → Claim
   tallied : ℕ → ℕ → ℕ → ℕ → Claim
   refusedBy : ℕ → ℕ → Claim
+  logSays : List ℕ → Said → Claim
+  bareIs : List ℕ → List ℕ → Claim
+  nextIs : List ℕ → ℕ → List ℕ → Claim
 
 -- answers as lists of numbers, to compare them
 placeNumbers : List Place → List ℕ
@@ -167,8 +175,17 @@ checkedFile : Case → List ℕ → Said
 unfolding inColumns
 checkedFile c file = checkSaid (verdictAnswer (c .edition) (c .starts) (inColumns c) (length (c .history)) file)
 
+-- what the reader says of a history file, with room for eight events
+readLog : List ℕ → Said
+readLog file = readSaid (readAnswer file (columns (replicate 8 0) (replicate 8 0) (replicate 8 0) (replicate 8 0) (replicate 8 0)) .result)
+
+-- a note in numbers, and nothing for none
+noteNumbers : NextNote → List ℕ
+noteNumbers None = []
+noteNumbers (Next n) = n .events ∷ n .start ∷ n .size ∷ []
+
 holds : Case → (ℕ → ℕ) → List Event → Claim → Bool
-unfolding equal same markingNumbers found readableFor asked checkedFile
+unfolding equal same markingNumbers found readableFor asked checkedFile readLog noteNumbers
 holds c start h (scanned a) = same (scannedSaid (scan start h)) (scannedSaid a)
 holds c start h (lowestIs m) = found h (λ n. equal (markingNumbers n) (markingNumbers m)) (lowestOf start h)
 holds c start h (fileIs s) = found h (λ n. equal (markingBytes n) s) (lowestOf start h)
@@ -183,6 +200,9 @@ holds c start h (runs J b) = eqb (outcomeNumber (runsRight start h J)) (outcomeN
 holds c start h (counted e t r) = equal (counts h .events ∷ counts h .transactions ∷ counts h .reads ∷ []) (e ∷ t ∷ r ∷ [])
 holds c start h (tallied n a p l) = equal (tally h .committed ∷ tally h .aborted ∷ tally h .pending ∷ tally h .live ∷ []) (n ∷ a ∷ p ∷ l ∷ [])
 holds c start h (refusedBy q i) = same (asked c) (atEvent q i)
+holds c start h (logSays s a) = same (readLog s) a
+holds c start h (bareIs s b) = equal (withoutNotes s) b
+holds c start h (nextIs s from n) = equal (noteNumbers (nextNote s from)) n
 
 -- of a history of edition 1, and of one of edition 2 whose registers 0 and 1 start with these values
 unfoldable pub says : List Event → Claim → Case
@@ -211,3 +231,6 @@ right c = (isRefusal (c .claim) or same (asked c) (done [])) and holds c (startO
     isRefusal (runs J b) = false
     isRefusal (counted e t r) = false
     isRefusal (tallied n a p l) = false
+    isRefusal (logSays s a) = false
+    isRefusal (bareIs s b) = false
+    isRefusal (nextIs s from n) = false

@@ -1,11 +1,11 @@
 -- To be believed: the worked histories, as one list with what the definitions must say of each: the starred ones of the paper ("Histories
 -- to try"), histories with start values, histories with accesses outside transactions, some that catch what those do not, marking files,
--- markings with their points straightened, tallies, and seven of the source document 001.
+-- markings with their points straightened, tallies, history files with notes, and seven of the source document 001.
 -- Assumes nothing.
-use Prim.Native.Nat.{ℕ}
+use Prim.Native.Nat.{ℕ, _+_}
 use mathlib.Core.Bool.{true, false}
 use mathlib.Core.List.{List, [], _∷_, _++_}
-use lib.ListN.{take}
+use lib.ListN.{take, replicate}
 use Rattle.events.specs.declared.event.Event.{Event}
 use Rattle.events.specs.Said.{done, atByte}
 use Rattle.opacity.specs.declared.verdict.Rule.the-variants.{A, B, C, D, E}
@@ -15,7 +15,7 @@ use Rattle.opacity.specs.Justification.{Place}
 use Rattle.opacity.specs.Lowest.{place}
 use Rattle.opacity.specs.Marking.{Marking}
 use Rattle.worked.specs.Cases.{event, beginOn, loneRead, loneWrite, begin, read, write, callRead, callCommit, commit, abort, then, point, marking, says, startsWith, saysFrom, Case}
-use Rattle.worked.specs.Cases.{scanned, lowestIs, fileIs, checked, fileSays, straight, runs, counted, tallied, refusedBy}
+use Rattle.worked.specs.Cases.{scanned, lowestIs, fileIs, checked, fileSays, straight, runs, counted, tallied, refusedBy, logSays, bareIs, nextIs}
 
 -- H0 with v at event 9
 h0 : ℕ → List Event
@@ -287,6 +287,62 @@ tallies =
     (tallied 1 3 1 2)
     ∷ []
 
+-- ---- history files with notes
+
+headOf : ℕ → List ℕ
+headOf edition = 4 ∷ 0 ∷ 1 ∷ 0 ∷ edition ∷ 0 ∷ []
+
+-- a note of so many bytes
+note : ℕ → List ℕ
+note n = (n + 2) ∷ 0 ∷ 48 ∷ 0 ∷ replicate n 33
+
+-- register 0 starts with 5; T0 begins on thread 3, reads register 0, and gets 5
+startRecord : List ℕ
+startRecord = 8 ∷ 0 ∷ 3 ∷ 0 ∷ 0 ∷ 0 ∷ 5 ∷ 0 ∷ 0 ∷ 0 ∷ []
+
+beginRecord : List ℕ
+beginRecord = 6 ∷ 0 ∷ 16 ∷ 0 ∷ 0 ∷ 0 ∷ 3 ∷ 0 ∷ []
+
+readRecords : List ℕ
+readRecords = 6 ∷ 0 ∷ 17 ∷ 0 ∷ 0 ∷ 0 ∷ 0 ∷ 0 ∷ 8 ∷ 0 ∷ 18 ∷ 0 ∷ 0 ∷ 0 ∷ 5 ∷ 0 ∷ 0 ∷ 0 ∷ []
+
+-- the file, and the file with notes: behind the head, a start record, an event, and at the end
+bare : List ℕ
+unfolding headOf startRecord beginRecord readRecords
+bare = headOf 2 ++ (startRecord ++ (beginRecord ++ readRecords))
+
+noted : List ℕ
+unfolding headOf note startRecord beginRecord readRecords
+noted = headOf 2 ++ (note 0 ++ (startRecord ++ (note 64 ++ (beginRecord ++ (note 2 ++ (readRecords ++ note 1))))))
+
+logs : List Case
+unfolding says headOf note startRecord beginRecord readRecords bare noted
+logs =
+    -- it is read as without them; a start record behind a note is not late
+    says [] (logSays bare (done (3 ∷ 2 ∷ [])))
+    ∷ says [] (logSays noted (done (3 ∷ 2 ∷ [])))
+    ∷ says [] (bareIs noted bare)
+    ∷ says [] (bareIs bare bare)
+    -- each note with the events before it, its byte and its length
+    ∷ says [] (nextIs noted 0 (0 ∷ 10 ∷ 0 ∷ []))
+    ∷ says [] (nextIs noted 10 (0 ∷ 24 ∷ 64 ∷ []))
+    ∷ says [] (nextIs noted 88 (1 ∷ 100 ∷ 2 ∷ []))
+    ∷ says [] (nextIs noted 102 (3 ∷ 124 ∷ 1 ∷ []))
+    ∷ says [] (nextIs noted 125 [])
+    ∷ says [] (nextIs bare 0 [])
+    -- 64 bytes and 65; a note that is cut short, with and without its bytes; one before the head; edition 1 has notes too
+    ∷ says [] (logSays (headOf 1 ++ note 64) (done (0 ∷ 1 ∷ [])))
+    ∷ says [] (logSays (headOf 1 ++ note 65) (atByte 44 6))
+    ∷ says [] (nextIs (headOf 1 ++ note 65) 0 [])
+    ∷ says [] (logSays (headOf 1 ++ take 67 (note 64)) (atByte 2 6))
+    ∷ says [] (logSays (headOf 1 ++ take 68 (note 65)) (atByte 2 6))
+    ∷ says [] (logSays (note 0 ++ headOf 1) (atByte 3 0))
+    -- a refusal has its byte in the file as it is; 43 of a start record behind an event and a note, 4 of one in edition 1
+    ∷ says [] (logSays (headOf 1 ++ (note 3 ++ readRecords)) (atByte 11 13))
+    ∷ says [] (logSays (headOf 2 ++ (beginRecord ++ (note 3 ++ startRecord))) (atByte 43 21))
+    ∷ says [] (logSays (headOf 1 ++ (note 3 ++ startRecord)) (atByte 4 13))
+    ∷ []
+
 -- worked examples of document 001, named by their place there; x is register 0. Transactions are numbered by their begins, on the threads
 -- that the document gives them.
 printed : List Case
@@ -320,5 +376,5 @@ printed =
     ∷ []
 
 unfoldable pub worked : List Case
-unfolding starred fromStarts alone further files straightenings tallies printed
-worked = starred ++ (fromStarts ++ (alone ++ (further ++ (files ++ (straightenings ++ (tallies ++ printed))))))
+unfolding starred fromStarts alone further files straightenings tallies logs printed
+worked = starred ++ (fromStarts ++ (alone ++ (further ++ (files ++ (straightenings ++ (tallies ++ (logs ++ printed)))))))

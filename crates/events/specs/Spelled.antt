@@ -1,14 +1,13 @@
--- To be believed: the transaction that a lone access stands for (change request 5). `proofs/Alone.antt` proves that a history that ends with
--- the one is judged as with the other.
+-- To be believed: the transaction that a lone access stands for (change request 5). `opacity/proofs/Alone.antt` proves that a history that
+-- ends with the one is judged as with the other.
 -- Assumes nothing.
 use Prim.Native.Nat.{ℕ}
 use mathlib.Core.Bool.{cond}
 use mathlib.Core.List.{List, [], _∷_}
-use Rattle.events.specs.declared.event.Event.{Event}
-use Rattle.events.specs.Events.{isRead}
+use Rattle.events.specs.Events.{Event, isRead}
 
 -- an event of e's transaction
-abbrev pub sameTransaction : Event → ℕ → ℕ → ℕ → ℕ → Event
+abbrev sameTransaction : Event → ℕ → ℕ → ℕ → ℕ → Event
 sameTransaction e k r v th = record { kind = k; transaction = e .transaction; register = r; value = v; thread = th }
 
 -- it begins, calls its read or write, which returns, calls commit and is committed, with nothing in between
