@@ -20,8 +20,8 @@ upperOf p = p / 65536
 abbrev pub lowerOf : ℕ → ℕ
 lowerOf p = p % 65536
 
--- What a place holds where the call is done, by the call: nothing (scan and check), one number (write, find and the counts), two (read:
--- the count and the edition; straighten: the length and how many were moved), four (tally).
+-- What a place holds where the call is done, by the call: nothing (scan, check and the next note), one number (write, find and the
+-- counts), two (read: the count and the edition; straighten: the length and how many were moved), four (tally).
 abbrev pub noValue : ℕ → List ℕ
 noValue p = []
 

@@ -12,6 +12,7 @@ ghost use Rattle.scan.specs.Answer.{scannedSaid, said as scanSaid};
 ghost use Rattle.marking.specs.Answer.{verdictSaid, said as checkSaid};
 ghost use Rattle.straighten.specs.Answer.{said as straightSaid};
 ghost use Rattle.counts.specs.Answer.{countSaid, tallySaid};
+ghost use Rattle.notes.specs.Notes.{said as noteSaid};
 ghost use Rattle.codes.specs.Codes.{most, packed, halves, pair, coded, Halves, Known, Quarters};
 use counts::Counting;
 use counts::Tallying;
@@ -19,6 +20,7 @@ use counts::tally::Tally;
 use events::refusal::Refusal;
 use finder::Finding;
 use marking::check::Checking;
+use notes::NextNote;
 use opacity::verdict::Rule;
 use opacity::verdict::Scanned;
 use opacity::verdict::Verdict;
@@ -213,5 +215,15 @@ pub fn tally_code(answer: Tallying) -> u64
     match answer {
         Tallying::Tallied(tally) => pack(0, tally_place(tally)),
         Tallying::Refused(refusal) => refusal_code(refusal),
+    }
+}
+
+// Codes the answer of the next note, whose numbers are told beside the code.
+pub fn note_code(answer: NextNote) -> u64
+    ensures { λ r. ⌜ r ≡ coded (noteSaid answer) ⌝ }
+{
+    match answer {
+        NextNote::Next(_) => pack(0, 0),
+        NextNote::None => pack(NONE, 0),
     }
 }

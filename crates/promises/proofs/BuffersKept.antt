@@ -1,6 +1,6 @@
 -- No lent buffer changes where a question says no (demand 1), for each public function that is lent buffers to fill: the reader's columns,
 -- the writer's output, the finder's output, and the straightening's output and list, which a broken rule leaves alone too. Checker, scan,
--- counts and tally are lent nothing that they can write to.
+-- counts, tally and next note are lent nothing that they can write to (the library's call of the last is lent three numbers: Calls).
 -- Assumes nothing.
 use Prim.Native.Nat.{ℕ}
 use native.Mathlib.Omega.{arith}

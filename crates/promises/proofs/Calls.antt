@@ -1,17 +1,17 @@
 -- The calls of the library, one after the other: what was written is read, what was read is written, what was found or straightened is
--- accepted, and no lent buffer changes where a call is not done, nor behind what it gives where it is. A number is read as the header says
+-- accepted, all notes are told, and no lent buffer changes where a call is not done, nor behind what it gives where it is. A number is read as the header says
 -- (`decoded`); `count ≤ most` is what the type of a count says.
 -- Assumes nothing.
-use Prim.Native.Nat.{ℕ, _+_, _*_, _≤_}
+use Prim.Native.Nat.{ℕ, _+_, _*_, _≤_, _<_}
 use native.Mathlib.Omega.{arith}
 use mathlib.Core.Path.{_≡_, refl, sym, ap, subst, _∙_}
 use mathlib.Core.Bool.{true}
-use mathlib.Core.List.{List, [], _∷_, map}
+use mathlib.Core.List.{List, [], _∷_, _++_, map, List·Memᴰ}
 use lib.ListN.{length, take, drop, length-map}
 use Rattle.events.specs.declared.event.Event.{Event}
 use Rattle.records.specs.Bytes.{Bytes, over}
 use Rattle.log.specs.Columns.{Columns, history, hold, filledWith, Fitting}
-use Rattle.events.specs.Said.{done, faulted, broken}
+use Rattle.events.specs.Said.{done, nothing, faulted, broken}
 use Rattle.log.specs.Starts.{FittingStarts}
 use Rattle.events.specs.Events.{begins}
 use Rattle.lists.specs.Lists.{range}
@@ -45,11 +45,16 @@ use Rattle.straighten.proofs.Theorems.{said-straightened, said-broken, never-br
 use Rattle.counts.specs.declared.tally.Tally.{Tally}
 use Rattle.counts.proofs.SaidLaws.{transactions-exactly, tallied-exactly}
 use Rattle.counts.proofs.Theorems.{adds-up}
+use Rattle.notes.specs.declared.Note.{Note}
+use Rattle.notes.specs.declared.NextNote.{NextNote}
+use Rattle.notes.specs.Notes.{notesOf, nextNote, said as noteSaid, Stands, IsNext, firstOf}
+use Rattle.notes.specs.Without.{withoutNotes}
+use Rattle.notes.proofs.NoteLaws.{next-is, next-none, next-first, next-again, events-most}
 use Rattle.codes.specs.Codes.{most, coded}
 use Rattle.codes.specs.Decoded.{decoded, noValue, oneValue, twoValues, fourValues, always, never, ofMarking, codeOf}
 use Rattle.codes.proofs.CodeLaws.{decodes, done-code}
-use Rattle.sendoshi.specs.Calls.{put, startsAfter, readCall, writeCall, findCall, scanCall, checkCall, straightenCall, transactionsCall, tallyCall}
-use Rattle.sendoshi.proofs.Bounds.{read-decodable, write-decodable, find-decodable, scan-decodable, straighten-decodable, transactions-decodable, tally-decodable}
+use Rattle.sendoshi.specs.Calls.{put, startsAfter, readCall, writeCall, findCall, scanCall, checkCall, straightenCall, transactionsCall, tallyCall, noteAfter, noteFilled, nextNoteCall}
+use Rattle.sendoshi.proofs.Bounds.{read-decodable, write-decodable, find-decodable, scan-decodable, straighten-decodable, transactions-decodable, tally-decodable, note-decodable}
 use Rattle.promises.proofs.FinderAccepted.{found-accepted}
 
 -- ---- what an answer is, by what its number says
@@ -66,6 +71,16 @@ said-written : (a : Writing) (n : ℕ) → writtenSaid a ≡ done (n ∷ []) →
 unfolding writtenSaid
 said-written (Writing.Written k) n e = cc
 said-written (Writing.Refused r) n e = absurd (let z : _≡_ {A = ℕ} 0 1 = cc in omega arith)
+
+said-next : (a : NextNote) → noteSaid a ≡ done [] → (x : Note) × (a ≡ NextNote.Next x)
+unfolding noteSaid
+said-next (NextNote.Next x) e = (x, refl)
+said-next NextNote.None e = absurd (let z : _≡_ {A = ℕ} 0 1 = cc in omega arith)
+
+said-none : (a : NextNote) → noteSaid a ≡ nothing → a ≡ NextNote.None
+unfolding noteSaid
+said-none (NextNote.Next x) e = absurd (let z : _≡_ {A = ℕ} 0 1 = cc in omega arith)
+said-none NextNote.None e = refl
 
 -- ---- read
 
@@ -90,9 +105,10 @@ module _ (file lent : List ℕ) (c : Columns) where
     unfolding readCall startsAfter
     starts-read = let r = is-read .0 in rw r
 
-    -- writing what was read gives the file back, and nothing behind it changes
-    pub read-then-write : (out : List ℕ) → Bytes file → length file ≤ length out
-        → writeCall edition (readCall file lent c .starts) (readCall file lent c .columns) n out ≡ put (coded (done (length file ∷ []))) (over file out)
+    -- writing what was read gives the file without its notes back, and nothing behind it changes
+    pub read-then-write : (out : List ℕ) → Bytes file → length (withoutNotes file) ≤ length out
+        → writeCall edition (readCall file lent c .starts) (readCall file lent c .columns) n out
+        ≡ put (coded (done (length (withoutNotes file) ∷ []))) (over (withoutNotes file) out)
     unfolding writeCall readCall writtenSaid
     read-then-write out by room =
         let r = is-read in
@@ -238,6 +254,52 @@ tally-adds-up edition starts c count small x t =
     let w = tallied-exactly edition starts c count x .0 (sym (decodes fourValues never _ (tally-decodable edition starts c count small)) ∙ t) in
     let s = ap (λ (y : Tally). y .committed + y .aborted + y .pending + y .live) (sym (w .1)) ∙ adds-up (history c count) in
     decodes oneValue never _ (transactions-decodable edition starts c count small) ∙ transactions-exactly edition starts c count _ .1 (w .0, sym s)
+
+-- ---- the next note
+
+module _ (file : List ℕ) (from : ℕ) (lent : List ℕ) where
+  pub next-note-says : decoded noValue never (nextNoteCall file from lent .number) ≡ noteSaid (nextNote file from)
+  unfolding nextNoteCall
+  next-note-says = decodes noValue never _ (note-decodable (nextNote file from))
+
+  pub next-note-keeps : (codeOf (nextNoteCall file from lent .number) ≡ 0 → ⊥) → nextNoteCall file from lent .note ≡ lent
+  unfolding nextNoteCall noteSaid noteAfter
+  next-note-keeps n = go (nextNote file from) refl
+    where
+      go : (a : NextNote) → nextNote file from ≡ a → noteAfter (nextNote file from) lent ≡ lent
+      go (NextNote.Next x) w = absurd (n (done-code noValue never (note-decodable (nextNote file from)) [] (ap noteSaid w)))
+      go NextNote.None w = ap (λ (a : NextNote). noteAfter a lent) w
+
+  -- where it is done, the three numbers are those of the next note, which stands in the file
+  pub next-note-tells : decoded noValue never (nextNoteCall file from lent .number) ≡ done []
+      → (x : Note) × IsNext file from x × Stands file x × (nextNoteCall file from lent .note ≡ x .events ∷ x .start ∷ x .size ∷ [])
+  unfolding nextNoteCall noteAfter
+  next-note-tells told =
+      let a = said-next (nextNote file from) (sym next-note-says ∙ told) in
+      let w = next-is file from (a .0) (a .1) in
+      (a .0, w .next, w .stands, ap (λ (y : NextNote). noteAfter y lent) (a .1))
+
+  -- and where there is none, every note of a file that is not too long is before the byte
+  pub next-note-none : decoded noValue never (nextNoteCall file from lent .number) ≡ nothing → length file ≤ 32768
+      → (y : Note) → List·Memᴰ y (notesOf file) → y .start < from + 4
+  next-note-none none l = next-none file l from (said-none (nextNote file from) (sym next-note-says ∙ none))
+
+-- Asked from byte 0, and then from the end of each note told, the call tells all notes of a file, in their order.
+module _ (file : List ℕ) (l : length file ≤ 32768) (lent : List ℕ) where
+  pub first-note : nextNoteCall file 0 lent ≡ noteFilled lent (firstOf (notesOf file))
+  unfolding nextNoteCall
+  first-note = ap (noteFilled lent) (next-first file l)
+
+  pub note-after : (a : List Note) (x : Note) (b : List Note) → notesOf file ≡ a ++ (x ∷ b) → nextNoteCall file (x .start + x .size) lent ≡ noteFilled lent (firstOf b)
+  unfolding nextNoteCall
+  note-after a x b e = ap (noteFilled lent) (next-again file l a x b e)
+
+-- The events before a note of a file that is read are among those read.
+pub note-among : (file lent : List ℕ) (c : Columns) (n edition : ℕ) → decoded twoValues always (readCall file lent c .number) ≡ done (n ∷ edition ∷ [])
+    → (x : Note) → List·Memᴰ x (notesOf file) → x .events ≤ n
+note-among file lent c n edition read x m =
+    let w = was-read file c n (is-read file lent c n edition read .0) in
+    omega (arith, w .count, events-most file (w .says) (w .file) x m)
 
 -- ---- buffers that are long enough
 

@@ -23,6 +23,7 @@ use Rattle.opacity.specs.Scan.{AllJustified, FaultsAt}
 use Rattle.opacity.specs.Verdicts.{AllHold}
 use Rattle.reader.specs.declared.Reading.the-variants.{Read}
 use Rattle.reader.specs.Reading.{TooShort, historyOf, refused, eventsIn, historyRead, readAnswer, said as readSaid}
+use Rattle.notes.specs.Without.{withoutNotes}
 use Rattle.writer.specs.declared.Writing.the-variants.{Written}
 use Rattle.writer.specs.Writing.{SameEntries, fileOf, answered, writtenAnswer, said as writtenSaid}
 use Rattle.reader.proofs.SaidLaws as reader
@@ -106,8 +107,10 @@ pub read-what-was-written : (edition : ℕ) (starts : List ℕ) (c d : Columns) 
     × SameEntries n (readAnswer (take len (writtenAnswer edition starts c n out .output)) d .columns) c
 read-what-was-written = round.read-written
 
-pub write-what-was-read : (s : List ℕ) (c : Columns) (n : ℕ) (out : List ℕ) → Bytes s → readAnswer s c .result .reading ≡ Read n → length s ≤ length out
-    → writtenAnswer (readAnswer s c .result .edition) (readAnswer s c .result .starts) (readAnswer s c .columns) n out ≡ answered (Written (length s)) (over s out)
+-- (notes are no part of a history, and are not written)
+pub write-what-was-read : (s : List ℕ) (c : Columns) (n : ℕ) (out : List ℕ) → Bytes s → readAnswer s c .result .reading ≡ Read n → length (withoutNotes s) ≤ length out
+    → writtenAnswer (readAnswer s c .result .edition) (readAnswer s c .result .starts) (readAnswer s c .columns) n out
+    ≡ answered (Written (length (withoutNotes s))) (over (withoutNotes s) out)
 write-what-was-read = round.written-read
 
 module _ (edition : ℕ) (starts : List ℕ) (c : Columns) (n : ℕ) (file : List ℕ) where
@@ -176,10 +179,11 @@ pub calls-write-then-read : (edition : ℕ) (starts : List ℕ) (c : Columns) (c
     × SameEntries count (readCall (take len (writeCall edition starts c count out .output)) lent d .columns) c
 calls-write-then-read = calls.write-then-read
 
--- read, then write: the file comes back, and nothing behind it changes
+-- read, then write: the file without its notes comes back, and nothing behind it changes
 pub calls-read-then-write : (file lent : List ℕ) (c : Columns) (n edition : ℕ) → decoded twoValues always (readCall file lent c .number) ≡ done (n ∷ edition ∷ [])
-    → (out : List ℕ) → Bytes file → length file ≤ length out
-    → writeCall edition (readCall file lent c .starts) (readCall file lent c .columns) n out ≡ put (coded (done (length file ∷ []))) (over file out)
+    → (out : List ℕ) → Bytes file → length (withoutNotes file) ≤ length out
+    → writeCall edition (readCall file lent c .starts) (readCall file lent c .columns) n out
+    ≡ put (coded (done (length (withoutNotes file) ∷ []))) (over (withoutNotes file) out)
 calls-read-then-write = calls.read-then-write
 
 -- find, then check: accepted

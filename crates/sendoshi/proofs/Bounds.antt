@@ -68,6 +68,10 @@ use Rattle.straighten.proofs.AnswerLaws.{answer-means}
 use Rattle.codes.specs.Codes.{most, place, Within, Halves, Quarters, Known}
 use Rattle.codes.specs.Decoded.{noValue, oneValue, twoValues, fourValues, always, never, ofMarking}
 use Rattle.codes.proofs.CodeLaws.{two-back, four-back, Decodable}
+use Rattle.notes.specs.declared.NextNote.{NextNote}
+use Rattle.notes.specs.Notes.{nextNote, said as noteSaid}
+use Rattle.notes.proofs.NoteLaws.{next-is}
+use Rattle.sendoshi.specs.Calls.{AnswerFits}
 use Rattle.sendoshi.proofs.Numbers.{Asked, call-number, call-readable}
 use Rattle.sendoshi.proofs.Files.{read-limits, MarkingNumber}
 use Rattle.sendoshi.proofs.Refusals.{read-refusal, write-refusal, find-refusal, scan-refusal, check-history, OfMarking, check-marking, straighten-refusal, straighten-marking}
@@ -324,3 +328,28 @@ module _ (edition : ℕ) (starts : List ℕ) (c : Columns) (count : ℕ) (small 
       go : (y : Checked) → historyAnswer edition starts c count ≡ y → Decodable fourValues never (tallySaid (tallied y (tally (history c count))))
       go Checked.Readable w = let q = tally-quarters (call-readable edition starts c count w) in (q, four-back _ _ _ _ q)
       go (Checked.Refused r) w = event-decodable small (call-number edition starts c count r w) fourValues (omega arith) (omega arith)
+
+-- ---- the next note
+
+-- its numbers are told beside the code, which comes back
+pub note-decodable : (a : NextNote) → Decodable noValue never (noteSaid a)
+unfolding noteSaid
+note-decodable (NextNote.Next x) = (tt, refl)
+note-decodable NextNote.None = (tt, tt)
+
+-- they are at most as large as the file is long
+pub note-fits : (file : List ℕ) (from : ℕ) → AnswerFits (nextNote file from)
+note-fits file from = go (nextNote file from) refl
+  where
+    tells : (a : NextNote) → nextNote file from ≡ a → AnswerFits a
+    tells (NextNote.Next x) w =
+        let i = next-is file from x w in
+        record {
+          events = omega (arith, i .fits, i .few, i .stands .within);
+          start = omega (arith, i .fits, i .stands .within);
+          size = omega (arith, i .fits, i .stands .within);
+        }
+    tells NextNote.None w = tt
+
+    go : (a : NextNote) → nextNote file from ≡ a → AnswerFits (nextNote file from)
+    go a w = subst AnswerFits (sym w) (tells a w)

@@ -15,14 +15,14 @@ use Rattle.records.specs.declared.record.Record.{Record}
 use Rattle.records.specs.declared.record.Found.{Found}
 use Rattle.steps.specs.declared.step.Step.{Step}
 use Rattle.lists.specs.Lists.{_and_, _or_, all}
-use Rattle.events.specs.Questions.{Question, refusal, Past, past, eventQuestions}
+use Rattle.events.specs.Questions.{Question, ask, refusal, Past, past, eventQuestions}
 use Rattle.records.specs.Bytes.{pick}
 use Rattle.records.specs.Records.{recordAt, bodyOf}
-use Rattle.steps.specs.Steps.{eventIn, recordQuestions, unless, eventOn, isStart, startQuestions, startRefusal, startOn, recordOn, recordStep}
+use Rattle.steps.specs.Steps.{eventIn, recordQuestions, unless, eventOn, isStart, startQuestions, startRefusal, startOn, isNote, noteOn, recordOn, recordStep}
 use Rattle.lists.proofs.ListLaws.{and-l, and-r, or-cases}
 use Rattle.events.proofs.QuestionLaws.{asked, head-yes}
 use Rattle.records.proofs.RecordLaws.{whole-in}
-use Rattle.steps.proofs.StepLaws.{starting}
+use Rattle.steps.proofs.StepLaws.{starting, passing}
 use Rattle.reader.specs.Reading.{isEdition, opening, Log, readable, refused, continued, walk, opened, historyOf}
 use Rattle.reader.proofs.OpeningLaws.{opens, head-long, head-known}
 use Rattle.reader.proofs.WalkLaws.{event-in, readable≢}
@@ -38,23 +38,23 @@ use Rattle.sendoshi.proofs.Numbers.{within, is-within, numbered-by, num
 
 -- ---- a history's file
 
--- 1 to the last number given, and 41 to 43
+-- 1 to the last number given, and 41 to 44
 pub record HistoryNumber (last q : ℕ) : Type 0 where
   pub least : 1 ≤ q
-  pub most : q ≤ 43
+  pub most : q ≤ 44
   pub apart : (q ≤ last) ⊎ (41 ≤ q)
 
 abbrev ofFile : ℕ → Bool
-ofFile q = within 1 13 q or within 41 43 q
+ofFile q = within 1 13 q or within 41 44 q
 
 of-file : (q : ℕ) → ofFile q ≡ true → HistoryNumber 13 q
 of-file q t =
     ⊎-elim
     (λ a. let w = is-within 1 13 q a in record { least = w .least; most = omega arith; apart = inl (w .most) })
-    (λ a. let w = is-within 41 43 q a in record { least = omega arith; most = w .most; apart = inr (w .least) })
+    (λ a. let w = is-within 41 44 q a in record { least = omega arith; most = w .most; apart = inr (w .least) })
     (or-cases _ _ t)
 
--- the question that refuses a record: 2, 4 to 13, and 41 to 43
+-- the question that refuses a record: 2, 4 to 13, and 41 to 44
 step-number : (edition : ℕ) (s : List ℕ) (at next : ℕ) (p : Past) (q : ℕ) → recordStep edition s at next p ≡ Step.Refused q → HistoryNumber 13 q
 unfolding recordStep recordQuestions eventQuestions startQuestions all _and_ _or_
 step-number edition s at next p q x = go (recordAt s at) x
@@ -64,12 +64,14 @@ step-number edition s at next p q x = go (recordAt s at) x
     its qs a none w y other k = absurd (other q k)
     its qs a (some n) w y other k = let e : n ≡ q = cc in of-file q (ap ofFile (sym e) ∙ numbered-by ofFile qs a n w)
 
-    whole : (r : Record) (b : Bool) → pick b (startOn (p .count) next s r) (eventOn edition p s r) ≡ Step.Refused q → HistoryNumber 13 q
-    whole r true k = its _ refl (startRefusal (p .count) next s r) refl _ (λ n w. let z : _≡_ {A = ℕ} 0 1 = cc in omega arith) k
-    whole r false k = its _ refl (refusal (recordQuestions edition p r (eventIn p s r))) refl _ (λ n w. let z : _≡_ {A = ℕ} 0 1 = cc in omega arith) k
+    whole : (r : Record) (b d : Bool) → pick b (startOn (p .count) next s r) (pick d (noteOn r) (eventOn edition p s r)) ≡ Step.Refused q
+        → HistoryNumber 13 q
+    whole r true d k = its _ refl (startRefusal (p .count) next s r) refl _ (λ n w. let z : _≡_ {A = ℕ} 0 1 = cc in omega arith) k
+    whole r false true k = its _ refl (refusal (ask 44 (leb (r .size) 64) ∷ [])) refl _ (λ n w. let z : _≡_ {A = ℕ} 0 1 = cc in omega arith) k
+    whole r false false k = its _ refl (refusal (recordQuestions edition p r (eventIn p s r))) refl _ (λ n w. let z : _≡_ {A = ℕ} 0 1 = cc in omega arith) k
 
     go : (f : Found) → recordOn edition next p s f ≡ Step.Refused q → HistoryNumber 13 q
-    go (Found.Whole r) k = whole r (isStart edition (r .kind)) k
+    go (Found.Whole r) k = whole r (isStart edition (r .kind)) (isNote (r .kind)) k
     go Found.Short k = let e : 2 ≡ q = cc in record { least = omega arith; most = omega arith; apart = inl (omega arith) }
     go Found.End k = let z : _≡_ {A = ℕ} 0 1 = cc in absurd (omega arith)
 
@@ -95,12 +97,15 @@ walk-number (suc n) s at next l q b i m x =
     go (Step.Started r v end) w k ih =
         let t = starting (l .edition) next (past (l .events)) s at r v end w in
         ih end (r + 1) _ (t .within) (omega (arith, t .goes-on)) k
+    go (Step.Noted end) w k ih =
+        let t = passing (l .edition) next (past (l .events)) s at end w in
+        ih end next l (t .within) (omega (arith, t .goes-on)) k
 
 opening-number : (s : List ℕ) (q : ℕ) → opening s ≡ some q → Within 1 3 q
 unfolding opening all _and_
 opening-number s q e = numbered 1 3 _ refl q e
 
--- 1 to 13 and 41 to 43, at a byte of a file of at most 32,768 bytes
+-- 1 to 13 and 41 to 44, at a byte of a file of at most 32,768 bytes
 pub history-number : (s : List ℕ) (q b : ℕ) → historyOf s ≡ refused q b → HistoryNumber 13 q × (b ≤ 32768)
 unfolding historyOf
 history-number s q b x = go (opening s) refl x
@@ -137,6 +142,7 @@ walk-count (suc n) s at next l m i x = go (recordStep (l .edition) s at next (pa
         let f : length (l .events) ≡ length (m .events) = ap (λ (y : Log). length (y .events)) e in
         record { few = omega arith; same = ap (λ (y : Log). y .edition) (sym e) }
     go (Step.Started r v end) w k ih = ih end (r + 1) _ i k
+    go (Step.Noted end) w k ih = ih end next l i k
 
 -- A file that question 14 is put to has at most 32,768 bytes and 2,048 events, and its edition is 1 or 2.
 pub record ReadLimits (s : List ℕ) (l : Log) : Type 0 where

@@ -35,7 +35,7 @@ use Rattle.straighten.proofs.AnswerLaws.{answer-means as straight-means}
 use Rattle.sendoshi.proofs.Numbers.{Asked, widen, events-number, call-number, asked-number, then-cases}
 use Rattle.sendoshi.proofs.Files.{HistoryNumber, history-number, read-limits, MarkingNumber, marking-number}
 
--- 1 to 14 and 41 to 43, of a file
+-- 1 to 14 and 41 to 44, of a file
 pub read-refusal : (file : List ℕ) (c : Columns) (r : Refusal) → readAnswer file c .result .reading ≡ Reading.Refused r → HistoryNumber 14 (r .question) × (r .at ≤ 32768)
 unfolding readAnswer
 read-refusal file c r x = go (historyOf file) refl x

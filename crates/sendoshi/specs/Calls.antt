@@ -1,8 +1,8 @@
 -- To be believed: what each call gives (include/sendoshi.h), over the answers of the functions called: its number, and each buffer that it
 -- is lent to fill, afterwards.
 -- Assumes nothing.
-use Prim.Native.Nat.{ℕ}
-use mathlib.Core.List.{List}
+use Prim.Native.Nat.{ℕ, _≤_}
+use mathlib.Core.List.{List, [], _∷_}
 use Rattle.log.specs.Columns.{Columns}
 use Rattle.reader.specs.declared.Reading.{Reading}
 use Rattle.reader.specs.declared.HistoryRead.{HistoryRead}
@@ -13,9 +13,13 @@ use Rattle.scan.specs.Answer.{scanAnswer, said as scanSaid}
 use Rattle.marking.specs.Answer.{verdictAnswer, said as checkSaid}
 use Rattle.straighten.specs.Answer.{Given as Straight, straightenedAnswer, said as straightSaid}
 use Rattle.counts.specs.Answer.{transactionsAnswer, storeReadsAnswer, tallyAnswer, countSaid, tallySaid}
-use Rattle.codes.specs.Codes.{coded}
+use Rattle.notes.specs.declared.Note.{Note}
+use Rattle.notes.specs.declared.NextNote.{NextNote}
+use Rattle.notes.specs.Notes.{nextNote, said as noteSaid}
+use Rattle.codes.specs.Codes.{most, coded}
 
--- A call that is lent start values and columns to fill, one that is lent an output, and one that is lent an output and a list.
+-- A call that is lent start values and columns to fill, one that is lent an output, one that is lent an output and a list, and one that is
+-- lent the three numbers of a note.
 pub record FilledHistory : Type 0 where
   pub number : ℕ
   pub starts : List ℕ
@@ -39,6 +43,13 @@ pub record FilledBoth : Type 0 where
 abbrev pub putBoth : ℕ → List ℕ → List ℕ → FilledBoth
 putBoth n o l = record { number = n; output = o; list = l }
 
+pub record FilledNote : Type 0 where
+  pub number : ℕ
+  pub note : List ℕ
+
+abbrev pub told : ℕ → List ℕ → FilledNote
+told n l = record { number = n; note = l }
+
 -- the lent start values afterwards: those of the history that was read, and on a refusal what they were
 abbrev pub startsBy : Reading → List ℕ → List ℕ → List ℕ
 startsBy (Reading.Read n) read lent = read
@@ -46,6 +57,12 @@ startsBy (Reading.Refused r) read lent = lent
 
 unfoldable pub startsAfter : HistoryRead → List ℕ → List ℕ
 startsAfter a lent = startsBy (a .reading) (a .starts) lent
+
+-- the three lent numbers afterwards: how many events are before the note, where its bytes begin and how many they are; where there is none
+-- what they were
+unfoldable pub noteAfter : NextNote → List ℕ → List ℕ
+noteAfter (NextNote.Next x) lent = x .events ∷ x .start ∷ x .size ∷ []
+noteAfter NextNote.None lent = lent
 
 abbrev pub readFilled : List ℕ → ReadAnswer → FilledHistory
 readFilled lent a = filled (coded (readSaid (a .result))) (startsAfter (a .result) lent) (a .columns)
@@ -58,6 +75,9 @@ foundFilled a = put (coded (foundSaid (a .result))) (a .output)
 
 abbrev pub straightenFilled : Straight → FilledBoth
 straightenFilled a = putBoth (coded (straightSaid (a .result))) (a .output) (a .list)
+
+abbrev pub noteFilled : List ℕ → NextNote → FilledNote
+noteFilled lent a = told (coded (noteSaid a)) (noteAfter a lent)
 
 unfoldable pub readCall : List ℕ → List ℕ → Columns → FilledHistory
 readCall file starts c = readFilled starts (readAnswer file c)
@@ -85,3 +105,17 @@ storeReadsCall edition starts c count = coded (countSaid (storeReadsAnswer editi
 
 unfoldable pub tallyCall : ℕ → List ℕ → Columns → ℕ → ℕ
 tallyCall edition starts c count = coded (tallySaid (tallyAnswer edition starts c count))
+
+unfoldable pub nextNoteCall : List ℕ → ℕ → List ℕ → FilledNote
+nextNoteCall file from lent = noteFilled lent (nextNote file from)
+
+-- ---- what is known of a note before it is told: each of its numbers has 32 bits
+
+pub record NoteFits (x : Note) : Type 0 where
+  pub events : x .events ≤ most
+  pub start : x .start ≤ most
+  pub size : x .size ≤ most
+
+abbrev pub AnswerFits : NextNote → Type 0
+AnswerFits (NextNote.Next x) = NoteFits x
+AnswerFits NextNote.None = Unit {0}

@@ -3,7 +3,8 @@
 // every case of the answer, and every lent buffer afterwards, by one equation over specs/Calls; and that
 // the number, taken apart as the header says, is what the answer says.
 // Assumed of the caller, since no function can test it: each slice is a pointer that is good for its
-// length, nothing else refers to what is written, and start values are a pointer to 32 numbers.
+// length, nothing else refers to what is written, start values are a pointer to 32 numbers and a note is one
+// to 3.
 ghost use mathlib.Core.Path.{_≡_};
 ghost use Rattle.log.specs.Columns.{columns};
 ghost use Rattle.reader.specs.Reading.{readAnswer, said as readSaid};
@@ -13,6 +14,7 @@ ghost use Rattle.scan.specs.Answer.{scanAnswer, said as scanSaid};
 ghost use Rattle.marking.specs.Answer.{verdictAnswer, said as checkSaid};
 ghost use Rattle.straighten.specs.Answer.{straightenedAnswer, said as straightSaid};
 ghost use Rattle.counts.specs.Answer.{transactionsAnswer, storeReadsAnswer, tallyAnswer, countSaid, tallySaid};
+ghost use Rattle.notes.specs.Notes.{nextNote, said as noteSaid};
 ghost use Rattle.codes.specs.Decoded.{decoded, noValue, oneValue, twoValues, fourValues, always, never, ofMarking};
 ghost use Rattle.sendoshi.specs.Calls.{
   filled,
@@ -28,15 +30,21 @@ ghost use Rattle.sendoshi.specs.Calls.{
   transactionsCall,
   storeReadsCall,
   tallyCall,
+  told,
+  noteAfter,
+  nextNoteCall,
+  AnswerFits,
 };
 use codes::check_code;
 use codes::count_code;
 use codes::found_code;
+use codes::note_code;
 use codes::read_code;
 use codes::scan_code;
 use codes::straighten_code;
 use codes::tally_code;
 use codes::written_code;
+use notes::NextNote;
 use reader::HistoryRead;
 use reader::Reading;
 
@@ -49,6 +57,16 @@ fn hand_over(answer: HistoryRead, starts: &mut [u32; 32])
     if let Reading::Read(_) = reading {
         let from = answer.starts;
         *starts = from;
+    }
+}
+
+// Hands over the three numbers of a note; where there is none the lent ones stay as they are.
+fn tell_note(answer: NextNote, note: &mut [u32; 3])
+    requires { ⌜ AnswerFits answer ⌝ }
+    ensures { λ _. ⌜ now (note .exit) ≡ noteAfter answer (now (note .entry)) ⌝ }
+{
+    if let NextNote::Next(next) = answer {
+        *note = [next.events as u32, next.start as u32, next.size as u32];
     }
 }
 
@@ -353,4 +371,16 @@ pub extern "C" fn sendoshi_tally(
         count as usize,
     );
     tally_code(answer)
+}
+
+// Finds the first note of a history's file whose record begins at the byte `from` or behind it, and tells how
+// many events are before it, where its bytes begin and how many they are; or there is none.
+#[no_mangle]
+pub extern "C" fn sendoshi_next_note(file: &[u8], from: u32, note: &mut [u32; 3]) -> u64
+    ensures { λ r. ⌜ told r (now (note .exit)) ≡ nextNoteCall (now (file .entry)) from (now (note .entry)) ⌝ }
+    ensures { λ r. ⌜ decoded noValue never r ≡ noteSaid (nextNote (now (file .entry)) from) ⌝ }
+{
+    let answer = notes::next_note(file, from as usize);
+    tell_note(answer, note);
+    note_code(answer)
 }
