@@ -22,11 +22,13 @@ use Rattle.opacity.specs.Marking.{Marking, marked, markingBytes, ruleNumber}
 use Rattle.opacity.specs.Scan.{AllJustified, FaultsAt}
 use Rattle.opacity.specs.Verdicts.{AllHold}
 use Rattle.reader.specs.declared.Reading.the-variants.{Read}
-use Rattle.reader.specs.Reading.{TooShort, historyOf, refused, eventsIn, historyRead, readAnswer, said as readSaid}
-use Rattle.notes.specs.Without.{withoutNotes}
+use Rattle.reader.specs.Reading.{Log, TooShort, historyOf, readable, refused, eventsIn, historyRead, readAnswer, said as readSaid}
+use Rattle.notes.specs.Without.{withoutNotes, shortNotes}
 use Rattle.writer.specs.declared.Writing.the-variants.{Written}
 use Rattle.writer.specs.Writing.{SameEntries, fileOf, answered, writtenAnswer, said as writtenSaid}
 use Rattle.reader.proofs.SaidLaws as reader
+use Rattle.notes.proofs.Theorems as notes
+use Rattle.writer.proofs.NoNotes as bare
 use Rattle.writer.proofs.RoundTrip as round
 use Rattle.writer.proofs.SaidLaws as writer
 use Rattle.finder.specs.Answer.{findRefusal, foundAnswer, said as foundSaid}
@@ -112,6 +114,15 @@ pub write-what-was-read : (s : List ℕ) (c : Columns) (n : ℕ) (out : List ℕ
     → writtenAnswer (readAnswer s c .result .edition) (readAnswer s c .result .starts) (readAnswer s c .columns) n out
     ≡ answered (Written (length (withoutNotes s))) (over (withoutNotes s) out)
 write-what-was-read = round.written-read
+
+-- (a file is read exactly if it is not too long, no note is, and the same file without notes is read; and it is read as that one)
+pub notes-passed-over : (s : List ℕ) (l : Log) → (historyOf s ≡ readable l) ↔ ((length s ≤ 32768) × (shortNotes s ≡ true) × (historyOf (withoutNotes s) ≡ readable l))
+notes-passed-over = notes.readable-exactly
+
+pub no-note-written : (edition : ℕ) (starts : List ℕ) (c : Columns) (n : ℕ) (out : List ℕ) (len : ℕ) → FittingStarts starts → Fitting c
+    → writtenAnswer edition starts c n out .result ≡ Written len
+    → withoutNotes (take len (writtenAnswer edition starts c n out .output)) ≡ take len (writtenAnswer edition starts c n out .output)
+no-note-written = bare.writes-no-notes
 
 module _ (edition : ℕ) (starts : List ℕ) (c : Columns) (n : ℕ) (file : List ℕ) where
   -- "The checker accepts a readable marking exactly when the five rules hold,"
