@@ -2,6 +2,7 @@ pub mod EventLaws
 pub mod QuestionLaws
 pub mod KindLaws
 pub mod BodyLaws
+pub mod FieldLaws
 pub mod StateLaws
 pub mod ReadableLaws
 pub mod AskedLaws

@@ -1,6 +1,5 @@
 pub mod StartLaws
 pub mod FileLaws
-pub mod FieldLaws
 pub mod ReadBack
 pub mod WriteBack
 pub mod RoundTrip
