@@ -35,7 +35,8 @@ module _ (edition : ℕ) (starts : List ℕ) (c : Columns) (count : ℕ) where
           let j : r .at ≡ e = cc in
           w ∙ (λ y. Refuses (refuse (i y) (j y)))
 
-  pub transactions-exactly : (n : ℕ) → (countSaid (transactionsAnswer edition starts c count) ≡ done (n ∷ [])) ↔ ((historyAnswer edition starts c count ≡ Readable) × (counts (history c count) .transactions ≡ n))
+  pub transactions-exactly : (n : ℕ) → (countSaid (transactionsAnswer edition starts c count) ≡ done (n ∷ []))
+      ↔ ((historyAnswer edition starts c count ≡ Readable) × (counts (history c count) .transactions ≡ n))
   unfolding transactionsAnswer
   transactions-exactly n = count-exactly _ n
 
@@ -43,7 +44,8 @@ module _ (edition : ℕ) (starts : List ℕ) (c : Columns) (count : ℕ) where
   unfolding transactionsAnswer
   transactions-refused q e = count-refused _ q e
 
-  pub store-reads-exactly : (n : ℕ) → (countSaid (storeReadsAnswer edition starts c count) ≡ done (n ∷ [])) ↔ ((historyAnswer edition starts c count ≡ Readable) × (counts (history c count) .reads ≡ n))
+  pub store-reads-exactly : (n : ℕ) → (countSaid (storeReadsAnswer edition starts c count) ≡ done (n ∷ []))
+      ↔ ((historyAnswer edition starts c count ≡ Readable) × (counts (history c count) .reads ≡ n))
   unfolding storeReadsAnswer
   store-reads-exactly n = count-exactly _ n
 
@@ -59,7 +61,8 @@ module _ (edition : ℕ) (starts : List ℕ) (c : Columns) (count : ℕ) where
       four : Tally → Said
       four y = done (y .committed ∷ y .aborted ∷ y .pending ∷ y .live ∷ [])
 
-      go : (v : Checked) → historyAnswer edition starts c count ≡ v → tallySaid (tallied v (tally (history c count))) ≡ four x → (historyAnswer edition starts c count ≡ Readable) × (tally (history c count) ≡ x)
+      go : (v : Checked) → historyAnswer edition starts c count ≡ v → tallySaid (tallied v (tally (history c count))) ≡ four x
+          → (historyAnswer edition starts c count ≡ Readable) × (tally (history c count) ≡ x)
       go Readable w k =
           let h = tally (history c count) in
           let i : h .committed ≡ x .committed = cc in

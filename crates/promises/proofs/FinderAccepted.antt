@@ -32,7 +32,13 @@ found-accepted edition starts c count prefix output n x =
     let p : Passed edition starts c count prefix (length output) = passed edition starts c count prefix (length output) (w .passes) in
     let k : Held c count = hold-e c count (p .held) in
     let i : prefix ≤ count = p .inside in
-    let held : Held c prefix = record { kinds = omega (arith, k .kinds); transactions = omega (arith, k .transactions); registers = omega (arith, k .registers); values = omega (arith, k .values); threads = omega (arith, k .threads) } in
+    let held : Held c prefix = record {
+      kinds = omega (arith, k .kinds);
+      transactions = omega (arith, k .transactions);
+      registers = omega (arith, k .registers);
+      values = omega (arith, k .values);
+      threads = omega (arith, k .threads);
+    } in
     let fine : historyAnswer edition starts c prefix ≡ Readable =
     fine-answer edition starts c prefix (p .admitted) (readable-columns edition c prefix held (readable-fewer edition c count prefix i (p .readable))) in
     let e : take prefix (history c count) ≡ history c prefix = history-take c count prefix i in

@@ -19,8 +19,8 @@ pub fn spill(
 ) -> bool
     ensures { λ r. ⌜ r ≡ hold (columns (now (kinds .entry)) (now (transactions .entry)) (now (registers .entry)) (now (values .entry))
         (now (threads .entry))) (length (now (log .entry))) ⌝ }
-    ensures { λ _. ⌜ columns (now (kinds .exit)) (now (transactions .exit)) (now (registers .exit)) (now (values .exit)) (now (threads .exit))
-        ≡ spilled (logged (now (log .entry)))
+    ensures { λ _. ⌜ columns (now (kinds .exit)) (now (transactions .exit)) (now (registers .exit)) (now (values .exit))
+        (now (threads .exit)) ≡ spilled (logged (now (log .entry)))
         (columns (now (kinds .entry)) (now (transactions .entry)) (now (registers .entry)) (now (values .entry))
         (now (threads .entry))) ⌝ }
 {

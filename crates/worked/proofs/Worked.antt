@@ -3,7 +3,8 @@
 use mathlib.Core.Path.{_≡_, refl}
 use mathlib.Core.Bool.{true}
 use Rattle.lists.specs.Lists.{_and_, _or_, _implies_, any, all, keep, latest, every, lowest, first, last, range}
-use Rattle.events.specs.Events.{isKnown, isLone, isBegin, answersRead, isRead, isWrite, isCall, namesRegister, asksCommit, isCommit, isAbort, isEnd, by, has, begins, ended, lastOf, pendingCall, pendingOf, latestOn}
+use Rattle.events.specs.Events.{isKnown, isLone, isBegin, answersRead, isRead, isWrite, isCall, namesRegister, asksCommit, isCommit, isAbort, isEnd}
+use Rattle.events.specs.Events.{by, has, begins, ended, lastOf, pendingCall, pendingOf, latestOn}
 use Rattle.events.specs.Questions.{refusal, threadFree, due, registerDue, fieldsDue, eventQuestions, columnQuestions, refusedAt}
 use Rattle.log.specs.Answer.{eventsAnswer, historyAnswer}
 use Rattle.log.specs.Answer.{said}
