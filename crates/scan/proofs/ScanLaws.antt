@@ -14,7 +14,8 @@ use lib.Dec.{eqb}
 use borrow.Author.Tests.{ne-eqb}
 use Rattle.lists.specs.Lists.{isNone, first, keep}
 use Rattle.events.specs.declared.event.Event.{Event}
-use Rattle.events.specs.Events.{begins, isBegin, eventAt}
+use Rattle.events.specs.Events.{begins, isBegin, isQuiet, eventAt}
+use Rattle.events.proofs.KindLaws.{quiet}
 use Rattle.log.specs.Starts.{startOf}
 use Rattle.opacity.specs.Justification.{Justified}
 use Rattle.opacity.specs.Lowest.{lowestOf}
@@ -28,12 +29,12 @@ use Rattle.places.specs.Places.{codesOf, decode}
 use Rattle.places.specs.Tree.{EndAsks, firstWhole, readAnswer}
 use Rattle.tables.specs.Tables.{Tables, empty, goThrough, next, tablesOf}
 use Rattle.lowest.specs.Order.{constraintsOf, decoded, Judged}
-use Rattle.tables.proofs.TableLaws.{tables-more}
+use Rattle.tables.proofs.TableLaws.{tables-more, quiet-stays}
 use Rattle.lowest.proofs.EndMeaning.{asks-by}
 use Rattle.lowest.proofs.Link.{found-by}
 use Rattle.lowest.proofs.JudgedLaws.{judged-prefix}
 use Rattle.witness.specs.Witness.{kept, Carryable, Judges}
-use Rattle.witness.proofs.WitnessLaws.{begins-more, carryable, carried-on, room-on}
+use Rattle.witness.proofs.WitnessLaws.{begins-more, carryable, kept-other, judged-kept, carried-on, room-on}
 
 -- the first that passes, where none before does
 first-at : (p : ℕ → Bool) (n k : ℕ) → k < n → p k ≡ true → ((j : ℕ) → j < k → p j ≡ false) → first p n ≡ some k
@@ -55,6 +56,7 @@ pub record Scanning (o : List ℕ) (h : List Event) (i : ℕ) (s : Tables) (begu
   pub passed : i ≤ length h
   pub tables : s ≡ tablesOf (take i h)
   pub count : begun ≡ begins (take i h)
+  pub present : order ≡ 0 → ⊥
   pub room : order < 2 ^ (begun * 5 + 1)
   pub witness : Justified (startOf o) (take i h) (decode (codesOf begun order))
   pub fine : (k : ℕ) → k < i → isNone (lowestOf (startOf o) (take (suc k) h)) ≡ false
@@ -63,7 +65,7 @@ module _ (o : List ℕ) (h : List Event) where
   pub scanning-none : (s : Tables) → s ≡ empty → Scanning o h 0 s 0 1
   unfolding tablesOf goThrough begins keep codesOf decode
   scanning-none s e =
-      record { passed = omega arith; tables = e; count = refl; room = omega arith; witness = empty-justified (startOf o); fine = λ k l. absurd (omega arith) }
+      record { passed = omega arith; tables = e; count = refl; present = λ z. omega arith; room = omega arith; witness = empty-justified (startOf o); fine = λ k l. absurd (omega arith) }
 
   module _ (j : Judged h) (i : ℕ) (l : i < length h) (e : Event) (same : e ≡ eventAt h i) (s : Tables) (begun order : ℕ) (p : Scanning o h i s begun order) where
     pub few-before : begun ≤ 10
@@ -126,6 +128,7 @@ module _ (o : List ℕ) (h : List Event) where
               passed = omega arith;
               tables = its-tables;
               count = its-count;
+              present = f;
               room = w .1;
               witness = w .0;
               fine = λ k m. ⊎-elim (λ q. rw q here) (λ q. p .fine k q) (below-cases (rw add-one at m));
@@ -147,6 +150,14 @@ module _ (o : List ℕ) (h : List Event) where
             let f : first (λ k. isNone (lowestOf (startOf o) (take (suc k) h))) (length h) ≡ some i =
             first-at _ (length h) i l (none-here z) (p .fine) in
             rw (f, same)
+
+    -- a quiet event leaves the tables, the count and the order
+    pub scanning-quiet : isQuiet e ≡ true → Scanning o h (i + 1) s begun order
+    scanning-quiet t =
+        let q = quiet e t in
+        let counts : begun ≡ cond (isBegin e) (begun + 1) begun = rw (q .begins) in
+        scanning-more s begun (sym (quiet-stays s e t)) counts order order (kept-other o (s .facts) begun order e (q .begins) (q .reads) (q .ends))
+        (judged-kept order begun order _ (p .present) refl) (p .present)
 
   pub scanning-end : (i : ℕ) (s : Tables) (begun order : ℕ) → length h ≤ i → Scanning o h i s begun order → Opaque ≡ scan (startOf o) h
   unfolding scan

@@ -15,6 +15,7 @@ use events::event::Event;
 use events::event::is_abort;
 use events::event::is_begin;
 use events::event::is_commit;
+use events::event::is_quiet;
 use events::event::is_read;
 use events::refusal::Refusal;
 use events::state::begun_after;
@@ -66,7 +67,7 @@ fn faulted(event: usize, e: Event) -> Scanned
 
 // The prefixes of a log of at most ten transactions, by rising length: the facts grow by one event each time, and n counts the
 // transactions begun. The order that justifies a prefix is kept for the next where it justifies that too; only where it does not is an
-// order searched for anew.
+// order searched for anew. A quiet event asks nothing of the order and changes none of these.
 fn scan_prefixes(starts: &[u32; 32], log: &[Row]) -> Scanned
     requires { ⌜ Judged (logged (now log)) ⌝ }
     ensures { λ r. ⌜ r ≡ scan (startOf (now (starts .entry))) (logged (now (log .entry))) ⌝ }
@@ -78,6 +79,11 @@ fn scan_prefixes(starts: &[u32; 32], log: &[Row]) -> Scanned
     let mut i: usize = 0;
     while i < log.len() {
         let e = event_at(log, i);
+        let next = i + 1;
+        if is_quiet(e) {
+            i = next;
+            continue;
+        }
         let kept = witness::carry(starts, &facts, order, n, e);
         s = s.step(&mut facts, e);
         n = begun_after(n, e);
@@ -88,7 +94,7 @@ fn scan_prefixes(starts: &[u32; 32], log: &[Row]) -> Scanned
         if order == 0 {
             return faulted(i, e);
         }
-        i += 1;
+        i = next;
     }
     Scanned::Opaque
 }

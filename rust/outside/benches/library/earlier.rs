@@ -1,5 +1,5 @@
-//! The scan and the finder beside those of an earlier version in the same run: version 2 or 3 of the header, which had four columns.
-//! SENDOSHI_EARLIER names its static library (of version 2: libexports.a) made into a shared one:
+//! The scan and the finder beside those of an earlier version in the same run: version 2 or 3 of the header, which had four columns, or
+//! a later one. SENDOSHI_EARLIER names its static library (of version 2: libexports.a) made into a shared one:
 //! `cc -shared -o earlier.so -Wl,--whole-archive ARCHIVE -Wl,--no-whole-archive`. What it is put is all of edition 1.
 
 use crate::growth::captures;
@@ -22,52 +22,39 @@ const RTLD_NOW: c_int = 2;
 
 type Slice<T> = (*const T, usize);
 
-/// The four columns that an earlier version takes.
+/// The columns that an earlier version takes.
 #[derive(Clone, Copy)]
-pub struct FourColumns<'a> {
+pub struct EarlierColumns<'a> {
     pub kinds: &'a [u16],
     pub transactions: &'a [u16],
-    /// A begin's is its thread.
+    /// Where there are no threads, a begin's is its thread.
     pub registers: &'a [u16],
     pub values: &'a [u32],
+    pub threads: Option<&'a [u16]>,
 }
 
-/// The two calls, as version 2 of the header declares them. Those of version 3 have counts of 32 bits, and find them in the lower halves
-/// of these: on x86-64, for which alone the library is made, every number is passed in 64 bits.
-type Scan = unsafe extern "C" fn(
-    u16,
-    *const [u32; 32],
-    *const u16,
-    usize,
-    *const u16,
-    usize,
-    *const u16,
-    usize,
-    *const u32,
-    usize,
-    usize,
-) -> u64;
-type Find = unsafe extern "C" fn(
-    u16,
-    *const [u32; 32],
-    *const u16,
-    usize,
-    *const u16,
-    usize,
-    *const u16,
-    usize,
-    *const u32,
-    usize,
-    usize,
-    usize,
-    *mut u8,
-    usize,
-) -> u64;
+/// The start of both calls: edition, start values and four columns, each with its length. Where a call goes on, counts of 32 bits are
+/// found in the lower halves of those of 64: on x86-64, for which alone the library is made, every number is passed in 64 bits.
+macro_rules! call {
+    ($($more:ty),*) => {
+        unsafe extern "C" fn(
+            u16, *const [u32; 32], *const u16, usize, *const u16, usize, *const u16, usize, *const u32, usize, $($more),*
+        ) -> u64
+    };
+}
+
+/// The two calls, as versions 2 and 3 declare them, and with the column of threads, as version 4 does.
+type Scan = call!(usize);
+type ScanThreads = call!(*const u16, usize, usize);
+type Find = call!(usize, usize, *mut u8, usize);
+type FindThreads = call!(*const u16, usize, usize, usize, *mut u8, usize);
 
 /// An earlier version of the library.
 pub struct Earlier {
-    scan: Scan,
-    find: Find,
+    scan: *mut c_void,
+    find: *mut c_void,
+    /// Does it take the threads as a column?
+    pub threads: bool,
 }
 
 impl Earlier {
@@ -76,28 +63,47 @@ impl Earlier {
         // SAFETY: the path ends with a zero byte; loading the library runs no code of its own.
         let library = unsafe { dlopen(path.as_ptr(), RTLD_NOW) };
         assert!(!library.is_null(), "{path:?} is no shared library");
-        // SAFETY: these are the functions of these names in version 2 or 3 of the header, whose types stand above.
-        unsafe {
-            Earlier { scan: transmute(symbol(library, c"sendoshi_scan")), find: transmute(symbol(library, c"sendoshi_find")) }
-        }
+        // SAFETY: the library is the one just loaded.
+        let [scan, find] = [c"sendoshi_scan", c"sendoshi_find"].map(|name| unsafe { symbol(library, name) });
+        let mut earlier = Earlier { scan, find, threads: true };
+        // No events in five columns. A version that has four takes the address of the fifth for the count, and refuses columns that
+        // are shorter: it has then read nothing in them.
+        let none = EarlierColumns { kinds: &[], transactions: &[], registers: &[], values: &[], threads: Some(&[]) };
+        earlier.threads = earlier.scan(Store { edition: 1, starts: &[0; 32] }, none, 0).code == 0;
+        earlier
     }
 
-    pub fn scan(&self, store: Store, c: FourColumns, count: usize) -> Answer {
+    pub fn scan(&self, store: Store, c: EarlierColumns, count: usize) -> Answer {
         let [(k, kn), (t, tn), (r, rn)] = [c.kinds, c.transactions, c.registers].map(parts);
         let (v, vn) = parts(c.values);
-        // SAFETY: pointers and lengths are those of slices that live through the call.
-        Answer::of(unsafe { (self.scan)(store.edition, store.starts, k, kn, t, tn, r, rn, v, vn, count) })
+        let (edition, starts) = (store.edition, store.starts);
+        // SAFETY: pointers and lengths are those of slices that live through the call, and the function has this type where the library
+        // takes the threads so.
+        Answer::of(unsafe {
+            if let Some((h, hn)) = c.threads.map(parts) {
+                transmute::<*mut c_void, ScanThreads>(self.scan)(edition, starts, k, kn, t, tn, r, rn, v, vn, h, hn, count)
+            } else {
+                transmute::<*mut c_void, Scan>(self.scan)(edition, starts, k, kn, t, tn, r, rn, v, vn, count)
+            }
+        })
     }
 
     /// The finder on all of them.
-    pub fn find(&self, store: Store, c: FourColumns, count: usize, output: &mut [u8]) -> Answer {
+    pub fn find(&self, store: Store, c: EarlierColumns, count: usize, output: &mut [u8]) -> Answer {
         let [(k, kn), (t, tn), (r, rn)] = [c.kinds, c.transactions, c.registers].map(parts);
-        let ((v, vn), length) = (parts(c.values), output.len());
+        let (v, vn) = parts(c.values);
+        let (edition, starts) = (store.edition, store.starts);
+        let (o, on) = (output.as_mut_ptr(), output.len());
         // SAFETY: as above, and the output is borrowed for this call alone.
-        let answer = unsafe {
-            (self.find)(store.edition, store.starts, k, kn, t, tn, r, rn, v, vn, count, count, output.as_mut_ptr(), length)
-        };
-        Answer::of(answer)
+        Answer::of(unsafe {
+            if let Some((h, hn)) = c.threads.map(parts) {
+                transmute::<*mut c_void, FindThreads>(self.find)(
+                    edition, starts, k, kn, t, tn, r, rn, v, vn, h, hn, count, count, o, on,
+                )
+            } else {
+                transmute::<*mut c_void, Find>(self.find)(edition, starts, k, kn, t, tn, r, rn, v, vn, count, count, o, on)
+            }
+        })
     }
 }
 

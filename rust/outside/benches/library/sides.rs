@@ -1,6 +1,6 @@
 //! One capture with its buffers, and each job done by the library and by plain Rust.
 
-use crate::earlier::{Earlier, FourColumns};
+use crate::earlier::{Earlier, EarlierColumns};
 use crate::measure::{measure, Measured};
 use outside::lent::lent_count;
 use outside::views::{find_answer, scan_answer};
@@ -17,7 +17,7 @@ pub struct Capture {
     pub file: Vec<u8>,
     held_store: HeldStore,
     held: Held,
-    /// The registers as an earlier version takes them.
+    /// The registers as an earlier version of four columns takes them.
     earlier_registers: Vec<u16>,
     count: usize,
     output: Vec<u8>,
@@ -65,9 +65,12 @@ impl Capture {
         plain::Columns { kinds, transactions, registers, values, threads }
     }
 
-    fn earlier(&self) -> FourColumns<'_> {
-        let Held { kinds, transactions, values, .. } = &self.held;
-        FourColumns { kinds, transactions, registers: &self.earlier_registers, values }
+    fn earlier(&self, earlier: &Earlier) -> EarlierColumns<'_> {
+        let Held { kinds, transactions, registers, values, threads } = &self.held;
+        if earlier.threads {
+            return EarlierColumns { kinds, transactions, registers, values, threads: Some(threads) };
+        }
+        EarlierColumns { kinds, transactions, registers: &self.earlier_registers, values, threads: None }
     }
 
     pub fn read(&self) -> Measured {
@@ -140,7 +143,7 @@ impl Capture {
 
     /// The scan by the library and by an earlier version of it.
     pub fn scan_beside(&self, earlier: &Earlier) -> Measured {
-        self.scan_with(|| earlier.scan(self.store(), black_box(self.earlier()), self.count))
+        self.scan_with(|| earlier.scan(self.store(), black_box(self.earlier(earlier)), self.count))
     }
 
     fn scan_with(&self, other: impl Fn() -> Answer) -> Measured {
@@ -179,7 +182,7 @@ impl Capture {
 
     /// The finder by the library and by an earlier version of it.
     pub fn find_beside(&self, earlier: &Earlier) -> Measured {
-        self.find_with(|output| earlier.find(self.store(), black_box(self.earlier()), self.count, output))
+        self.find_with(|output| earlier.find(self.store(), black_box(self.earlier(earlier)), self.count, output))
     }
 
     fn find_with(&self, other: impl Fn(&mut [u8]) -> Answer) -> Measured {
@@ -242,7 +245,7 @@ pub fn scan_all(captures: &[Capture]) -> Measured {
 
 /// The same beside an earlier version.
 pub fn scan_all_beside(captures: &[Capture], earlier: &Earlier) -> Measured {
-    all_with(captures, |c| earlier.scan(c.store(), black_box(c.earlier()), c.count).code == 0)
+    all_with(captures, |c| earlier.scan(c.store(), black_box(c.earlier(earlier)), c.count).code == 0)
 }
 
 fn all_with(captures: &[Capture], is_opaque: impl Fn(&Capture) -> bool) -> Measured {

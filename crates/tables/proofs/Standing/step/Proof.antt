@@ -1,35 +1,15 @@
--- `tables::Standing::step` meets its contract: each column by itself. Assumes nothing.
-use mathlib.Core.Path.{ap, _∙_}
-use Prim.Native.Nat.{ℕ}
-use mathlib.Core.Bool.{Bool}
-use mathlib.Core.List.{List}
-use Rattle.tables.specs.Tables.{joined, afterWith, allowedWith, next}
+-- `tables::Standing::step` meets its contract: a quiet event leaves the tables. Assumes nothing.
+use mathlib.Core.Path.{sym, _∙_}
 use borrow.Author.Needs.{needs}
+use Rattle.tables.proofs.TableLaws.{quiet-stays}
 use Rattle.tables.proofs.Standing.step.Statement.{statement}
 use Rattle.tables.proofs.Standing.step.Tie as tie
 
--- where the outcome is noted, and before it the begin
-abbrev outcome-noted : tie.After-join2 → tie.After-note-outcome
-outcome-noted a = a .before .before .before
-
-abbrev begun : tie.After-join2 → tie.After-note-begin
-begun a = outcome-noted a .before .before
-
 returns : tie.Need-returns
-unfolding next
-returns c =
-    let access = begun c .before .before in
-    let a = access .before .before .args in
-    λ i. record {
-      ended = (c .before .join .ensures ∙ ap (λ (b : Bool). joined (a .self .ended) b (a .e .transaction)) (c .before .before .is-end .ensures)) i;
-      facts = (outcome-noted c .note-outcome .ensures
-          ∙ ap (λ (f : List (List ℕ)). allowedWith f (a .e)) (begun c .note-begin .ensures
-          ∙ ap (λ (f : List (List ℕ)). afterWith (a .self .ended) f (a .e)) (access .note-access .ensures .1))) i;
-      contradictory = (c .join2 .ensures ∙ ap (λ (b : Bool). joined (a .self .contradictory) b (a .e .transaction)) (access .note-access .ensures .0)) i;
-    }
+returns c = sym (quiet-stays _ (c .before .before .args .e) (sym (c .before .is-quiet .ensures) ∙ c .if1 .taken))
+
+returns-2 : tie.Need-returns-2
+returns-2 c = search needs
 
 pub step-spec : {M : Type 1} → statement M
-step-spec =
-    tie.close
-    (tie.spec (λ c κs. search needs) (λ c κs. search needs) (λ c κs. search needs) (λ c κs. search needs)
-    (λ c κs. search needs) (λ c κs. search needs) returns)
+step-spec = tie.close (tie.spec (λ c κs. search needs) returns (λ c κs. search needs) returns-2)
