@@ -76,7 +76,8 @@ module _ (edition : ℕ) (starts : List ℕ) (c : Columns) (count : ℕ) where
   unfolding tallyAnswer tallySaid
   tally-refused q e = (go (historyAnswer edition starts c count) refl, λ w. rw w)
     where
-      go : (v : Checked) → historyAnswer edition starts c count ≡ v → tallySaid (tallied v (tally (history c count))) ≡ atEvent q e → historyAnswer edition starts c count ≡ Refuses (refuse q e)
+      go : (v : Checked) → historyAnswer edition starts c count ≡ v → tallySaid (tallied v (tally (history c count))) ≡ atEvent q e
+          → historyAnswer edition starts c count ≡ Refuses (refuse q e)
       go Readable w x = absurd (let z : _≡_ {A = ℕ} 0 1 = cc in omega arith)
       go (Refuses r) w x =
           let i : r .question ≡ q = cc in

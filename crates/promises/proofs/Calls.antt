@@ -272,7 +272,7 @@ module _ (file : List ℕ) (from : ℕ) (lent : List ℕ) where
 
   -- where it is done, the three numbers are those of the next note, which stands in the file
   pub next-note-tells : decoded noValue never (nextNoteCall file from lent .number) ≡ done []
-      → (x : Note) × IsNext file from x × Stands file x × (nextNoteCall file from lent .note ≡ x .events ∷ x .start ∷ x .size ∷ [])
+      → (x : Note) × IsNext from (notesOf file) x × Stands file x × (nextNoteCall file from lent .note ≡ x .events ∷ x .start ∷ x .size ∷ [])
   unfolding nextNoteCall noteAfter
   next-note-tells told =
       let a = said-next (nextNote file from) (sym next-note-says ∙ told) in
