@@ -11,8 +11,8 @@
 
 #include "sendoshi.h"
 
-#if SENDOSHI_VERSION != 6
-#error "written for version 6 of the interface"
+#if SENDOSHI_VERSION != 5
+#error "written for version 5 of the interface"
 #endif
 
 /* One byte more than is ever read: a longer file is then refused for its length, however long it is. */

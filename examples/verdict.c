@@ -17,8 +17,8 @@
 
 #include "sendoshi.h"
 
-#if SENDOSHI_VERSION != 6
-#error "written for version 6 of the interface"
+#if SENDOSHI_VERSION != 5
+#error "written for version 5 of the interface"
 #endif
 
 /* One byte more than is ever read: a longer file is then refused for its length, however long it is. */
@@ -91,7 +91,7 @@ static void print_opaque(uint64_t answer)
     uint32_t code = sendoshi_code(answer);
     if (code == SENDOSHI_DONE) {
         printf("opaque yes\n");
-    } else if (code >= SENDOSHI_FAULT_READ && code <= SENDOSHI_FAULT_ABORTED) {
+    } else if (code >= SENDOSHI_FAULT_READ && code <= SENDOSHI_FAULT_OTHER) {
         printf("opaque no event %" PRIu32 " cause %" PRIu32 "\n", sendoshi_place(answer), code - SENDOSHI_NONE);
     } else {
         printf("opaque refused %" PRIu32 "\n", code);

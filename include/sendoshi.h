@@ -44,8 +44,7 @@
  *     of start values it sets all 32, of a note all three;
  *   - neither what stands in columns past the count, nor what a written buffer held before, makes a difference to an answer.
  *
- * Versions of this interface. A program written for one must be changed for the next, but for one of version 4, which goes on with 5, and
- * one of version 5 that does not name SENDOSHI_FAULT_OTHER, which goes on with 6:
+ * Versions of this interface. A program written for one must be changed for the next, but for one of version 4, which goes on with 5:
  *
  *   1   the first, in which every register started at 0; its header named no version.
  *   2   start values. sendoshi_read has a new third parameter, the start values that it fills, and its place is no longer the event
@@ -62,14 +61,11 @@
  *   5   notes. sendoshi_read reads files with records of kind 48 behind the head, which it refused by 4, as the same files without
  *       them; 44 is new. sendoshi_next_note is a new call. Nothing else has changed: no other file is answered in another way, and no
  *       call has other parameters. To go on as before: refuse files in which sendoshi_next_note finds a note.
- *   6   three causes. SENDOSHI_FAULT_OTHER, 104, is gone: it stood for a begin, a call, a returned write or a lone write, and none of
- *       these can be the first event to fault a history. Nothing else has changed: no call ever answered with 104. To go on as before:
- *       take out what was kept for it, and end a range of causes with SENDOSHI_FAULT_ABORTED.
  */
 #ifndef SENDOSHI_H
 #define SENDOSHI_H
 
-#define SENDOSHI_VERSION 6
+#define SENDOSHI_VERSION 5
 
 #include <stddef.h>
 #include <stdint.h>
@@ -109,7 +105,7 @@ enum {
  *   100         find: there is no               0
  *               justification; next_note:
  *               there is no further note
- *   101 to 103  scan: not opaque, cause 1 to 3  the last event of the first prefix without a justification
+ *   101 to 104  scan: not opaque, cause 1 to 4  the last event of the first prefix without a justification
  *   201 to 205  check, straighten: rule A to E  event * 65536 + transaction
  *               is broken (straighten: never D)
  *
@@ -169,10 +165,10 @@ enum {
 
     SENDOSHI_NONE = 100,
 
-    /* What the first event to fault a history is. It is proved that no other can be: no begin, no call, no returned or lone write. */
     SENDOSHI_FAULT_READ = 101,      /* cause 1: a read returned, or a lone read */
     SENDOSHI_FAULT_COMMITTED = 102, /* cause 2: a transaction committed */
     SENDOSHI_FAULT_ABORTED = 103,   /* cause 3: a transaction aborted */
+    SENDOSHI_FAULT_OTHER = 104,     /* cause 4: an event of another kind; proved never to come */
 
     SENDOSHI_RULE_A = 201, /* an outcome that the history does not allow; the lowest such transaction, its last event */
     SENDOSHI_RULE_B = 202, /* real time is not kept; the lowest transaction placed too early, its begin */
@@ -314,8 +310,7 @@ uint64_t sendoshi_find(uint16_t edition, const uint32_t starts[SENDOSHI_REGISTER
 
 /*
  * Judges the prefixes of the first `count` events by rising length. Done: opaque, every one has a justification. Else the last event
- * of the first that has none, and the cause: a read, returned or lone, a transaction committed, or one aborted. A prefix that ends with
- * an event of another kind has a justification if the one before it has.
+ * of the first that has none, and the cause.
  * Refuses: 17; 3; 4, 6 to 13 and 16 for each event in turn; 31.
  */
 uint64_t sendoshi_scan(uint16_t edition, const uint32_t starts[SENDOSHI_REGISTERS],

@@ -18,14 +18,13 @@ use Rattle.events.proofs.QuestionLaws.{readable-in}
 use Rattle.log.proofs.StartLaws.{no-starts}
 use Rattle.events.specs.Events.{begins}
 use Rattle.events.specs.Questions.{readable as IsReadable}
-use Rattle.opacity.specs.declared.verdict.Cause.{Cause}
 use Rattle.opacity.specs.declared.verdict.Scanned.{Scanned}
 use Rattle.opacity.specs.declared.verdict.Verdict.{Verdict}
 use Rattle.opacity.specs.Transactions.{Status, committed, aborted, pending, live, HasStatus}
 use Rattle.opacity.specs.Justification.{Justified}
 use Rattle.opacity.specs.declared.verdict.Rule.{Rule}
-use Rattle.opacity.specs.Marking.{Marking, verdict}
-use Rattle.opacity.specs.Verdicts.{RuleD}
+use Rattle.opacity.specs.Marking.{Marking, verdict, named_event, named_transaction}
+use Rattle.opacity.specs.Verdicts.{RuleD, FirstBroken}
 use Rattle.opacity.specs.Scan.{scan, AllJustified, FaultsAt}
 use Rattle.opacity.specs.Counts.{counts}
 use Rattle.opacity.proofs.Theorems.{opaque-iff, faulted-iff, accepted-iff-justified, broken-iff-first}
@@ -115,7 +114,7 @@ module _ (s : List ℕ) (by : Bytes s) (l : Log) (file : history_of s ≡ readab
       (λ e. ((w.0 e).0, o.0 (w.0 e).1), λ p. w.1 (p.0, o.1 p.1))
 
   -- "opaque no event e" exactly where the prefix that ends with e is the first without one,
-  pub says-faulted : (e : ℕ) (why : Cause) → (opacity_of start h ≡ Scanning.Scanned (Scanned.Faulted e why)) ↔ ((begins h ≤ 10) × FaultsAt start h e why)
+  pub says-faulted : (e why : ℕ) → (opacity_of start h ≡ Scanning.Scanned (Scanned.Faulted e why)) ↔ ((begins h ≤ 10) × FaultsAt start h e why)
   says-faulted e why =
       let w = scanned (Scanned.Faulted e why) in
       let o = faulted-iff start h is-readable e why in

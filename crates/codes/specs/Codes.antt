@@ -1,5 +1,5 @@
 -- To be believed: every answer as one number, code × 2^32 + place (include/sendoshi.h). The code is 0 for done, 1 to 99 for the question
--- that says no, 100 for none, 101 to 103 for the causes, 201 to 205 for the rules A to E. One definition serves all answers: it is given
+-- that says no, 100 for none, 101 to 104 for the causes, 201 to 205 for the rules A to E. One definition serves all answers: it is given
 -- what an answer says.
 -- Assumes nothing.
 use Rattle.std.specs.Prelude.{ℕ, ◌+◌, ◌*◌, ◌≤◌, ◌<◌, List, [], ◌∷◌}
@@ -62,7 +62,7 @@ Placed (a ∷ b ∷ c ∷ d ∷ vs) = Quarters a b c d
 abbrev pub Known : Said → Type 0
 Known (done vs) = Placed vs
 Known nothing = Unit {0}
-Known (faulted e w) = Within 1 3 w × (e ≤ most)
+Known (faulted e w) = Within 1 4 w × (e ≤ most)
 Known (broken r e t) = Within 1 5 r × Halves e t
 Known (at_event q e) = Within 1 99 q × (e ≤ most)
 Known (at_byte q b) = Within 1 99 q × (b ≤ most)

@@ -22,7 +22,7 @@ use marking::check::Checking;
 use notes::next_note;
 use opacity::verdict::{Rule, Scanned, Verdict};
 use reader::{HistoryRead, Reading};
-use scan::{Scanning, cause_number};
+use scan::Scanning;
 use straighten::Straightening;
 use writer::Writing;
 
@@ -122,7 +122,7 @@ fn scanned_code(scanned: Scanned) -> u64
 {
     match scanned {
         Scanned::Opaque => pack(0, 0),
-        Scanned::Faulted { event, cause } => pack(CAUSES + cause_number(cause), event),
+        Scanned::Faulted { event, cause } => pack(CAUSES + cause, event),
     }
 }
 

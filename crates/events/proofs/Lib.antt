@@ -8,4 +8,3 @@ pub mod ReadableLaws
 pub mod AskedLaws
 pub mod RegisterLaws
 pub mod SpelledLaws
-pub mod InnerLaws

@@ -2,6 +2,5 @@
 pub mod before;
 pub mod bodies;
 pub mod event;
-pub mod inner;
 pub mod refusal;
 pub mod state;

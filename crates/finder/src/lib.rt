@@ -15,7 +15,7 @@ use events::refusal::Refusal;
 use found::write_order;
 use log::admit::{Checked, admit};
 use log::columns::columns_hold;
-use log::rows::{BLANK, BRIEF, MOST, Row, transactions_begun};
+use log::rows::{BLANK, MOST, Row, SHORT, transactions_begun};
 use log::starts::is_admitted;
 use lowest::find_order;
 use places::facts::SEARCHED;
@@ -150,8 +150,8 @@ pub fn find_marking(
         let admitted = is_admitted(edition, starts);
         return Finding::Refused(prefix_refused(held, admitted, count));
     }
-    if count <= BRIEF {
-        let mut few = [BLANK; BRIEF];
+    if count <= SHORT {
+        let mut few = [BLANK; SHORT];
         let checked = admit(
             edition,
             starts,

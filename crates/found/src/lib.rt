@@ -9,7 +9,7 @@ ghost use Rattle.found.specs.Arrays.{found_bytes};
 
 mod arrays;
 
-use log::rows::{BRIEF, MOST, Row};
+use log::rows::{MOST, Row, SHORT};
 use marking_writer::write_marking;
 use places::state::codes_of;
 use reads::{FEW_SLOTS, put_gaps};
@@ -48,8 +48,8 @@ pub fn write_order(log: &[Row], order: u64, begun: usize, output: &mut [u8]) -> 
         ≡ over (found_bytes (logged log.now) (codes_of begun order)) output.old }
 {
     let codes = codes_of(order, begun);
-    if log.len() <= BRIEF {
-        let mut few = [0u16; BRIEF];
+    if log.len() <= SHORT {
+        let mut few = [0u16; SHORT];
         return write_found(log, codes, begun, &mut few, output);
     }
     let mut gaps = [0u16; MOST];

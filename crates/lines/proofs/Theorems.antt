@@ -3,7 +3,7 @@
 -- Assumes nothing.
 use Prim.Native.Nat.{ℕ, ◌≤◌}
 use native.Mathlib.Omega.{arith}
-use mathlib.Core.Path.{◌≡◌, refl, ap}
+use mathlib.Core.Path.{◌≡◌, refl, ap, ◌∙◌}
 use mathlib.Core.Logic.Iff
 use mathlib.Core.Logic.{◌↔◌}
 use mathlib.Core.List.{List, [], ◌∷◌, ◌++◌}
@@ -14,13 +14,13 @@ use Rattle.log.specs.Starts.{start_of}
 use Rattle.events.specs.Events.{begins}
 use Rattle.opacity.specs.declared.verdict.Rule.{Rule}
 use Rattle.opacity.specs.declared.verdict.Verdict.{Verdict}
-use Rattle.opacity.specs.declared.verdict.Cause.{Cause}
 use Rattle.opacity.specs.declared.verdict.Scanned.{Scanned}
 use Rattle.opacity.specs.Scan.{AllJustified}
 use Rattle.counts.specs.Tally.{tally}
 use Rattle.reader.specs.Reading.{Log, readable, history_of}
 use Rattle.marking.specs.declared.check.Ruling.{Ruling}
 use Rattle.scan.specs.declared.Scanning.{Scanning}
+use Rattle.capture.specs.declared.Report.{Report}
 use Rattle.capture.specs.Report.{counts_of, marking_of, opacity_of, report_on}
 use Rattle.capture.proofs.Theorems.{four-lines, says-opaque, says-accepted}
 use Rattle.capture.specs.Words.{Justifying}
@@ -37,7 +37,7 @@ pub as-in-the-paper :
     ∷ refused_line (text "history") 5 6
     ∷ refused_line (text "marking") 28 6
     ∷ scanned_line Scanned.Opaque
-    ∷ scanned_line (Scanned.Faulted 9 Cause.Read)
+    ∷ scanned_line (Scanned.Faulted 9 1)
     ∷ unscanned_line 31
     ∷ [])
     ≡ (text "events 10 transactions 2 reads 2\n"

@@ -4,9 +4,7 @@ use Rattle.std.specs.Prelude.{ℕ, List, ◌++◌}
 use Prim.Native.String.{String}
 use Rattle.opacity.specs.declared.verdict.Rule.{Rule}
 use Rattle.opacity.specs.declared.verdict.Verdict.{Verdict}
-use Rattle.opacity.specs.declared.verdict.Cause.{Cause}
 use Rattle.opacity.specs.declared.verdict.Scanned.{Scanned}
-use Rattle.opacity.specs.Scan.{cause_number}
 use Rattle.counts.specs.declared.tally.Tally.{Tally}
 use Rattle.scan.specs.declared.Scanning.{Scanning}
 use Rattle.marking.specs.declared.check.Ruling.{Ruling}
@@ -46,8 +44,8 @@ abbrev pub marking_line : Ruling → List ℕ
 marking_line (Ruling.Ruled verdict) = verdict_line verdict
 marking_line (Ruling.Refused r) = refused_line (text "marking") r.question r.at
 
-unfoldable pub faulted_line : ℕ → Cause → List ℕ
-faulted_line event cause = field "opaque no event " event ++ field " cause " (cause_number cause) ++ text "\n"
+unfoldable pub faulted_line : ℕ → ℕ → List ℕ
+faulted_line event cause = field "opaque no event " event ++ field " cause " cause ++ text "\n"
 
 unfoldable pub unscanned_line : ℕ → List ℕ
 unscanned_line question = field "opaque refused " question ++ text "\n"

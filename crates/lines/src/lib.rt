@@ -11,8 +11,8 @@ ghost use Rattle.lines.specs.Lines.{faulted_line, unscanned_line, scanned_line, 
 use capture::{Counts, Report, report_on};
 use counts::tally::Tally;
 use marking::check::Ruling;
-use opacity::verdict::{Cause, Rule, Scanned, Verdict};
-use scan::{Scanning, cause_number};
+use opacity::verdict::{Rule, Scanned, Verdict};
+use scan::Scanning;
 
 // Puts a text at a place.
 fn put_text(out: &mut [u8], at: usize, words: &[u8]) -> usize
@@ -108,12 +108,12 @@ fn put_broken(out: &mut [u8], at: usize, rule: Rule, event: usize, transaction: 
 }
 
 // Puts the line on a faulted history, as "opaque no event 9 cause 1".
-fn put_faulted(out: &mut [u8], at: usize, event: usize, cause: Cause) -> usize
+fn put_faulted(out: &mut [u8], at: usize, event: usize, cause: usize) -> usize
     requires { at + 64 ≤ length out.old }
     ensures { Put 64 out.old out.new at (faulted_line event cause) result }
 {
     let place = put_field(out, at, b"opaque no event ", event);
-    let why = put_field(out, place, b" cause ", cause_number(cause) as usize);
+    let why = put_field(out, place, b" cause ", cause);
     put_text(out, why, b"\n")
 }
 
@@ -165,7 +165,7 @@ fn put_scanned(out: &mut [u8], at: usize, scanned: Scanned) -> usize
 {
     match scanned {
         Scanned::Opaque => put_text(out, at, b"opaque yes\n"),
-        Scanned::Faulted { event, cause } => put_faulted(out, at, event, cause),
+        Scanned::Faulted { event, cause } => put_faulted(out, at, event, cause as usize),
     }
 }
 

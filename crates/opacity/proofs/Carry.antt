@@ -21,7 +21,7 @@ use Rattle.opacity.specs.Transactions.{status, allows}
 use Rattle.opacity.specs.Justification.{Place, outcome, contents, outcome_kept, Justified}
 use Rattle.opacity.specs.Lowest.{place}
 use Rattle.opacity.specs.Carry.{seen, carries, carried}
-use Rattle.opacity.proofs.Prefixes.{begun-prefix}
+use Rattle.opacity.proofs.Opacity.{begun-prefix}
 use Rattle.opacity.proofs.Pending.{named, stays-live}
 use Rattle.opacity.proofs.Kept.{kept-justified}
 use Rattle.opacity.proofs.Begin.{begin-justified}

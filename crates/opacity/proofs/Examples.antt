@@ -1,12 +1,10 @@
 -- Three small histories, by computation, for what no theorem can refuse in the definitions: a pending commit may go either way, a reader
--- is none of the writers of rule D, and the last write of a committed transaction is what it leaves; and the cause of each kind. The list of
--- worked histories is in the crate `worked`.
+-- is none of the writers of rule D, and the last write of a committed transaction is what it leaves. The list of worked histories is in the crate `worked`.
 -- Assumes nothing.
 use Prim.Native.Nat.{ℕ}
 use mathlib.Core.Path.{◌≡◌, refl}
 use mathlib.Core.Bool.{true, false}
-use mathlib.Core.List.{List, [], ◌∷◌, map}
-use mathlib.Core.Option.{none, some}
+use mathlib.Core.List.{List, [], ◌∷◌}
 use Rattle.lists.specs.Lists.{◌and◌, ◌or◌, ◌implies◌, any, all, keep, latest, every, lowest, first, last, range}
 use Rattle.events.specs.declared.event.Event.{Event}
 use Rattle.events.specs.Events.{is_lone, is_begin, answers_read, is_read, is_write, asks_commit, is_commit, is_abort, is_end, by, has, begins}
@@ -14,21 +12,15 @@ use Rattle.opacity.specs.Transactions.{status, allows, precedes, last_write, own
 use Rattle.opacity.specs.Justification.{Place, placed, before, outcome, written, contents, outcome_kept, preceded, legal_over, real_time_kept}
 use Rattle.opacity.specs.Lowest.{place, fits, lowest_place, continued, lowest_of}
 use Rattle.opacity.specs.Marking.{Marking, gap_of, place_of, others, between, no_writer_between, value_at_gap, Accepted, last_event, begin_of, rule_holds, broke, tries, verdict}
-use Rattle.opacity.specs.Scan.{Read, Committed, Aborted, cause_of, Opaque, scan}
+use Rattle.opacity.specs.Scan.{Opaque, cause, scan}
 use Rattle.opacity.specs.Store.{put, writes_of, after_write, after_place, applied}
 
 -- an event that begins nothing, and the begin of t on the thread of its number
-pub event : ℕ → ℕ → ℕ → ℕ → Event
+event : ℕ → ℕ → ℕ → ℕ → Event
 event k t r v = record { kind = k; transaction = t; register = r; value = v; thread = 0 }
 
 begin : ℕ → Event
 begin t = record { kind = 16; transaction = t; register = 0; value = 0; thread = t }
-
--- the causes of the kinds 16 to 25
-pub causes : map (λ k. cause_of (event k 0 0 0)) (16 ∷ 17 ∷ 18 ∷ 19 ∷ 20 ∷ 21 ∷ 22 ∷ 23 ∷ 24 ∷ 25 ∷ [])
-    ≡ none ∷ none ∷ some Read ∷ none ∷ none ∷ none ∷ some Committed ∷ some Aborted ∷ some Read ∷ none ∷ []
-unfolding cause_of is_lone is_begin answers_read is_read is_commit is_abort ◌or◌ event
-causes = refl
 
 -- what the scan and the verdict both compute by: tests on lists, on events, on transactions and on orders
 unfoldable justification : Unit {0}
@@ -47,7 +39,7 @@ pair =
     ∷ begin 1 ∷ event 17 1 0 0 ∷ event 18 1 0 5 ∷ []
 
 pub pending-may-commit : scan (λ r. 0) pair ≡ Opaque
-unfolding justification fits lowest_place continued lowest_of cause_of scan pair
+unfolding justification fits lowest_place continued lowest_of cause scan pair
 pending-may-commit = refl
 
 -- T0 reads 0, writes 5 and commits; its point stands behind it

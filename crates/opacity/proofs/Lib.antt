@@ -9,7 +9,7 @@ pub mod FirstLaws
 pub mod VerdictLaws
 pub mod Rules
 pub mod Between
-pub mod Prefixes
+pub mod Opacity
 pub mod Finder
 pub mod Arrays
 pub mod MarkingBytes
@@ -23,8 +23,7 @@ pub mod Snoc
 pub mod Kept
 pub mod Begin
 pub mod Carry
-pub mod Harmless
-pub mod Opacity
+pub mod CauseFour
 pub mod Alone
 pub mod Theorems
 pub mod Examples

@@ -16,7 +16,7 @@ use Rattle.opacity.specs.Serial.{Serial, LowestSerial}
 use Rattle.lists.proofs.ListLaws.{clash}
 use Rattle.opacity.proofs.Compare.{orders-ordered, not_above, lower-or-same}
 use Rattle.opacity.proofs.Least.{lowest-justifies, lowest-least, none-iff}
-use Rattle.opacity.proofs.Prefixes.{Begun, begun-prefix}
+use Rattle.opacity.proofs.Opacity.{Begun, begun-prefix}
 use Rattle.opacity.proofs.Serial.{Known, known-serial}
 
 module _ (start : Store) (h : List Event) where

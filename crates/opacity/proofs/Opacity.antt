@@ -1,113 +1,116 @@
 -- The scan: it answers opaque exactly if every prefix has a justification, and otherwise names the last event of the first prefix that has
--- none, which has a cause.
+-- none.
 -- Assumes nothing.
-use Prim.Native.Nat.{ℕ, zero, suc, ◌≤◌}
+use Prim.Native.Nat.{ℕ, zero, suc, ◌≤◌, ◌<◌}
+use native.Mathlib.Nat.{lt_of_lt_of_le}
 use native.Mathlib.Omega.{arith}
-use mathlib.Core.Path.{◌≡◌, refl, sym, ap, subst, ◌∙◌}
-use mathlib.Core.Logic.{◌⊎◌, inl, inr, ⊎_elim}
+use mathlib.Core.Path.{◌≡◌, refl, sym, ap, ◌∙◌}
 use mathlib.Core.Bool.{Bool, true, false, true≢false}
 use mathlib.Core.List.{List, []}
 use mathlib.Core.Option.{Option, none, some}
 use lib.ListN.{length, take}
-use Rattle.lists.specs.Lists.{is_none, first}
+use lib.Seq.{take-take, get_or-take, length-take-le}
+use Rattle.lists.specs.Lists.{◌and◌, is_none, all, keep, every, first}
 use Rattle.events.specs.declared.event.Event.{Event}
-use Rattle.events.specs.Events.{event_at}
-use Rattle.events.specs.Questions.{readable}
-use Rattle.opacity.specs.Justification.{Place, Justified}
+use Rattle.events.specs.Events.{no_event, event_at, begins}
+use Rattle.opacity.specs.Justification.{Place, distinct, is_order, Justified}
 use Rattle.opacity.specs.Lowest.{lowest_of}
-use Rattle.opacity.specs.Scan.{Cause, cause_of, Opaque, Faulted, faulted_by, answer, scan, AllJustified, FirstWithout, FaultsAt}
+use Rattle.opacity.specs.Scan.{Opaque, Faulted, answer, scan, AllJustified, FaultsAt, cause}
 use Rattle.lists.proofs.ListLaws.{none_first, first-none, is_none-none, none-is_none, First, first_some, none-some}
-use Rattle.events.proofs.QuestionLaws.{begun}
-use Rattle.opacity.proofs.Prefixes.{begun-prefix, empty-justified}
+use Rattle.events.proofs.EventLaws.{begins-take}
 use Rattle.opacity.proofs.Least.{lowest-justifies, lowest-least, none-iff}
 use Rattle.opacity.proofs.FirstLaws.{first_found}
-use Rattle.opacity.proofs.Harmless.{never_first}
+
+-- every event is of a transaction that has begun: true of each readable history (question 11) and of its prefixes
+abbrev pub Begun : List Event → Type 0
+Begun h = (i : ℕ) → i < length h → (event_at h i).transaction < begins (take (suc i) h)
+
+-- in a prefix of a readable history every event is of one of the prefix's transactions
+pub begun-prefix : (h : List Event) → Begun h → (n : ℕ) → n ≤ length h → (i : ℕ) → i < length (take n h) → (event_at (take n h) i).transaction < begins (take n h)
+begun-prefix h b n l i m =
+    let k : length (take n h) ≡ n = length-take-le n h l in
+    let j : i < n = omega arith in
+    let e : event_at (take n h) i ≡ event_at h i = get_or-take n h i no_event j in
+    let q : take (suc i) (take n h) ≡ take (suc i) h = take-take (suc i) n h j in
+    let c : begins (take (suc i) h) ≤ begins (take n h) = rw q at (begins-take (suc i) (take n h)) in
+    rw e (lt_of_lt_of_le (b i (omega arith)) c)
+
+pub empty-justified : (start : ℕ → ℕ) → Justified start [] []
+unfolding is_order begins keep all distinct every ◌and◌
+empty-justified start =
+    record {
+      order = refl;
+      outcomes = λ t l. absurd (omega arith);
+      real_time = λ t l. absurd (omega arith);
+      own = λ t l. absurd (omega arith);
+      store = λ t l. absurd (omega arith);
+    }
+
+answer-e : (h : List Event) (o : Option ℕ) → answer h o ≡ Opaque → o ≡ none
+answer-e h none e = refl
+answer-e h (some i) e = let z : ◌≡◌ {A = ℕ} 0 1 = cc in absurd (omega arith)
 
 is_none-false : {A : Type 0} (o : Option A) → is_none o ≡ false → (a : A) × (o ≡ some a)
 is_none-false none e = absurd (true≢false e)
 is_none-false (some a) e = (a, refl)
 
-apart : (i : ℕ) (c : Cause) → Opaque ≡ Faulted i c → ⊥
-apart i c e = let z : ◌≡◌ {A = ℕ} 0 1 = cc in omega arith
-
-module _ (start : ℕ → ℕ) (h : List Event) (r : readable h ≡ true) where
-  -- the prefix that ends with event k has no justification
-  bad : ℕ → Bool
-  bad k = is_none (lowest_of start (take (suc k) h))
-
-  its-lowest : (k : ℕ) → suc k ≤ length h → bad k ≡ false → (J : List Place) × Justified start (take (suc k) h) J
-  unfolding bad
-  its-lowest k l f = let o = is_none-false _ f in (o.0, lowest-justifies start (take (suc k) h) (begun-prefix h (begun h r) (suc k) l) o.1)
-
-  -- the first such prefix, found by the lowest justifications or by all
-  first-without : (i : ℕ) → First bad (length h) i → FirstWithout (Justified start) h i
-  unfolding bad
-  first-without i f =
-      record {
-        inside = f.inside;
-        none_here = λ J j. none-some (is_none-none _ f.passes) (lowest-least start (take (suc i) h) j).1;
-        shorter = earlier;
-      }
-    where
-      earlier : (n : ℕ) → n ≤ i → (J : List Place) × Justified start (take n h) J
-      earlier zero l = ([], empty-justified start)
-      earlier (suc k) l = its-lowest k (omega (arith, f.inside)) (f.least k l)
-
-  without-first : (i : ℕ) → FirstWithout (Justified start) h i → first bad (length h) ≡ some i
-  unfolding bad
-  without-first i f =
-      first_found bad (length h) i
-      (record {
-        inside = f.inside;
-        passes = none-is_none ((none-iff start (take (suc i) h) (begun-prefix h (begun h r) (suc i) f.inside)).1 f.none_here);
-        least = λ j l. ap is_none (lowest-least start (take (suc j) h) (f.shorter (suc j) l).1).1;
-      })
-
-  -- its last event has a cause
-  pub has-cause : (i : ℕ) → FirstWithout (Justified start) h i → (c : Cause) × (cause_of (event_at h i) ≡ some c)
-  has-cause i f = go (cause_of (event_at h i)) refl
-    where
-      go : (o : Option Cause) → cause_of (event_at h i) ≡ o → (c : Cause) × (o ≡ some c)
-      go none e = absurd (never_first start h r i e f)
-      go (some c) e = (c, refl)
-
-  -- either every prefix has a justification, or an event faults the history
-  pub judged : AllJustified start h ⊎ ((i : ℕ) × (c : Cause) × FaultsAt start h i c)
-  judged = go (first bad (length h)) refl
-    where
-      go : (o : Option ℕ) → first bad (length h) ≡ o → AllJustified start h ⊎ ((i : ℕ) × (c : Cause) × FaultsAt start h i c)
-      go none e = inl (λ n. all n)
-        where
-          all : (n : ℕ) → n ≤ length h → (J : List Place) × Justified start (take n h) J
-          all zero l = ([], empty-justified start)
-          all (suc k) l = its-lowest k l (first-none bad (length h) e k l)
-      go (some i) e =
-          let f = first-without i (first_some bad (length h) e) in
-          let w = has-cause i f in
-          inr (i, w.0, record { ends = f; why = w.1 })
+module _ (start : ℕ → ℕ) (h : List Event) (b : Begun h) where
+  pub opaque-prefixes : scan start h ≡ Opaque → AllJustified start h
+  unfolding scan
+  opaque-prefixes e zero l = ([], empty-justified start)
+  opaque-prefixes e (suc i) l =
+      let o = is_none-false _ (first-none (λ k. is_none (lowest_of start (take (suc k) h))) _ (answer-e h _ e) i l) in
+      (o.0, lowest-justifies start (take (suc i) h) (begun-prefix h b (suc i) l) o.1)
 
   pub prefixes-opaque : AllJustified start h → scan start h ≡ Opaque
-  unfolding scan bad
-  prefixes-opaque f = ap (answer h) (none_first bad _ (λ k l. ap is_none (lowest-least start (take (suc k) h) (f (suc k) l).1).1))
+  unfolding scan
+  prefixes-opaque f =
+      ap (answer h)
+      (none_first (λ k. is_none (lowest_of start (take (suc k) h))) _ (λ k l. ap is_none (lowest-least start (take (suc k) h) (f (suc k) l).1).1))
 
-  -- the scan names the last event of the first prefix without a justification,
-  pub first-named : (i : ℕ) → FirstWithout (Justified start) h i → scan start h ≡ faulted_by i (cause_of (event_at h i))
-  unfolding scan bad
-  first-named i f = ap (answer h) (without-first i f)
-
-  pub prefix-faulted : (i : ℕ) (c : Cause) → FaultsAt start h i c → scan start h ≡ Faulted i c
-  prefix-faulted i c f = first-named i f.ends ∙ ap (faulted_by i) f.why
-
-  -- and says opaque of no history that has one, and faulted of no other event
-  pub opaque-prefixes : scan start h ≡ Opaque → AllJustified start h
-  opaque-prefixes e = ⊎_elim (λ a. a) (λ f. absurd (apart _ _ (sym e ∙ prefix-faulted f.0 f.1 f.2))) judged
-
-  pub faulted-prefix : (i : ℕ) (c : Cause) → scan start h ≡ Faulted i c → FaultsAt start h i c
-  faulted-prefix i c e =
-      ⊎_elim (λ a. absurd (apart _ _ (sym (prefixes-opaque a) ∙ e))) (λ f. same f.0 f.1 f.2 (sym (prefix-faulted f.0 f.1 f.2) ∙ e)) judged
+  -- the scan names the last event of the first prefix without a justification
+  pub faulted-prefix : (i c : ℕ) → scan start h ≡ Faulted i c → FaultsAt start h i c
+  unfolding scan
+  faulted-prefix i c e = go (first bad (length h)) refl e
     where
-      same : (k : ℕ) (d : Cause) → FaultsAt start h k d → Faulted k d ≡ Faulted i c → FaultsAt start h i c
-      same k d f q =
+      bad : ℕ → Bool
+      bad k = is_none (lowest_of start (take (suc k) h))
+
+      earlier : First bad (length h) i → (n : ℕ) → n ≤ i → (J : List Place) × Justified start (take n h) J
+      earlier f zero l = ([], empty-justified start)
+      earlier f (suc k) l =
+          let m : suc k ≤ length h = omega (arith, f.inside) in
+          let o = is_none-false _ (f.least k l) in
+          (o.0, lowest-justifies start (take (suc k) h) (begun-prefix h b (suc k) m) o.1)
+
+      found : First bad (length h) i → c ≡ cause (event_at h i) → FaultsAt start h i c
+      found f w =
+          record {
+            inside = f.inside;
+            why = w;
+            none_here = λ J j. none-some (is_none-none _ f.passes) (lowest-least start (take (suc i) h) j).1;
+            shorter = earlier f;
+          }
+
+      go : (o : Option ℕ) → first bad (length h) ≡ o → answer h o ≡ Faulted i c → FaultsAt start h i c
+      go none q a = let z : ◌≡◌ {A = ℕ} 0 1 = cc in absurd (omega arith)
+      go (some k) q a =
           let x : k ≡ i = cc in
-          let y : d ≡ c = cc in
-          subst (λ (n : ℕ). FaultsAt start h n c) x (subst (λ (b : Cause). FaultsAt start h k b) y f)
+          let y : cause (event_at h k) ≡ c = cc in
+          found (first_some bad (length h) (q ∙ ap some x)) (sym y ∙ ap (λ (m : ℕ). cause (event_at h m)) x)
+
+  -- and the other way: no other event is so
+  pub prefix-faulted : (i c : ℕ) → FaultsAt start h i c → scan start h ≡ Faulted i c
+  unfolding scan
+  prefix-faulted i c f =
+      ap (answer h) (first_found bad (length h) i (record { inside = f.inside; passes = here; least = found }))
+      ∙ ap (Faulted i) (sym f.why)
+    where
+      bad : ℕ → Bool
+      bad k = is_none (lowest_of start (take (suc k) h))
+
+      here : bad i ≡ true
+      here = none-is_none ((none-iff start (take (suc i) h) (begun-prefix h b (suc i) f.inside)).1 f.none_here)
+
+      found : (j : ℕ) → j < i → bad j ≡ false
+      found j l = ap is_none (lowest-least start (take (suc j) h) (f.shorter (suc j) l).1).1

@@ -17,11 +17,12 @@ use Rattle.events.specs.Events.{event_at, is_read, is_write, by, begins}
 use Rattle.opacity.specs.Transactions.{is_value, last_write, own_write, is_own_read, is_store_read, own_right}
 use Rattle.opacity.specs.Justification.{Place, placed, before, distinct, is_order, written, contents, legal_over, legal, Justified}
 use Rattle.opacity.specs.Store.{Store, put}
-use Rattle.opacity.specs.Serial.{does, events_of, run, reads_right, after, serial_store, runs_right, Serial}
+use Rattle.opacity.specs.Serial.{does, events_of, run, reads_right, after, serial_store, runs_right, Serial, AllSerial}
 use Rattle.lists.proofs.ListLaws.{and_l, and_r, and_i, imp-e, imp-i, every-e}
 use Rattle.opacity.proofs.Orders.{before_here, distinct-at, Split, split}
+use Rattle.opacity.specs.Scan.{scan, Opaque}
 use Rattle.events.proofs.EventLaws.{begins-take}
-use Rattle.opacity.proofs.Prefixes.{Begun, begun-prefix}
+use Rattle.opacity.proofs.Opacity.{Begun, begun-prefix, opaque-prefixes, prefixes-opaque}
 
 -- ---- the view and the store
 
@@ -207,3 +208,10 @@ module _ (start : Store) (h : List Event) (b : Begun h) where
   -- The same for each prefix of the history.
   pub prefix-is-serial : (n : ℕ) → n ≤ length h → (J : List Place) → Justified start (take n h) J ↔ Serial start (take n h) J
   prefix-is-serial n l J = known-serial start (take n h) J (begun-prefix h b n l)
+
+  -- The scan says opaque exactly if every prefix has an order that, run one at a time, gives every read its value.
+  pub opaque-is-serial : (scan start h ≡ Opaque) ↔ AllSerial start h
+  opaque-is-serial = (
+    λ e n l. let j = opaque-prefixes start h b e n l in (j.0, (prefix-is-serial n l j.0).0 j.1),
+    λ f. prefixes-opaque start h b (λ n l. ((f n l).0, (prefix-is-serial n l (f n l).0).1 (f n l).1)),
+  )

@@ -6,25 +6,25 @@ use native.Mathlib.Nat.{lt_of_lt_of_le, le_trans, le_of_lt}
 use mathlib.Core.Path.{◌≡◌, refl, sym, ap, ◌∙◌}
 use mathlib.Core.Logic.{◌↔◌}
 use mathlib.Core.Bool.{true, false}
-use mathlib.Core.List.{List, [], ◌∷◌, ◌++◌}
+use mathlib.Core.List.{List, []}
 use mathlib.Core.Option.{none, some}
 use lib.ListN.{length, take}
 use Rattle.lists.specs.Lists.{◌implies◌, StrictTotal}
 use Rattle.events.specs.declared.event.Event.{Event}
-use Rattle.events.specs.Events.{begins, event_at, is_begin, is_commit, is_harmless}
+use Rattle.events.specs.Events.{begins}
 use Rattle.events.specs.Questions.{readable}
 use Rattle.lists.proofs.ListLaws.{every-i}
 use Rattle.events.proofs.EventLaws.{begins-take}
 use Rattle.events.proofs.QuestionLaws.{begun}
 use Rattle.opacity.specs.Transactions.{precedes, EndedBefore, is_store_read, own_right}
 use Rattle.opacity.specs.Justification.{Place, Justified, justifies, placed, before, preceded, real_time_kept, is_order, OnePlace}
-use Rattle.opacity.specs.Lowest.{lower, place, lowest_of, LowestJustified, PlaceByPlace}
+use Rattle.opacity.specs.Lowest.{lower, lowest_of, LowestJustified, PlaceByPlace}
 use Rattle.opacity.specs.Serial.{Serial, LowestSerial, AllSerial, SerialFaultsAt}
 use Rattle.opacity.specs.Explains.{Explains}
 use Rattle.opacity.specs.Marking.{Marking, ReadableFor, marked, gap_of, no_writer_between, Rule, A, B, D, Accepted, Broken}
 use Rattle.opacity.specs.Marking.{verdict, rule_holds, named_event, named_transaction}
 use Rattle.opacity.specs.Verdicts.{Holds, AllHold, FirstBroken, LastOf, BeginOf, RuleD, WriterBetween}
-use Rattle.opacity.specs.Scan.{Cause, scan, Opaque, Faulted, AllJustified, FirstWithout, FaultsAt}
+use Rattle.opacity.specs.Scan.{scan, Opaque, Faulted, AllJustified, FaultsAt}
 use Rattle.opacity.proofs.Orders.{fills, filled, one_place}
 use Rattle.opacity.proofs.Steps.{steps, known-apart, justified, justified-test}
 use Rattle.opacity.proofs.Compare.{orders-ordered}
@@ -33,13 +33,13 @@ use Rattle.opacity.proofs.VerdictLaws.{accepted-rules, broken-names, names-broke
 use Rattle.opacity.proofs.Rules.{accepted-justified, justified-accepted}
 use Rattle.opacity.proofs.Between.{writer-between-iff, D-means}
 use Rattle.opacity.proofs.Finder.{marked-readable, marked-accepted}
-use Rattle.opacity.proofs.Opacity.{has-cause, opaque-prefixes, prefixes-opaque, faulted-prefix, prefix-faulted}
-use Rattle.opacity.proofs.Serial.{Known, justified-is-serial, prefix-is-serial}
+use Rattle.opacity.proofs.Opacity.{opaque-prefixes, prefixes-opaque, faulted-prefix, prefix-faulted}
+use Rattle.opacity.proofs.Serial.{Known, justified-is-serial, prefix-is-serial, opaque-is-serial}
 use Rattle.opacity.proofs.Explained.{explains-iff}
 use Rattle.opacity.proofs.LowestSerial.{one-lowest, found-iff-lowest, found-is-lowest, none-is-none}
 use Rattle.opacity.proofs.Meanings.{precedes-means, last-event-means, begin-of-means}
 use Rattle.opacity.proofs.FirstLaws.{every-fails, implies-false}
-use Rattle.opacity.proofs.Harmless.{harmless-no-cause, goes_last, stays, never_first}
+use Rattle.opacity.proofs.CauseFour.{never-four}
 
 -- ---- Justification
 
@@ -181,54 +181,39 @@ module _ (start : ℕ → ℕ) (h : List Event) (r : readable h ≡ true) where
 
   -- Opaque exactly if every prefix has a justification;
   pub opaque-iff : (scan start h ≡ Opaque) ↔ AllJustified start h
-  opaque-iff = (opaque-prefixes start h r, prefixes-opaque start h r)
+  opaque-iff = (opaque-prefixes start h (begun h r), prefixes-opaque start h (begun h r))
 
   -- faulted at i exactly if the prefix that ends with i has none and every shorter one has, with the cause of i's kind.
-  pub faulted-iff : (i : ℕ) (c : Cause) → (scan start h ≡ Faulted i c) ↔ FaultsAt start h i c
-  faulted-iff i c = (faulted-prefix start h r i c, prefix-faulted start h r i c)
-
-  -- The last event of the first prefix without a justification has a cause, so that the scan names each such event.
-  pub fault-has-cause : (i : ℕ) → FirstWithout (Justified start) h i → (c : Cause) × FaultsAt start h i c
-  fault-has-cause i f = let w = has-cause start h r i f in (w.0, record { ends = f; why = w.1 })
-
-  -- A begin, a call, a returned write or a lone write is not that event: an order that justifies the events before it justifies them with
-  -- it, a begin placed last, aborted, and a lone write last, committed.
-  module _ (i : ℕ) (t : is_harmless (event_at h i) ≡ true) where
-    abbrev e : Event
-    e = event_at h i
-
-    module _ (l : i < length h) (J : List Place) (j : Justified start (take i h) J) where
-      pub harmless-last : is_begin e ≡ true → Justified start (take (suc i) h) (J ++ (place e.transaction (is_commit e) ∷ []))
-      harmless-last = goes_last start h r i l (harmless-no-cause e t) J j
-
-      pub harmless-stays : is_begin e ≡ false → Justified start (take (suc i) h) J
-      harmless-stays = stays start h r i l (harmless-no-cause e t) J j
-
-    pub harmless-never-first : FirstWithout (Justified start) h i → ⊥
-    harmless-never-first = never_first start h r i (harmless-no-cause e t)
+  pub faulted-iff : (i c : ℕ) → (scan start h ≡ Faulted i c) ↔ FaultsAt start h i c
+  faulted-iff i c = (faulted-prefix start h (begun h r) i c, prefix-faulted start h (begun h r) i c)
 
   -- The same in the words of orders run one at a time.
-  serial : (n : ℕ) → n ≤ length h → (J : List Place) → Justified start (take n h) J ↔ Serial start (take n h) J
-  serial = prefix-is-serial start h (begun h r)
-
   pub opaque-iff-serial : (scan start h ≡ Opaque) ↔ AllSerial start h
-  opaque-iff-serial = (
-    λ e n l. let j = opaque-iff.0 e n l in (j.0, (serial n l j.0).0 j.1),
-    λ f. opaque-iff.1 (λ n l. ((f n l).0, (serial n l (f n l).0).1 (f n l).1)),
-  )
+  opaque-iff-serial = opaque-is-serial start h (begun h r)
 
-  pub faulted-iff-serial : (i : ℕ) (c : Cause) → (scan start h ≡ Faulted i c) ↔ SerialFaultsAt start h i c
+  pub faulted-iff-serial : (i c : ℕ) → (scan start h ≡ Faulted i c) ↔ SerialFaultsAt start h i c
   faulted-iff-serial i c = (
-    λ e. let f = (faulted-iff i c).0 e in record { ends = without-alike (Justified start) (Serial start) serial i f.ends; why = f.why },
-    λ f. (faulted-iff i c).1 (record { ends = without-alike (Serial start) (Justified start) (λ n l J. ((serial n l J).1, (serial n l J).0)) i f.ends; why = f.why }),
+    λ e.
+        let f = (faulted-iff i c).0 e in
+        record {
+          inside = f.inside;
+          why = f.why;
+          none_here = λ J s. f.none_here J ((serial (suc i) f.inside J).1 s);
+          shorter = λ n l. let j = f.shorter n l in (j.0, (serial n (le_trans l (le_of_lt f.inside)) j.0).0 j.1);
+        },
+    λ f.
+        (faulted-iff i c).1
+        (record {
+          inside = f.inside;
+          why = f.why;
+          none_here = λ J j. f.none_here J ((serial (suc i) f.inside J).0 j);
+          shorter = λ n l. let s = f.shorter n l in (s.0, (serial n (le_trans l (le_of_lt f.inside)) s.0).1 s.1);
+        }),
   )
     where
-      -- orders that justify alike have the same first prefix without one
-      without-alike : (P Q : List Event → List Place → Type 0) → ((n : ℕ) → n ≤ length h → (J : List Place) → P (take n h) J ↔ Q (take n h) J)
-          → (i : ℕ) → FirstWithout P h i → FirstWithout Q h i
-      without-alike P Q same i f =
-          record {
-            inside = f.inside;
-            none_here = λ J q. f.none_here J ((same (suc i) f.inside J).1 q);
-            shorter = λ n l. let p = f.shorter n l in (p.0, (same n (le_trans l (le_of_lt f.inside)) p.0).0 p.1);
-          }
+      serial : (n : ℕ) → n ≤ length h → (J : List Place) → Justified start (take n h) J ↔ Serial start (take n h) J
+      serial = prefix-is-serial start h (begun h r)
+
+  -- No history is faulted by a begin, a call, a returned write or a lone write.
+  pub cause-never-four : (i : ℕ) → scan start h ≡ Faulted i 4 → ⊥
+  cause-never-four i = never-four start h r i

@@ -19,17 +19,9 @@ pub enum Verdict {
     },
 }
 
-// Why an event faults a history: a read returned or a lone read, a transaction committed, or one aborted.
-#[derive(Drop)]
-pub enum Cause {
-    Read,
-    Committed,
-    Aborted,
-}
-
 // The scan's answer: the event that faults the history, and the cause.
 #[derive(Drop)]
 pub enum Scanned {
     Opaque,
-    Faulted { event: usize, cause: Cause },
+    Faulted { event: usize, cause: u32 },
 }

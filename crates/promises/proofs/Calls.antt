@@ -4,7 +4,7 @@
 -- Assumes nothing.
 use Prim.Native.Nat.{ℕ, ◌+◌, ◌*◌, ◌≤◌, ◌<◌}
 use native.Mathlib.Omega.{arith}
-use mathlib.Core.Path.{◌≡◌, refl, sym, ap, ◌∙◌}
+use mathlib.Core.Path.{◌≡◌, refl, sym, ap, subst, ◌∙◌}
 use mathlib.Core.Bool.{true}
 use mathlib.Core.List.{List, [], ◌∷◌, ◌++◌, map, Memᴰ}
 use lib.ListN.{length, take, drop, length-map}
@@ -13,14 +13,14 @@ use Rattle.records.specs.Bytes.{Bytes, over}
 use Rattle.log.specs.Columns.{Columns, history, hold, filled_with, Fitting}
 use Rattle.events.specs.Said.{done, nothing, faulted, broken}
 use Rattle.log.specs.Starts.{FittingStarts}
-use Rattle.events.specs.Events.{begins, event_at, is_harmless}
+use Rattle.events.specs.Events.{begins}
 use Rattle.lists.specs.Lists.{range}
 use Rattle.records.proofs.BufferLaws.{drop-over}
 use Rattle.log.proofs.ColumnLaws.{history-length}
 use Rattle.lists.proofs.ListLaws.{keep-length, range_length}
 use Rattle.reader.specs.declared.Reading.{Reading}
 use Rattle.reader.specs.declared.HistoryRead.{HistoryRead}
-use Rattle.reader.specs.Reading.{read_answer, said_of, said as read_said}
+use Rattle.reader.specs.Reading.{read_answer, history_read, said_of, said as read_said}
 use Rattle.writer.specs.declared.Writing.{Writing}
 use Rattle.writer.proofs.FileLaws.{length-file, length_most}
 use Rattle.writer.proofs.StartLaws.{starts-most}
@@ -30,14 +30,14 @@ use Rattle.finder.specs.declared.Finding.{Finding}
 use Rattle.finder.specs.Answer.{marking_size, found_answer, said as found_said}
 use Rattle.finder.proofs.AnswerLaws.{said-marking}
 use Rattle.finder.proofs.Theorems.{written, refused-unchanged, none-unchanged}
-use Rattle.opacity.specs.declared.verdict.Cause.{Cause}
 use Rattle.opacity.specs.declared.verdict.Rule.TheVariants.{D}
+use Rattle.opacity.specs.declared.verdict.Scanned.{Scanned}
 use Rattle.opacity.specs.Counts.{counts}
-use Rattle.opacity.specs.Scan.{cause_number}
 use Rattle.opacity.specs.Transactions.{is_store_read, store_reads}
-use Rattle.scan.proofs.AnswerLaws.{said-faulted}
-use Rattle.scan.proofs.Theorems.{harmless-never-named}
-use Rattle.marking.specs.Answer.{said as check_said}
+use Rattle.scan.specs.Answer.{scan_answer, said as scan_said}
+use Rattle.scan.proofs.AnswerLaws.{said-scanned}
+use Rattle.scan.proofs.Theorems.{no-cause-four}
+use Rattle.marking.specs.Answer.{verdict_answer, said as check_said}
 use Rattle.straighten.specs.declared.Straightening.{Straightening}
 use Rattle.straighten.specs.Answer.{straightened_answer, said as straight_said}
 use Rattle.straighten.proofs.AnswerLaws.{answer-means as straight-means}
@@ -228,21 +228,14 @@ module _ (edition : ℕ) (starts : List ℕ) (c : Columns) (count : ℕ) (small 
 
 -- ---- what no call says
 
--- a scan's fault has one of the three causes,
-pub scan-causes : (edition : ℕ) (starts : List ℕ) (c : Columns) (count : ℕ) → count ≤ most → (e w : ℕ)
-    → decoded no_value never (scan_call edition starts c count) ≡ faulted e w → (k : Cause) × (cause_number k ≡ w)
+-- code 104 never comes of a scan,
+pub scan-never-104 : (edition : ℕ) (starts : List ℕ) (c : Columns) (count : ℕ) → count ≤ most → (e : ℕ) → decoded no_value never (scan_call edition starts c count) ≡ faulted e 4 → ⊥
 unfolding scan_call
-scan-causes edition starts c count small e w x =
-    said-faulted _ e w (sym (decodes no_value never _ (scan-decodable edition starts c count small)) ∙ x)
+scan-never-104 edition starts c count small e x =
+    let s : scan_said (scan_answer edition starts c count) ≡ faulted e 4 = sym (decodes no_value never _ (scan-decodable edition starts c count small)) ∙ x in
+    no-cause-four edition starts c count e (said-scanned (scan_answer edition starts c count) (Scanned.Faulted e 4) s)
 
--- and its event is no begin, call, returned write or lone write;
-pub scan-never-harmless : (edition : ℕ) (starts : List ℕ) (c : Columns) (count : ℕ) → count ≤ most → (e w : ℕ)
-    → decoded no_value never (scan_call edition starts c count) ≡ faulted e w → is_harmless (event_at (history c count) e) ≡ true → ⊥
-unfolding scan_call
-scan-never-harmless edition starts c count small e w x =
-    harmless-never-named edition starts c count e w (sym (decodes no_value never _ (scan-decodable edition starts c count small)) ∙ x)
-
--- code 204 never comes of a straightening
+-- and 204 never of a straightening
 pub straighten-never-204 : (edition : ℕ) (starts : List ℕ) (c : Columns) (count : ℕ) → count ≤ most → (file out list : List ℕ) (e t : ℕ)
     → decoded two_values of_marking (straighten_call edition starts c count file out list).number ≡ broken 4 e t → ⊥
 straighten-never-204 edition starts c count small file out list e t x =

@@ -11,17 +11,15 @@ use lib.ListN.{length, take, drop}
 use Rattle.log.specs.declared.admit.Checked.TheVariants.{Readable, Refused}
 use Rattle.records.specs.Bytes.{Bytes, over}
 use Rattle.log.specs.Columns.{Columns, history, hold, Fitting}
-use Rattle.events.specs.Events.{event_at, is_harmless}
 use Rattle.events.specs.Said.{done, nothing, faulted, broken, at_event, at_byte, refuse, number}
 use Rattle.log.specs.Starts.{start_of, FittingStarts}
 use Rattle.log.specs.Answer.{history_answer}
-use Rattle.opacity.specs.declared.verdict.Cause.{Cause}
 use Rattle.opacity.specs.declared.verdict.Rule.{Rule}
 use Rattle.opacity.specs.Explains.{Explains}
 use Rattle.opacity.specs.Justification.{Place, Justified}
 use Rattle.opacity.specs.Lowest.{LowestJustified}
 use Rattle.opacity.specs.Marking.{Marking, marked, marking_bytes, rule_number}
-use Rattle.opacity.specs.Scan.{cause_number, FirstWithout, FaultsAt}
+use Rattle.opacity.specs.Scan.{AllJustified, FaultsAt}
 use Rattle.opacity.specs.Verdicts.{AllHold}
 use Rattle.reader.specs.declared.Reading.TheVariants.{Read}
 use Rattle.reader.specs.Reading.{Log, TooShort, history_of, readable, refused, events_in, history_read, read_answer, said as read_said}
@@ -154,17 +152,8 @@ module _ (edition : ℕ) (starts : List ℕ) (c : Columns) (count : ℕ) where
   opaque-exactly = words.opaque-in-words edition starts c count
 
   -- "event e exactly when the prefix ending with e is the first without one;"
-  pub faulted-exactly : (e : ℕ) (w : Cause) → (scan_said (scan_answer edition starts c count) ≡ faulted e (cause_number w))
-      ↔ (Passed edition starts c count × FaultsAt (start_of starts) (history c count) e w)
+  pub faulted-exactly : (e w : ℕ) → (scan_said (scan_answer edition starts c count) ≡ faulted e w) ↔ (Passed edition starts c count × FaultsAt (start_of starts) (history c count) e w)
   faulted-exactly = scan.faulted-said edition starts c count
-
-  -- (each such event has one of the three causes, and a begin, a call, a returned write or a lone write is never one: change request 7)
-  pub named-exactly : (e : ℕ) → ((w : Cause) × (scan_said (scan_answer edition starts c count) ≡ faulted e (cause_number w)))
-      ↔ (Passed edition starts c count × FirstWithout (Justified (start_of starts)) (history c count) e)
-  named-exactly = scan.named-said edition starts c count
-
-  pub harmless-never-named : (e w : ℕ) → scan_said (scan_answer edition starts c count) ≡ faulted e w → is_harmless (event_at (history c count) e) ≡ true → ⊥
-  harmless-never-named = scan.harmless-never-named edition starts c count
 
 -- "the finder gives the marking of the lowest justification exactly when there is one, else none, and the checker accepts it.": from the
 -- bytes of a readable file on, for every prefix of at most 10 transactions and an output as long as the paper says

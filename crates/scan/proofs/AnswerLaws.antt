@@ -3,30 +3,29 @@
 use mathlib.Core.Path.{◌≡◌, refl, sym, ap, ap₂, ◌∙◌}
 use Prim.Native.Nat.{ℕ, ◌≤◌, ◌<◌}
 use native.Mathlib.Omega.{arith}
-use mathlib.Core.Bool.{true, cond}
+use mathlib.Core.Bool.{true}
 use mathlib.Core.List.{List}
-use lib.Dec.{eqb}
 use lib.ListN.{length}
 use borrow.Author.Tests.{le-leb, lt-leb, leb-true}
 use Rattle.events.specs.declared.event.Event.{Event}
 use Rattle.log.specs.declared.admit.Checked.{Checked}
 use Rattle.events.specs.declared.refusal.Refusal.{Refusal}
-use Rattle.events.specs.Said.{faulted, at_event, refuse}
+use Rattle.events.specs.Said.{at_event, refuse}
 use Rattle.events.specs.Events.{begins}
-use Rattle.log.specs.Columns.{Columns, history}
-use Rattle.log.specs.Starts.{start_of}
+use Rattle.log.specs.Columns.{Columns, history, hold}
+use Rattle.log.specs.Starts.{start_of, admits}
 use Rattle.events.specs.Questions.{readable}
+use Rattle.log.specs.Answer.{history_answer}
 use Rattle.log.proofs.ColumnLaws.{hold-e, hold-i}
 use Rattle.log.proofs.StartLaws.{fine, fine-answer}
 use Rattle.events.proofs.QuestionLaws.{readable-in}
 use Rattle.log.proofs.AnswerLaws.{columns-readable, readable-columns}
 use Rattle.opacity.specs.declared.verdict.Scanned.{Scanned}
-use Rattle.opacity.specs.declared.verdict.Cause.{Cause}
-use Rattle.opacity.specs.declared.verdict.Cause.TheVariants.{Read, Committed, Aborted}
-use Rattle.opacity.specs.Scan.{cause_number, scan}
+use Rattle.opacity.specs.Scan.{scan}
+use Rattle.log.specs.Calls.{then_checked}
 use Rattle.log.proofs.CallLaws.{asked-none, asked-yes, asked-no, asked-e, then-readable, then-refused, then-e}
 use Rattle.scan.specs.declared.Scanning.{Scanning}
-use Rattle.scan.specs.Answer.{Passed, scanned_said, said, size_refusal, scan_refusal, decided}
+use Rattle.scan.specs.Answer.{Passed, scanned_said, said, size_refusal, scan_refusal, decided, scan_answer}
 use Rattle.scan.specs.Logs.{scan_of, scan_after}
 
 -- ---- what is decided
@@ -51,36 +50,14 @@ refused-e Checked.Readable s r w = let z : ◌≡◌ {A = ℕ} 0 1 = cc in absur
 
 -- ---- what is said
 
--- a cause is told by its number
-cause-by-number : (c d : Cause) → cause_number c ≡ cause_number d → c ≡ d
-cause-by-number c d e = sym (back c) ∙ ap told e ∙ back d
-  where
-    told : ℕ → Cause
-    told n = cond (eqb n 1) Read (cond (eqb n 2) Committed Aborted)
-
-    back : (c : Cause) → told (cause_number c) ≡ c
-    back Read = refl
-    back Committed = refl
-    back Aborted = refl
-
 pub said-scanned : (x : Scanning) (s : Scanned) → said x ≡ scanned_said s → x ≡ Scanning.Scanned s
 unfolding said
 said-scanned (Scanning.Scanned Scanned.Opaque) Scanned.Opaque k = refl
-said-scanned (Scanning.Scanned (Scanned.Faulted e w)) (Scanned.Faulted f v) k =
-    let a : e ≡ f = cc in
-    let b : cause_number w ≡ cause_number v = cc in
-    ap Scanning.Scanned (ap₂ Scanned.Faulted a (cause-by-number w v b))
+said-scanned (Scanning.Scanned (Scanned.Faulted e w)) (Scanned.Faulted f v) k = cc
 said-scanned (Scanning.Scanned Scanned.Opaque) (Scanned.Faulted f v) k = let z : ◌≡◌ {A = ℕ} 0 1 = cc in absurd (omega arith)
 said-scanned (Scanning.Scanned (Scanned.Faulted e w)) Scanned.Opaque k = let z : ◌≡◌ {A = ℕ} 0 1 = cc in absurd (omega arith)
 said-scanned (Scanning.Refused r) Scanned.Opaque k = let z : ◌≡◌ {A = ℕ} 0 1 = cc in absurd (omega arith)
 said-scanned (Scanning.Refused r) (Scanned.Faulted f v) k = let z : ◌≡◌ {A = ℕ} 0 1 = cc in absurd (omega arith)
-
--- what is said as a fault has one of the three causes
-pub said-faulted : (x : Scanning) (e w : ℕ) → said x ≡ faulted e w → (c : Cause) × (cause_number c ≡ w)
-unfolding said
-said-faulted (Scanning.Scanned Scanned.Opaque) e w k = let z : ◌≡◌ {A = ℕ} 0 1 = cc in absurd (omega arith)
-said-faulted (Scanning.Scanned (Scanned.Faulted f c)) e w k = let b : cause_number c ≡ w = cc in (c, b)
-said-faulted (Scanning.Refused r) e w k = let z : ◌≡◌ {A = ℕ} 0 1 = cc in absurd (omega arith)
 
 pub said-refused : (x : Scanning) (q e : ℕ) → said x ≡ at_event q e → x ≡ Scanning.Refused (refuse q e)
 unfolding said

@@ -2,29 +2,25 @@
 -- Assumes nothing.
 use mathlib.Core.Path.{◌≡◌, sym, ap, ap₂, ◌∙◌}
 use mathlib.Core.Logic.{◌↔◌}
-use mathlib.Core.Bool.{true}
 use Prim.Native.Nat.{ℕ}
 use mathlib.Core.List.{List, []}
 use lib.ListN.{length}
 use Rattle.log.specs.declared.admit.Checked.{Checked}
 use Rattle.events.specs.declared.refusal.Refusal.{Refusal}
-use Rattle.events.specs.Events.{event_at, is_harmless}
 use Rattle.events.specs.Said.{done, faulted, at_event, refuse}
 use Rattle.log.specs.Columns.{Columns, history, hold}
 use Rattle.log.specs.Starts.{start_of, no_starts}
 use Rattle.log.specs.Answer.{history_answer}
 use Rattle.log.proofs.ColumnLaws.{history-length}
 use Rattle.log.proofs.StartLaws as start-laws
-use Rattle.opacity.specs.declared.verdict.Cause.{Cause}
 use Rattle.opacity.specs.declared.verdict.Scanned.{Scanned}
-use Rattle.opacity.specs.Justification.{Justified}
-use Rattle.opacity.specs.Scan.{cause_number, scan, AllJustified, FirstWithout, FaultsAt}
+use Rattle.opacity.specs.Scan.{scan, AllJustified, FaultsAt}
 use Rattle.opacity.specs.Serial.{AllSerial}
-use Rattle.opacity.proofs.Theorems.{opaque-iff, faulted-iff, opaque-iff-serial, fault-has-cause, harmless-never-first}
+use Rattle.opacity.proofs.Theorems.{opaque-iff, faulted-iff, opaque-iff-serial, cause-never-four}
 use Rattle.log.specs.Calls.{then_checked}
 use Rattle.scan.specs.declared.Scanning.{Scanning}
 use Rattle.scan.specs.Answer.{said, Passes, Passed, size_refusal, scan_refusal, decided, scan_answer, first_edition_answer}
-use Rattle.scan.proofs.AnswerLaws.{said-scanned, said-faulted, said-refused, passes, decided-refused, decided-scanned, scanned-e, refused-e, passed, passed-readable}
+use Rattle.scan.proofs.AnswerLaws.{said-scanned, said-refused, passes, decided-refused, decided-scanned, scanned-e, refused-e, passed, passed-readable}
 
 -- a call: edition, start values, columns and count
 module _ (edition : ℕ) (starts : List ℕ) (c : Columns) (count : ℕ) where
@@ -51,8 +47,7 @@ module _ (edition : ℕ) (starts : List ℕ) (c : Columns) (count : ℕ) where
 
   -- The answer is faulted at e exactly where the prefix that ends with e has no justification and every shorter one has; the cause is
   -- that of e's kind.
-  pub faulted-exactly : Passes edition starts c count → (e : ℕ) (w : Cause)
-      → (scan_answer edition starts c count ≡ Scanning.Scanned (Scanned.Faulted e w)) ↔ FaultsAt (start_of starts) (history c count) e w
+  pub faulted-exactly : Passes edition starts c count → (e w : ℕ) → (scan_answer edition starts c count ≡ Scanning.Scanned (Scanned.Faulted e w)) ↔ FaultsAt (start_of starts) (history c count) e w
   faulted-exactly x e w =
       let s = scanned-exactly x (Scanned.Faulted e w) in
       let f = faulted-iff (start_of starts) (history c count) (passed-readable edition starts c count x) e w in
@@ -77,7 +72,7 @@ module _ (edition : ℕ) (starts : List ℕ) (c : Columns) (count : ℕ) where
   )
 
   -- event e and its cause exactly where no question says no and the prefix that ends with e is the first without one,
-  pub faulted-said : (e : ℕ) (w : Cause) → (said (scan_answer edition starts c count) ≡ faulted e (cause_number w))
+  pub faulted-said : (e w : ℕ) → (said (scan_answer edition starts c count) ≡ faulted e w)
       ↔ (Passed edition starts c count × FaultsAt (start_of starts) (history c count) e w)
   unfolding scan_answer said
   faulted-said e w = (
@@ -88,23 +83,6 @@ module _ (edition : ℕ) (starts : List ℕ) (c : Columns) (count : ℕ) where
     λ f. ap said ((faulted-exactly (passes edition starts c count f.0) e w).1 f.1),
   )
 
-  -- an event, with one of the three causes, exactly where no question says no and it is the last of the first prefix without one,
-  pub named-said : (e : ℕ) → ((w : Cause) × (said (scan_answer edition starts c count) ≡ faulted e (cause_number w)))
-      ↔ (Passed edition starts c count × FirstWithout (Justified (start_of starts)) (history c count) e)
-  named-said e = (
-    λ n. let f = (faulted-said e n.0).0 n.1 in (f.0, f.1.ends),
-    λ f.
-        let w = fault-has-cause (start_of starts) (history c count) (passed-readable edition starts c count (passes edition starts c count f.0)) e f.1 in
-        (w.0, (faulted-said e w.0).1 (f.0, w.1)),
-  )
-
-  -- and so never a begin, a call, a returned write or a lone write,
-  pub harmless-never-named : (e w : ℕ) → said (scan_answer edition starts c count) ≡ faulted e w → is_harmless (event_at (history c count) e) ≡ true → ⊥
-  harmless-never-named e w x t =
-      let n = said-faulted _ e w x in
-      let f = (named-said e).0 (n.0, x ∙ ap (faulted e) (sym n.1)) in
-      harmless-never-first (start_of starts) (history c count) (passed-readable edition starts c count (passes edition starts c count f.0)) e t f.1
-
   -- and a question with its event exactly where it is the first that says no.
   pub refused-said : (q e : ℕ) → (said (scan_answer edition starts c count) ≡ at_event q e) ↔ (scan_refusal edition starts c count ≡ Checked.Refused (refuse q e))
   unfolding said
@@ -112,6 +90,13 @@ module _ (edition : ℕ) (starts : List ℕ) (c : Columns) (count : ℕ) where
     λ x. (refused-exactly (refuse q e)).0 (said-refused _ q e x),
     λ x. ap said ((refused-exactly (refuse q e)).1 x),
   )
+
+  -- Cause 4 never comes: a begin, a call, a returned write and a lone write leave a justification.
+  pub no-cause-four : (e : ℕ) → scan_answer edition starts c count ≡ Scanning.Scanned (Scanned.Faulted e 4) → ⊥
+  unfolding scan_answer
+  no-cause-four e x =
+      let s = scanned-e _ _ _ x in
+      cause-never-four (start_of starts) (history c count) (passed-readable edition starts c count s.0) e s.1
 
 -- What stands in the columns past the count makes no difference: columns that hold the same events below the count give the same answer.
 pub past-count : (edition : ℕ) (starts : List ℕ) (c d : Columns) (count : ℕ) → hold c count ≡ hold d count → history c count ≡ history d count

@@ -11,14 +11,14 @@ use Rattle.events.specs.Questions.{ask, readable_in}
 use Rattle.log.specs.Answer.{columns_answer, history_answer}
 use Rattle.opacity.specs.declared.verdict.Scanned.{Scanned}
 use Rattle.opacity.specs.Justification.{zeros}
-use Rattle.opacity.specs.Scan.{cause_number, scan}
+use Rattle.opacity.specs.Scan.{scan}
 use Rattle.log.specs.Calls.{asked_of, then_checked}
 use Rattle.scan.specs.declared.Scanning.{Scanning}
 
 -- what the scan of a history says: opaque, or the event with the cause
 abbrev pub scanned_said : Scanned → Said
 scanned_said Scanned.Opaque = done []
-scanned_said (Scanned.Faulted e c) = faulted e (cause_number c)
+scanned_said (Scanned.Faulted e w) = faulted e w
 
 -- what the scan says: opaque, or the event and the cause, or the question with its event
 unfoldable pub said : Scanning → Said

@@ -1,22 +1,21 @@
 // The scan: the prefixes of a history, by rising length, until one has no justification.
-ghost use Rattle.std.specs.Prelude.{◌≡◌, true, false, take};
-ghost use Rattle.std.proofs.Math.Option.{some};
-ghost use Rattle.lists.specs.Lists.{is_none};
+ghost use Rattle.std.specs.Prelude.{◌≡◌, true, take};
 ghost use Rattle.events.specs.Questions.{readable};
 ghost use Rattle.log.specs.Columns.{columns};
 ghost use Rattle.log.specs.Rows.{logged, Entered};
 ghost use Rattle.log.specs.Starts.{start_of};
-ghost use Rattle.opacity.specs.Scan.{scan, cause_of, cause_number, faulted_by};
+ghost use Rattle.opacity.specs.Scan.{scan, cause};
+ghost use Rattle.opacity.specs.declared.verdict.Scanned.TheVariants.{Faulted};
 ghost use Rattle.lowest.specs.Order.{Judged};
 ghost use Rattle.scan.specs.Answer.{scan_answer};
 ghost use Rattle.scan.specs.Logs.{scan_of, scan_after};
 
-use events::event::{Event, is_commit, is_quiet, is_read};
+use events::event::{Event, is_abort, is_begin, is_commit, is_quiet, is_read};
 use events::refusal::Refusal;
 use events::state::begun_after;
 use log::admit::{Checked, admit};
-use log::rows::{BLANK, BRIEF, MOST, Row, event_at, transactions_begun};
-use opacity::verdict::{Cause, Scanned};
+use log::rows::{BLANK, MOST, Row, SHORT, event_at, transactions_begun};
+use opacity::verdict::Scanned;
 use places::facts::SEARCHED;
 
 // The scan's answer: opaque, or the event and the cause; or the question that says no, with its event.
@@ -26,35 +25,28 @@ pub enum Scanning {
     Refused(Refusal),
 }
 
-// The number of a cause.
-pub fn cause_number(cause: Cause) -> u32
-    ensures { result ≡ cause_number cause }
-{
-    match cause {
-        Cause::Read => 1,
-        Cause::Committed => 2,
-        Cause::Aborted => 3,
-    }
-}
-
-// The cause of an event that has one.
-fn cause_of(e: Event) -> Cause
-    requires { is_none (cause_of e) ≡ false }
-    ensures { cause_of e ≡ some result }
+// The cause: 1 read returned or lone read, 2 committed, 3 aborted, 4 any other, a lone write among them.
+fn cause_of(e: Event) -> u32
+    ensures { result ≡ cause e }
 {
     if is_read(e) {
-        return Cause::Read;
+        return 1;
+    }
+    if is_begin(e) {
+        return 4;
     }
     if is_commit(e) {
-        return Cause::Committed;
+        return 2;
     }
-    Cause::Aborted
+    if is_abort(e) {
+        return 3;
+    }
+    4
 }
 
 // The answer where the prefix that ends with this event is the first without a justification.
 fn faulted(event: usize, e: Event) -> Scanned
-    requires { is_none (cause_of e) ≡ false }
-    ensures { result ≡ faulted_by event (cause_of e) }
+    ensures { result ≡ Faulted event (cause e) }
 {
     Scanned::Faulted {
         event,
@@ -64,8 +56,7 @@ fn faulted(event: usize, e: Event) -> Scanned
 
 // The prefixes of a log of at most ten transactions, by rising length: the facts grow by one event each time, and n counts the
 // transactions begun. The order that justifies a prefix is kept for the next where it justifies that too; only where it does not is an
-// order searched for anew. A begin, a call, a returned write or a lone write always keeps it, so that no search follows one and none is
-// the event that faults; a quiet event changes nothing here at all.
+// order searched for anew. A quiet event asks nothing of the order and changes none of these.
 fn scan_prefixes(starts: &[u32; 32], log: &[Row]) -> Scanned
     requires { Judged (logged log.now) }
     ensures { result ≡ scan (start_of starts.now) (logged log.now) }
@@ -88,9 +79,9 @@ fn scan_prefixes(starts: &[u32; 32], log: &[Row]) -> Scanned
         order = kept;
         if kept == 0 {
             order = lowest::complete(starts, s, &facts, n);
-            if order == 0 {
-                return faulted(i, e);
-            }
+        }
+        if order == 0 {
+            return faulted(i, e);
         }
         i = next;
     }
@@ -138,8 +129,8 @@ pub fn scan_history(
         (columns kinds.now transactions.now registers.now values.now
         threads.now) count }
 {
-    if count <= BRIEF {
-        let mut few = [BLANK; BRIEF];
+    if count <= SHORT {
+        let mut few = [BLANK; SHORT];
         let checked = admit(
             edition,
             starts,

@@ -2,20 +2,20 @@
 -- columns, file and lent buffer, and every count that its type holds.
 -- Assumes nothing.
 use mathlib.Core.Path.{◌≡◌, refl, sym, ap, subst, ◌∙◌}
-use mathlib.Core.Logic.{◌⊎◌, ⊎_elim}
+use mathlib.Core.Logic.{◌⊎◌, inl, inr, ⊎_elim}
 use Prim.Native.Nat.{ℕ, ◌≤◌, ◌<◌}
 use native.Mathlib.Omega.{arith}
-use mathlib.Core.Bool.{true, false}
-use mathlib.Core.List.{List, []}
+use mathlib.Core.Bool.{Bool, true, false, cond}
+use mathlib.Core.List.{List, [], ◌∷◌}
 use lib.Dec.{ltb}
 use lib.ListN.{length, take}
 use borrow.Author.Tests.{lt-ltb, le-ltb}
 use Rattle.events.specs.declared.event.Event.{Event}
 use Rattle.log.specs.declared.admit.Checked.{Checked}
 use Rattle.events.specs.declared.refusal.Refusal.{Refusal}
-use Rattle.events.specs.Said.{event_refused, byte_refused}
+use Rattle.events.specs.Said.{Said, event_refused, byte_refused}
 use Rattle.lists.specs.Lists.{◌or◌}
-use Rattle.events.specs.Events.{begins}
+use Rattle.events.specs.Events.{is_begin, is_read, is_commit, is_abort, begins}
 use Rattle.log.specs.Columns.{Columns, history}
 use Rattle.log.specs.Starts.{start_of}
 use Rattle.events.specs.Questions.{readable}
@@ -29,8 +29,7 @@ use Rattle.opacity.specs.declared.verdict.Scanned.{Scanned}
 use Rattle.opacity.specs.Transactions.{Status, committed, aborted, pending, live, store_reads}
 use Rattle.opacity.specs.Counts.{counts}
 use Rattle.opacity.specs.Marking.{Marking, verdict, rule_number, put_to, named_event, named_transaction}
-use Rattle.opacity.specs.declared.verdict.Cause.{Cause}
-use Rattle.opacity.specs.Scan.{cause_number}
+use Rattle.opacity.specs.Scan.{cause}
 use Rattle.opacity.proofs.Bounds.{at-most-64, transaction-low, reads-low}
 use Rattle.opacity.proofs.HowMany.{how-many-low}
 use Rattle.opacity.proofs.Meanings.{last-event-means, begin-of-means}
@@ -56,6 +55,9 @@ use Rattle.marking.specs.declared.check.Checking.{Checking}
 use Rattle.marking_reader.specs.File.{known, FileRead, content, refused, file_read}
 use Rattle.marking.specs.Answer.{ruled, after_columns, verdict_answer, verdict_said, said as check_said}
 use Rattle.marking_reader.proofs.ContentLaws.{content-readable}
+use Rattle.counts.specs.declared.Counting.{Counting}
+use Rattle.counts.specs.declared.Tallying.{Tallying}
+use Rattle.counts.specs.declared.tally.Tally.{Tally}
 use Rattle.counts.specs.Tally.{has_status, of_status, tally}
 use Rattle.counts.specs.Answer.{counted, transactions_answer, store_reads_answer, tallied, tally_answer, count_said, tally_said}
 use Rattle.straighten.specs.declared.Straightening.{Straightening}
@@ -71,7 +73,7 @@ use Rattle.notes.specs.Notes.{next_note, said as note_said}
 use Rattle.notes.proofs.NoteLaws.{next-is}
 use Rattle.sendoshi.specs.Calls.{AnswerFits}
 use Rattle.sendoshi.proofs.Numbers.{Asked, call-number, call-readable}
-use Rattle.sendoshi.proofs.Files.{read-limits}
+use Rattle.sendoshi.proofs.Files.{read-limits, MarkingNumber}
 use Rattle.sendoshi.proofs.Refusals.{read-refusal, write-refusal, find-refusal, scan-refusal, check-history, OfMarking, check-marking, straighten-refusal, straighten-marking}
 
 -- ---- refusals
@@ -176,10 +178,16 @@ module _ (edition : ℕ) (starts : List ℕ) (c : Columns) (count : ℕ) (small 
 
   -- ---- the scan
 
-  cause-within : (c : Cause) → Within 1 3 (cause_number c)
-  cause-within Cause.Read = record { least = omega arith; most = omega arith }
-  cause-within Cause.Committed = record { least = omega arith; most = omega arith }
-  cause-within Cause.Aborted = record { least = omega arith; most = omega arith }
+  its-cause : (e : Event) → Within 1 4 (cause e)
+  unfolding cause
+  its-cause e = go (is_read e) (is_begin e) (is_commit e) (is_abort e)
+    where
+      go : (r n c a : Bool) → Within 1 4 (cond r 1 (cond n 4 (cond c 2 (cond a 3 4))))
+      go true n c a = record { least = omega arith; most = omega arith }
+      go false true c a = record { least = omega arith; most = omega arith }
+      go false false true a = record { least = omega arith; most = omega arith }
+      go false false false true = record { least = omega arith; most = omega arith }
+      go false false false false = record { least = omega arith; most = omega arith }
 
   pub scan-decodable : Decodable no_value never (scan_said (scan_answer edition starts c count))
   unfolding scan_said scan_answer
@@ -190,7 +198,8 @@ module _ (edition : ℕ) (starts : List ℕ) (c : Columns) (count : ℕ) (small 
       go (Scanning.Scanned (Scanned.Faulted e k)) w =
           let p = (scanned-e _ _ _ w).0 in
           let f = (faulted-exactly edition starts c count p e k).0 w in
-          ((cause-within k, omega (arith, f.ends.inside, readable-most (history c count) (scan-readable edition starts c count p))), tt)
+          let x : Within 1 4 k = rw f.why (its-cause _) in
+          ((x, omega (arith, f.inside, readable-most (history c count) (scan-readable edition starts c count p))), tt)
       go (Scanning.Refused r) w = event-decodable small (scan-refusal edition starts c count r w) no_value (omega arith) (omega arith)
 
 -- ---- the checker

@@ -12,7 +12,7 @@ use lib.Dec.{eqb, ltb}
 use lib.ListN.{length, take}
 use lib.Pow.{pow-add, pow_mono}
 use borrow.Author.Tests.{eq-eqb, ne_eqb, ltb-true, lt-ltb}
-use Rattle.lists.specs.Lists.{◌or◌, ◌implies◌, is_none, all}
+use Rattle.lists.specs.Lists.{◌or◌, ◌implies◌, all}
 use Rattle.events.specs.declared.event.Event.{Event}
 use Rattle.events.specs.Events.{event_at, is_begin, is_read, is_commit, is_abort, is_end, begins}
 use Rattle.log.specs.Starts.{start_of}
@@ -24,12 +24,10 @@ use Rattle.opacity.specs.Justification.{Place, is_of, before, outcome, contents,
 use Rattle.opacity.specs.Lowest.{place}
 use Rattle.opacity.specs.Marking.{outcome_number}
 use Rattle.opacity.specs.Carry.{seen, carries, carried}
-use Rattle.opacity.specs.declared.verdict.Cause.{Cause}
-use Rattle.opacity.specs.Scan.{cause_of}
 use Rattle.opacity.proofs.Carry.{carried-justified}
-use Rattle.opacity.proofs.Harmless.{passes}
 use Rattle.places.specs.Facts.{written_of}
 use Rattle.places.specs.Places.{codes_of, coded, decode, plus, writes_in}
+use Rattle.places.specs.Tree.{Completion, Answers}
 use Rattle.places.proofs.StateLaws.{one_more}
 use Rattle.places.proofs.LookupLaws.{held, decode-snoc}
 use Rattle.tables.specs.Tables.{Tabled, tables_of}
@@ -38,7 +36,7 @@ use Rattle.tables.proofs.TableLaws.{take_more}
 use Rattle.lowest.proofs.GoodHistory.{good, tabled}
 use Rattle.lowest.proofs.LookupLink.{last-held, contents-held}
 use Rattle.lowest.proofs.JudgedLaws.{judged-prefix}
-use Rattle.witness.specs.Witness.{code_of, carried_code, kept, Carryable}
+use Rattle.witness.specs.Witness.{code_of, carried_code, kept, Carryable, Judges}
 
 -- ---- what a transaction reads
 
@@ -95,26 +93,16 @@ module _ (starts : List ℕ) (w : List (List ℕ)) (n order : ℕ) (e : Event) w
     unfolding kept carries carried_code is_end
     kept-other r t = rw (b, r, nor-l _ _ t, nor-r _ _ t)
 
-  -- an event without a cause always keeps an order
-  pub kept-harmless : (order ≡ 0 → ⊥) → cause_of e ≡ none → kept starts w n order e ≡ 0 → ⊥
-  unfolding kept carried_code
-  kept-harmless f c z = go (is_begin e) (rw (passes (start_of starts) (writes_in w) (decode (codes_of n order)) e c) at z)
-    where
-      go : (b : Bool) → cond b (order * 32 + code_of e) order ≡ 0 → ⊥
-      go true q = f (omega arith)
-      go false q = f q
-
-  -- so one that does not has a cause
-  pub lost-caused : (order ≡ 0 → ⊥) → kept starts w n order e ≡ 0 → is_none (cause_of e) ≡ false
-  lost-caused f z = go (cause_of e) refl
-    where
-      go : (o : Option Cause) → cause_of e ≡ o → is_none o ≡ false
-      go none c = absurd (kept-harmless f c z)
-      go (some c) q = refl
-
 -- there is room for one place more
 pub room-more : (n order : ℕ) → n < 10 → order < 2 ^ (n * 5 + 1) → order < 2 ^ 46
 room-more n order l h = let m : 2 ^ (n * 5 + 1) ≤ 2 ^ 46 = pow_mono {i = n * 5 + 1} {j = 46} (omega arith) in omega arith
+
+-- the order after an event: the one that was kept, or the answer of the search
+pub judged-kept : (kept n a : ℕ) (x : Completion) → (kept ≡ 0 → ⊥) → a ≡ kept → Judges kept n a x
+judged-kept kept n a x f e = record { stays = λ _. e; searched = λ z. absurd (f z) }
+
+pub judged-anew : (kept n a found : ℕ) (x : Completion) → kept ≡ 0 → a ≡ found → Answers n found x → Judges kept n a x
+judged-anew kept n a found x z e w = record { stays = λ f. absurd (f z); searched = λ _. rw e w }
 
 -- ---- the order, carried on
 
@@ -219,9 +207,9 @@ module _ (o : List ℕ) (h : List Event) (j : Judged h) (i : ℕ) (l : i < lengt
         go true q = (refl, q)
         go false q = absurd (some q)
 
-    justifies-it : carries (start_of o) (take i h) J e ≡ true
+    passes : carries (start_of o) (take i h) J e ≡ true
     unfolding carries
-    justifies-it =
+    passes =
         ap₂
         (λ (x y : ℕ).
         cond (is_begin e) (is_read e implies eqb x e.value)
@@ -231,7 +219,7 @@ module _ (o : List ℕ) (h : List Event) (j : Judged h) (i : ℕ) (l : i < lengt
         ∙ was-kept.0
 
     goes_on : Justified (start_of o) (take (i + 1) h) (carried J e)
-    goes_on = go J e same (unfold J in witness) justifies-it
+    goes_on = go J e same (unfold J in witness) passes
       where
         go : (K : List Place) (x : Event) → x ≡ event_at h i → Justified (start_of o) (take i h) K → carries (start_of o) (take i h) K x ≡ true → Justified (start_of o) (take (i + 1) h) (carried K x)
         go K x q w y = rw (add-one i, q) (carried-justified (start_of o) h j.readable i l K w (rw q at y))

@@ -9,6 +9,7 @@ use Rattle.opacity.specs.Marking.{outcome_number}
 use Rattle.opacity.specs.Carry.{carries}
 use Rattle.places.specs.Places.{codes_of, decode, writes_in}
 use Rattle.places.specs.State.{Ordered}
+use Rattle.places.specs.Tree.{Completion, Answers}
 
 -- the code of the place of a transaction that begins: its number times 2, plus the outcome that the event records
 abbrev pub code_of : Event → ℕ
@@ -30,3 +31,8 @@ pub record Carryable (n order : ℕ) (e : Event) : Type 0 where
   pub register : e.register < 32
   pub another : is_begin e ≡ true → n < 10
   pub known : is_begin e ≡ false → e.transaction < n
+
+-- the answer a is the order that was kept, or, where that is 0, the answer of the search
+pub record Judges (kept n a : ℕ) (x : Completion) : Type 0 where
+  pub stays : (kept ≡ 0 → ⊥) → a ≡ kept
+  pub searched : kept ≡ 0 → Answers n a x

@@ -14,7 +14,7 @@ use Rattle.opacity.specs.Transactions.{status, allows, precedes, last_write, own
 use Rattle.opacity.specs.Justification.{placed, before, outcome, written, contents, distinct, is_order, outcome_kept, preceded, legal_over, real_time_kept}
 use Rattle.opacity.specs.Lowest.{fits, lowest_place, continued, lowest_of}
 use Rattle.opacity.specs.Marking.{flat, marking_bytes, gap_of, place_of, marked, others, between, no_writer_between, value_at_gap, last_event, begin_of, rule_holds, broke, tries, verdict}
-use Rattle.opacity.specs.Scan.{cause_of, scan}
+use Rattle.opacity.specs.Scan.{cause, scan}
 use Rattle.opacity.specs.Store.{put}
 use Rattle.opacity.specs.Serial.{does, events_of, run, reads_right, after, runs_right}
 use Rattle.opacity.specs.Counts.{counts}
@@ -39,7 +39,7 @@ unfolding
     placed before outcome written contents distinct is_order outcome_kept preceded legal_over real_time_kept
     fits lowest_place continued lowest_of
     flat marking_bytes gap_of place_of marked others between no_writer_between value_at_gap last_event begin_of rule_holds broke
-    tries verdict cause_of scan put does events_of run reads_right after runs_right counts
+    tries verdict cause scan put does events_of run reads_right after runs_right counts
     of_status tally
     next_event every_placed has_point every_pointed head_questions record_questions end_questions body_step end_step step_at
     walk_marking opening file_read verdict_answer check_said

@@ -45,15 +45,11 @@ fn put_start(out: &mut [u8], at: usize, register: u16, value: u32)
     put_access(out, at + Record::FRAME, register, value);
 }
 
-// The start records, behind the head and up to `end`. Where that is the head's, there is none to look for.
-pub fn put_starts(starts: &[u32; 32], end: usize, out: &mut [u8])
-    requires end_value { end ≡ 6 + length (starts_to starts.now 32) }
-    requires end_in_bounds { end ≤ length out.old }
+// The start records, behind the head.
+pub fn put_starts(starts: &[u32; 32], out: &mut [u8])
+    requires { 6 + length (starts_to starts.now 32) ≤ length out.old }
     ensures { out.new ≡ placed out.old 6 (starts_to starts.now 32) }
 {
-    if end == Record::WHOLE_HEAD {
-        return;
-    }
     let mut at: usize = Record::WHOLE_HEAD;
     let mut r: usize = 0;
     while r < 32 {

@@ -81,7 +81,7 @@ pub fn scan(store: &Store, columns: &Columns, count: usize, coverage: &mut Cover
     let answer = same(Entry::Scan, got, entries::scan(store, columns, count), coverage);
     assert!(lent_store.holds(store), "scan changed its start values");
     assert!(lent.hold(columns), "scan changed its columns");
-    if matches!(answer.code, answer::DONE | 101..=103) {
+    if matches!(answer.code, answer::DONE | 101..=104) {
         let history = first_events(columns, count);
         stores::note(store, &history, answer, coverage);
         lone::note(store, &history, answer, coverage);

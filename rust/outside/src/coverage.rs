@@ -189,7 +189,7 @@ impl Coverage {
         assert!(missing.is_empty(), "{missing:?} was never met, but\n{self}");
     }
 
-    /// Fails if an entry has answered with a code that it has not: the scan with a fourth cause, say, or the straightener with rule D.
+    /// Fails if an entry has answered with a code that it has not: the scan with cause 4, say, or the straightener with rule D.
     pub fn allow(&self) {
         for met in self.met.keys() {
             if let &Met::Answered(entry, code) = met {
@@ -237,8 +237,8 @@ pub fn refusals(entry: Entry) -> Vec<u32> {
     [&COLUMNS[..], &own].concat()
 }
 
-/// The other codes that an entry can answer with. The scan has three causes: no event but a read, a commit or an abort can be the first
-/// to fault a history. Rule D is not among those of a straightened marking: nothing lies between a reader and a point at its place.
+/// The other codes that an entry can answer with. The scan's cause 4 is not among them: no readable history has it. Nor is rule D
+/// among those of a straightened marking: nothing lies between a reader and a point at its place.
 pub fn judgements(entry: Entry) -> &'static [u32] {
     match entry {
         Entry::Find | Entry::NextNote => &[0, 100],
@@ -300,18 +300,3 @@ pub const NOTED: [Noted; 10] = [
 ];
 
 pub const SEARCHED: [Searched; 3] = [Searched::Rising, Searched::NotRising, Searched::InVain];
-
-#[cfg(test)]
-mod tests {
-    use super::*;
-
-    #[test]
-    #[should_panic(expected = "Scan answered with 104")]
-    fn a_code_that_an_entry_has_not_is_not_allowed() {
-        let mut coverage = Coverage::default();
-        judgements(Entry::Scan).iter().for_each(|&code| coverage.note(Entry::Scan, code));
-        coverage.allow();
-        coverage.note(Entry::Scan, 104);
-        coverage.allow();
-    }
-}

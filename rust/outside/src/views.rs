@@ -1,7 +1,7 @@
 //! A log as the library and plain Rust are lent it, and what plain Rust says of it.
 
 use crate::lent::lent_count;
-use plain::{After, Refusal, Scanned};
+use plain::{Refusal, Scanned};
 use reference::event::Columns;
 use reference::justification::{Outcome, Place};
 use reference::log::Log;
@@ -82,11 +82,6 @@ impl Views {
     /// What plain Rust says, by one of its ways to scan.
     pub fn scan_by(&self, scanner: Scanner) -> Answer {
         scan_answer(scanner(self.plain_store(), self.plain(), self.count()))
-    }
-
-    /// What plain Rust says that carries no order and searches after these events.
-    pub fn scan_searching(&self, after: After) -> Answer {
-        scan_answer(plain::scan_searching(after, self.plain_store(), self.plain(), self.count()))
     }
 }
 

@@ -10,7 +10,7 @@ use outside::simulate::{simulate, Faults, Plan};
 use outside::stores::random_store;
 use outside::straight;
 use outside::views::Views;
-use plain::{After, Straightened, Verdict};
+use plain::{Straightened, Verdict};
 use reference::event::Columns as Held;
 use reference::log::Log;
 use reference::marking_file::Marking;
@@ -30,9 +30,6 @@ fn the_library_says_what_plain_rust_says() {
         let by_trying = views.scan_by(plain::scan_by_trying);
         assert_eq!(history.scan().unwrap(), scan_of(by_trying));
         assert_eq!(views.scan_by(plain::scan), by_trying, "plain Rust in the library's way");
-        for after in [After::Every, After::CanFault] {
-            assert_eq!(views.scan_searching(after), by_trying, "plain Rust with a search after {after:?}");
-        }
         for prefix in [events.len(), random.below(events.len() + 1)] {
             let found = views.find_by(plain::find_by_trying, prefix);
             assert_eq!(history.lowest_marking(prefix).unwrap(), found, "prefix {prefix}");
@@ -174,7 +171,7 @@ fn scan_of(answer: Answer) -> Scan {
     match answer.code {
         0 => Scan::Opaque,
         code => {
-            let causes = [Cause::ReadReturned, Cause::Committed, Cause::Aborted];
+            let causes = [Cause::ReadReturned, Cause::Committed, Cause::Aborted, Cause::Other];
             Scan::Faulted { event: answer.place as usize, cause: causes[code as usize - 101] }
         }
     }

@@ -15,7 +15,6 @@ use outside::shapes::marking_size;
 use outside::stores::random_store;
 use outside::tables_by_force::Tables;
 use outside::views::{lowest_order, Views};
-use plain::After;
 use reference::entries;
 use reference::event::*;
 use reference::justification::Place;
@@ -217,8 +216,6 @@ fn judged_in_every_way(digest: &Digest, log: &Log) {
     assert_eq!(views.scan(), scanned, "{log:?}, a history of {digest}");
     assert_eq!(views.find_by(plain::find, count), found, "plain Rust on {log:?}, a history of {digest}");
     assert_eq!(views.scan_by(plain::scan), scanned, "plain Rust on {log:?}, a history of {digest}");
-    // Trying searches after every event, and finds none at fault that was passed over here.
-    assert_eq!(views.scan_searching(After::CanFault), scanned, "after events that can fault, {log:?}, a history of {digest}");
 }
 
 /// The same without trying alone.

@@ -2,7 +2,6 @@
 //! tally, the checker and the straightening; for the finder and the scan the library's way of searching, a witness that is
 //! carried and a question before each walk, and beside it the plainest depth-first search (`.._by_trying`). The benchmarks
 //! compare the library with both, and the tests use the second where histories are too large for the brute force of `reference`.
-//! A scan that carries no witness and searches in the library's way (`scan_searching`) shows what events that cannot fault save.
 //!
 //! Answers, refusals and what happens to lent buffers are the library's.
 
@@ -26,10 +25,7 @@ pub use columns::{Columns, Refusal};
 pub use find::{find, find_by_trying, find_placements, find_placements_by_trying};
 pub use history_file::{read, write};
 pub use notes::{next_note, Note};
-pub use scan::{
-    scan, scan_by_trying, scan_by_trying_counting, scan_counting, scan_searching, scan_searching_counting, After, Counted,
-    Scanned,
-};
+pub use scan::{scan, scan_by_trying, scan_by_trying_counting, scan_counting, Counted, Scanned};
 pub use store::Store;
 pub use straighten::{straighten, Straightened};
 pub use tally::{tally, Tally};

@@ -1,7 +1,7 @@
 //! The scan.
 
 use crate::columns::*;
-use crate::search::{lowest, lowest_by_trying_so_often, Contents, Found, Place};
+use crate::search::{lowest, lowest_by_trying_so_often, Place};
 use crate::store::Store;
 use crate::tables::{Tables, MOST};
 
@@ -49,68 +49,19 @@ pub fn scan_counting(store: Store, columns: Columns, count: usize) -> Result<Cou
 
 /// The same with a search for every prefix, by trying alone.
 pub fn scan_by_trying(store: Store, columns: Columns, count: usize) -> Result<Scanned, Refusal> {
-    finished(scan_by_trying_counting(store, columns, count, u64::MAX))
+    Ok(scan_by_trying_counting(store, columns, count, u64::MAX)?.expect("so many are never placed").scanned)
 }
 
 /// The same, counted, or nothing where `most` are placed.
 pub fn scan_by_trying_counting(store: Store, columns: Columns, count: usize, most: u64) -> Result<Option<Counted>, Refusal> {
-    scan_by(lowest_by_trying_so_often, After::Every, store, columns, count, most)
-}
-
-/// After which events a scan that carries no order searches.
-#[derive(Clone, Copy, Debug, PartialEq, Eq)]
-pub enum After {
-    Every,
-    /// Those that can be the first to fault a history.
-    CanFault,
-}
-
-impl After {
-    fn includes(self, kind: u16) -> bool {
-        self == After::Every || cause(kind).is_some()
-    }
-}
-
-/// The same with a search after each of these events, in the library's way.
-pub fn scan_searching(after: After, store: Store, columns: Columns, count: usize) -> Result<Scanned, Refusal> {
-    finished(scan_searching_counting(after, store, columns, count, u64::MAX))
-}
-
-/// The same, counted, or nothing where the searches together place `most`.
-pub fn scan_searching_counting(
-    after: After,
-    store: Store,
-    columns: Columns,
-    count: usize,
-    most: u64,
-) -> Result<Option<Counted>, Refusal> {
-    scan_by(|starts, tables, _| lowest(starts, tables), after, store, columns, count, most)
-}
-
-fn finished(counted: Result<Option<Counted>, Refusal>) -> Result<Scanned, Refusal> {
-    Ok(counted?.expect("so many are never placed").scanned)
-}
-
-/// Judges the prefixes without an order that is carried: searches after each of these events, and is told how many may still be placed.
-fn scan_by(
-    search: impl Fn(&Contents, &Tables, u64) -> Found,
-    after: After,
-    store: Store,
-    columns: Columns,
-    count: usize,
-    most: u64,
-) -> Result<Option<Counted>, Refusal> {
     admit(store, columns, count)?;
     let mut tables = Tables::new();
     let (mut searches, mut placements) = (0, 0);
     for (at, event) in columns.threadless(count).enumerate() {
         tables.add(at, event);
-        if !after.includes(event.kind) {
-            continue;
-        }
-        let found = search(store.starts, &tables, most - placements);
+        let found = lowest_by_trying_so_often(store.starts, &tables, most - placements);
         (searches, placements) = (searches + 1, placements + found.placements);
-        if placements >= most {
+        if placements == most {
             return Ok(None);
         }
         if found.order.is_none() {
@@ -129,18 +80,13 @@ fn admit(store: Store, columns: Columns, count: usize) -> Result<(), Refusal> {
 }
 
 fn faulted(at: usize, event: Event) -> Scanned {
-    Scanned::Faulted(at, cause(event.kind).expect("an event that can fault"))
-}
-
-/// The cause of a fault at such an event. A begin, a call, a returned write and a lone write cannot be the first to fault a history: what
-/// justifies it before them, with a new transaction put last, justifies it with them.
-fn cause(kind: u16) -> Option<u8> {
-    match kind {
-        READ_RETURNED | LONE_READ => Some(1),
-        COMMITTED => Some(2),
-        ABORTED => Some(3),
-        _ => None,
-    }
+    let cause = match event.kind {
+        READ_RETURNED | LONE_READ => 1,
+        COMMITTED => 2,
+        ABORTED => 3,
+        _ => 4,
+    };
+    Scanned::Faulted(at, cause)
 }
 
 /// Carries an order that justifies the events in the tables on to this one. Does it justify it too?

@@ -29,24 +29,22 @@ pub fn scan(store: &Store, history: &[Event]) -> Scanned {
         None => Scanned::Opaque,
         Some(length) => {
             let event = length - 1; // the empty prefix has the empty justification
-            Scanned::Faulted { event, cause: cause(&history[event]) }
+            Scanned::Faulted { event, cause: cause(history[event].kind) }
         }
     }
 }
 
-/// The number of the cause. Events of other kinds have none, since they cannot be the first to fault a history: one that is, whatever it
-/// shows to be wrong, is told.
-fn cause(fault: &Event) -> u8 {
-    match fault.kind {
+fn cause(kind: u16) -> u8 {
+    match kind {
         READ_RETURNED | LONE_READ => 1,
         COMMITTED => 2,
         ABORTED => 3,
-        kind => panic!("the first event to fault a history is of kind {kind}, which none can be: {fault:?}"),
+        _ => 4,
     }
 }
 
 /// All of them: every order is tried with every outcome that the history allows.
-pub fn justifications<'a>(store: &'a Store, history: &'a [Event]) -> impl Iterator<Item = Vec<Place>> + 'a {
+fn justifications<'a>(store: &'a Store, history: &'a [Event]) -> impl Iterator<Item = Vec<Place>> + 'a {
     let allowed = |outcomes: &Vec<Outcome>| {
         let mut places = (0..).zip(outcomes).map(|(transaction, &outcome)| Place { transaction, outcome });
         places.all(|place| is_allowed(history, place))

@@ -1,17 +1,14 @@
 //! The captures under `examples/captures`: the bytes of each, the report on it, and the notes in it. With SENDOSHI_WRITE_CAPTURES set, the
 //! test writes the files instead of comparing them.
 
-use reference::event::*;
+use reference::event::{BEGIN, LONE_READ};
 use reference::history_file::{self, start_record};
-use reference::judgement::{scan, Scanned};
 use reference::justification::Outcome::{Aborted, Committed};
 use reference::log::Log;
 use reference::notes::{note_record, notes, without_notes, Note};
-use reference::reads::transactions;
 use reference::record::{record, records_from};
 use reference::report::{counted, report, tallied};
 use reference::worked::{h0_marking, marking};
-use std::collections::BTreeMap;
 use std::path::PathBuf;
 use std::{env, fs};
 
@@ -426,18 +423,10 @@ fn captures() -> Vec<Capture> {
     ]
 }
 
-/// Every folder, by its name.
-fn folders() -> Vec<PathBuf> {
-    let mut folders: Vec<PathBuf> = fs::read_dir(top()).unwrap().map(|entry| entry.unwrap().path()).collect();
-    folders.retain(|path| path.is_dir());
-    folders.sort();
-    folders
-}
-
-/// Also those whose orders are too many for the brute force: what is counted in the events.
+/// Every folder, also those whose orders are too many for the brute force: what is counted in the events.
 #[test]
 fn reports_count_what_the_events_say() {
-    for folder in folders() {
+    for folder in fs::read_dir(top()).unwrap().map(|entry| entry.unwrap().path()).filter(|path| path.is_dir()) {
         let history = history_file::read(&fs::read(folder.join("capture.hst")).unwrap_or_default());
         let expected = match history {
             Ok((_, events)) => counted(&events) + &tallied(&events),
@@ -446,25 +435,6 @@ fn reports_count_what_the_events_say() {
         let report = fs::read_to_string(folder.join("report.txt")).unwrap();
         assert!(report.starts_with(&expected), "{}: the report begins\n{expected}", folder.display());
     }
-}
-
-/// All of the report where the brute force can judge the events, and what the events are at which captures are faulted: one of each kind
-/// that can be the first to fault a history is among them, with its cause.
-#[test]
-fn captures_are_faulted_in_every_way() {
-    let mut faults: BTreeMap<(u16, u8), Vec<PathBuf>> = BTreeMap::new();
-    for folder in folders() {
-        let file = |name| fs::read(folder.join(name)).unwrap_or_default();
-        let history = history_file::read(&file("capture.hst"));
-        let Some((store, events)) = history.ok().filter(|(_, events)| transactions(events) <= 5) else { continue };
-        let printed = report(&file("capture.hst"), &file("capture.mrk"));
-        assert_eq!(printed, fs::read_to_string(folder.join("report.txt")).unwrap(), "{}", folder.display());
-        if let Scanned::Faulted { event, cause } = scan(&store, &events) {
-            faults.entry((events[event].kind, cause)).or_default().push(folder);
-        }
-    }
-    let expected = [(READ_RETURNED, 1), (COMMITTED, 2), (ABORTED, 3), (LONE_READ, 1)];
-    assert_eq!(faults.keys().copied().collect::<Vec<_>>(), expected, "{faults:?}");
 }
 
 #[test]

@@ -1,15 +1,13 @@
 //! A lone access is judged as the transaction of five events that it stands for, begin, call, return, commit called and committed, with
 //! nothing between them. Random histories are compared with the same ones written out so.
 
-mod random;
-
-use random::{random_history, random_start, Random};
 use reference::entries;
 use reference::event::*;
 use reference::judgement::{is_justified, lowest, scan, Scanned};
 use reference::justification::{Outcome, Place};
 use reference::log::Log;
 use reference::marking_file::{Marking, Point};
+use reference::questions::{begins, ended, pending};
 use reference::reads::{store_reads, transactions};
 use reference::rules::{verdict, Rule, Verdict};
 use reference::straighten::{moved, straighten};
@@ -18,8 +16,74 @@ use std::collections::BTreeMap;
 
 const ROUNDS: u64 = 20_000;
 
-fn some_history(random: &mut Random) -> Log {
-    random_history(random_start(random), random)
+/// The public splitmix64 generator.
+struct Random(u64);
+
+impl Random {
+    fn below(&mut self, bound: usize) -> usize {
+        self.0 = self.0.wrapping_add(0x9e37_79b9_7f4a_7c15);
+        let word = (self.0 ^ (self.0 >> 30)).wrapping_mul(0xbf58_476d_1ce4_e5b9);
+        let word = (word ^ (word >> 27)).wrapping_mul(0x94d0_49bb_1331_11eb);
+        ((word ^ (word >> 31)) % bound as u64) as usize
+    }
+}
+
+/// A readable history of up to five transactions on three threads and two registers.
+fn random_history(random: &mut Random) -> Log {
+    let starts = [(0, random.below(3) as u32), (1, random.below(3) as u32)];
+    let steps = 4 + random.below(36);
+    (0..steps).fold(Log::starting(&starts), |log, _| {
+        let thread = random.below(3) as u16;
+        let last = log.events.iter().rev().find(|e| e.is_begin() && e.thread == thread).map(|e| e.transaction);
+        match last.filter(|&t| !ended(&log.events, t)) {
+            Some(transaction) => continued(log, transaction, random),
+            None if begins(&log.events) < 5 => begun(log, thread, random),
+            None => log,
+        }
+    })
+}
+
+fn begun(log: Log, thread: u16, random: &mut Random) -> Log {
+    let register = random.below(2) as u16;
+    match random.below(4) {
+        0 => read(&log, register, random, |log, value| log.lone_read(thread, register, value)),
+        1 => log.lone_write(thread, register, random.below(4) as u32),
+        _ => log.begin(thread),
+    }
+}
+
+fn continued(log: Log, transaction: u16, random: &mut Random) -> Log {
+    let (register, value) = (random.below(2) as u16, random.below(4) as u32);
+    let Some(call) = pending(&log.events, transaction) else {
+        return match random.below(16) {
+            0..=5 => log.read_called(transaction, register),
+            6..=10 => log.write_called(transaction, register, value),
+            11..=14 => log.commit_called(transaction),
+            _ => log.aborted(transaction),
+        };
+    };
+    match call.kind {
+        _ if random.below(16) == 0 => log.aborted(transaction),
+        COMMIT_CALLED if random.below(2) == 0 => log, // commits wait, for others to read from them
+        READ_CALLED => read(&log, call.register, random, |log, value| log.read_returned(transaction, value)),
+        WRITE_CALLED => log.write_returned(transaction),
+        _ if random.below(4) == 0 => log.aborted(transaction),
+        _ => log.committed(transaction),
+    }
+}
+
+/// The history with a read of what somebody wrote to the register or of what it started with. Mostly, that leaves it justified.
+fn read(log: &Log, register: u16, random: &mut Random, with: impl Fn(Log, u32) -> Log) -> Log {
+    let writes = log.events.iter().filter(|e| e.is_write() && e.register == register).map(|e| e.value);
+    let values: Vec<u32> = writes.chain([log.store.start(register)]).collect();
+    let mut any = || with(log.clone(), values[random.below(values.len())]);
+    for _ in 0..2 {
+        let longer = any();
+        if is_justified(&longer.store, &longer.events) {
+            return longer;
+        }
+    }
+    any()
 }
 
 /// A history without lone accesses, and where each event of the first one begins in it.
@@ -81,7 +145,7 @@ impl Met {
 fn histories_are_judged_as_written_out() {
     let mut met = Met::default();
     for seed in 0..ROUNDS {
-        let lone = some_history(&mut Random(seed));
+        let lone = random_history(&mut Random(seed));
         let expanded = Expanded::of(&lone);
         assert!(entries::history(&lone.store, &Columns::of(&lone.events), lone.events.len()).is_ok(), "seed {seed}");
         let written = &expanded.log.events;
@@ -112,7 +176,7 @@ fn histories_are_judged_as_written_out() {
 #[test]
 fn prefixes_are_justified_as_written_out() {
     for seed in 0..ROUNDS / 4 {
-        let lone = some_history(&mut Random(seed));
+        let lone = random_history(&mut Random(seed));
         let expanded = Expanded::of(&lone);
         for length in 0..=lone.events.len() {
             let (prefix, written) = (&lone.events[..length], expanded.prefix(length));
@@ -168,7 +232,7 @@ fn markings_are_checked_as_written_out() {
     let mut met = Met::default();
     for seed in 0..ROUNDS / 4 {
         let random = &mut Random(seed);
-        let lone = some_history(random);
+        let lone = random_history(random);
         let expanded = Expanded::of(&lone);
         let (store, events, written) = (&lone.store, &lone.events, &expanded.log.events);
         let moved_there = |event: u32| expanded.read(&lone, event as usize) as u32;

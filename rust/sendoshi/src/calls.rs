@@ -108,7 +108,7 @@ pub fn find(store: Store, columns: Columns, count: u32, prefix: u32, output: &mu
     with_store!(sendoshi_find, store, columns, count, prefix, output.as_mut_ptr(), output.len())
 }
 
-/// Judges every prefix of the first `count` events. Code 0: opaque; codes 101 to 103: the first fault, by its cause.
+/// Judges every prefix of the first `count` events. Code 0: opaque; codes 101 to 104: the first fault.
 pub fn scan(store: Store, columns: Columns, count: u32) -> Answer {
     with_store!(sendoshi_scan, store, columns, count)
 }

@@ -1,4 +1,4 @@
-//! The library's functions as version 6 of `include/sendoshi.h` declares them. A slice is passed as a pointer and a length, the 32
+//! The library's functions as version 5 of `include/sendoshi.h` declares them. A slice is passed as a pointer and a length, the 32
 //! start values and the three numbers of a note as one pointer each.
 //!
 //! Each answers code × 2^32 + place. They have no condition on numbers or contents. What they cannot test, and a caller must see

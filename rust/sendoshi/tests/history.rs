@@ -261,38 +261,6 @@ fn calls_refuse_other_editions() {
     assert_eq!(calls::scan(Store { edition: 2, starts: &starts }, history.columns(), 10), Answer { code: 101, place: 5 });
 }
 
-/// T0 and T1 have both read 0 and written over it when T0 commits: T1 may then only be aborted.
-#[test]
-fn a_commit_and_an_abort_are_causes() {
-    let ended = |kind| {
-        let history = History::from_columns(Columns {
-            kinds: &[16, 17, 18, 16, 17, 18, 19, 20, 19, 20, 21, 22, 21, kind],
-            transactions: &[0, 0, 0, 1, 1, 1, 0, 0, 1, 1, 0, 0, 1, 1],
-            registers: &[0; 14],
-            values: &[0, 0, 0, 0, 0, 0, 1, 0, 2, 0, 0, 0, 0, 0],
-            threads: &[0, 0, 0, 1, 0, 0, 0, 0, 0, 0, 0, 0, 0, 0],
-        });
-        history.unwrap().scan().unwrap()
-    };
-    assert_eq!(ended(23), Scan::Opaque);
-    assert_eq!(ended(22), Scan::Faulted { event: 13, cause: Cause::Committed });
-    assert_eq!(ended(22).to_string(), "opaque no event 13 cause 2");
-    // T0 has called commit when a display task reads what it wrote, and is then aborted.
-    let history = History::with_starts(
-        [0; 32],
-        Columns {
-            kinds: &[16, 19, 20, 21, 24, 23],
-            transactions: &[0, 0, 0, 0, 1, 0],
-            registers: &[0; 6],
-            values: &[0, 5, 0, 0, 5, 0],
-            threads: &[0, 0, 0, 0, 1, 0],
-        },
-    );
-    let scan = history.unwrap().scan().unwrap();
-    assert_eq!(scan, Scan::Faulted { event: 5, cause: Cause::Aborted });
-    assert_eq!(scan.to_string(), "opaque no event 5 cause 3");
-}
-
 /// T0 has written 7 to register 3, which started with 9, and called commit. A display task on thread 1 reads register 3 twice, and a
 /// task on thread 2 writes 5 there.
 fn displayed(first: u32, second: u32) -> History {

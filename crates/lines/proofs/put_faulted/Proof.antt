@@ -12,14 +12,13 @@ unfolding faulted_line
 returns c =
     let feed = c.before.before in
     let why = feed.before.before.before.before.before in
-    let number = why.before in
-    let place = number.before.before.before.before.before in
+    let place = why.before.before.before.before.before in
     put_then (omega arith)
-    (put_then (omega arith) place.put-field.ensures (rw number.cause-number.ensures at why.put-field2.ensures))
+    (put_then (omega arith) place.put-field.ensures why.put-field2.ensures)
     feed.put-text.ensures
 
 pub put_faulted_spec : {M : Type 1} → statement M
 put_faulted_spec =
     tie.close
-    (tie.spec (λ c. search rules) (λ c κs. search rules) (λ c. search rules) (λ c κs. search rules) (λ c. search rules)
-    (λ c κs. search rules) (λ c. search rules) (λ c κs. search rules) (λ c. search rules) returns)
+    (tie.spec (λ c. search rules) (λ c κs. search rules) (λ c. search rules) (λ c κs. search rules)
+    (λ c. search rules) (λ c κs. search rules) (λ c. search rules) returns)

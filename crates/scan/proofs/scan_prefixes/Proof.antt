@@ -2,6 +2,7 @@
 use borrow.Author.Rules.{rules}
 use Prim.Native.Nat.{◌<◌, ◌-◌}
 use mathlib.Core.Path.{sym, ◌∙◌}
+use mathlib.Core.Logic.{⊎_elim}
 use mathlib.Core.List.{List}
 use native.Mathlib.Omega.{arith}
 use lib.ListN.{length}
@@ -10,7 +11,8 @@ use Rattle.log.specs.Rows.{logged}
 use Rattle.log.proofs.RowLaws.{logged-length}
 use Rattle.tables.specs.Tables.{Tables, tables_by}
 use Rattle.lowest.proofs.GoodHistory.{tabled}
-use Rattle.scan.proofs.ScanLaws.{Scanning, scanning-none, few-before, may-carry, few-begun, end-asked, scanning-kept, scanning-anew, scanning-quiet, scanning-fault, lost, scanning-end}
+use Rattle.witness.proofs.WitnessLaws.{judged-kept, judged-anew}
+use Rattle.scan.proofs.ScanLaws.{Scanning, scanning-none, few-before, may-carry, few-begun, end-asked, scanning-more, scanning-quiet, scanning-fault, scanning-end}
 use Rattle.scan.proofs.scan_prefixes.Statement.{statement}
 use Rattle.scan.proofs.scan_prefixes.Tie as tie
 
@@ -77,10 +79,6 @@ begun-after-requires c κs =
     few-before s.args.starts.now (given s) s.pre l.loop.i (inside a) a.event-at.result a.event-at.ensures (tables-at l) l.loop.n l.loop.order l.loop.inv in
     λ b. omega arith
 
--- the order was not kept, and is searched for
-abbrev counted : tie.After-complete invariant-loop decreases-loop → tie.After-begun-after invariant-loop decreases-loop
-counted a = a.before.before.before
-
 complete-requires : tie.Need-complete-requires invariant-loop decreases-loop
 complete-requires c κs =
     let n = c.before.before in
@@ -93,55 +91,40 @@ complete-requires c κs =
           _ n.begun-after.result n.before.step.ensures n.begun-after.ensures,
     )
 
-faulted-requires : tie.Need-faulted-requires invariant-loop decreases-loop
-faulted-requires c κs =
-    let k = carried (counted c.before).before in
-    let a = event-read k in
-    let l = turn a in
-    let s = entered l in
-    lost s.args.starts.now (given s) s.pre l.loop.i (inside a) a.event-at.result a.event-at.ensures (tables-at l) l.loop.n l.loop.order l.loop.inv
-    k.carry.result k.carry.ensures c.before.before.before.if2.true
-
 returns : tie.Need-returns invariant-loop decreases-loop
 returns c =
     let q = c.before.before in
-    let n = counted q in
-    let a = event-read (carried n.before) in
-    let l = turn a in
-    let s = entered l in
-    c.faulted.ensures
-    ∙ scanning-fault s.args.starts.now (given s) s.pre l.loop.i (inside a) a.event-at.result a.event-at.ensures (tables-at l) l.loop.n l.loop.order l.loop.inv
-    _ n.begun-after.result n.before.step.ensures n.begun-after.ensures q.complete.result q.complete.ensures c.before.if3.true
-
-loop-again-2 : tie.Need-loop-preserved-2 invariant-loop decreases-loop
-loop-again-2 c =
-    let q = c.before in
-    let n = counted q in
-    let a = event-read (carried n.before) in
-    let l = turn a in
-    let s = entered l in
-    scanning-anew s.args.starts.now (given s) s.pre l.loop.i (inside a) a.event-at.result a.event-at.ensures (tables-at l) l.loop.n l.loop.order l.loop.inv
-    _ n.begun-after.result n.before.step.ensures n.begun-after.ensures q.complete.result q.complete.ensures c.if3.false
-
-loop-again-3 : tie.Need-loop-preserved-3 invariant-loop decreases-loop
-loop-again-3 c =
-    let n = c.before in
+    let n = q.before in
     let k = carried n.before in
     let a = event-read k in
     let l = turn a in
     let s = entered l in
-    scanning-kept s.args.starts.now (given s) s.pre l.loop.i (inside a) a.event-at.result a.event-at.ensures (tables-at l) l.loop.n l.loop.order l.loop.inv
-    _ n.begun-after.result n.before.step.ensures n.begun-after.ensures k.carry.result k.carry.ensures c.if2.false
+    c.faulted.ensures
+    ∙ scanning-fault s.args.starts.now (given s) s.pre l.loop.i (inside a) a.event-at.result a.event-at.ensures (tables-at l) l.loop.n l.loop.order l.loop.inv
+    _ n.begun-after.result n.before.step.ensures n.begun-after.ensures k.carry.result q.if2.order k.carry.ensures
+    (⊎_elim (λ w. judged-anew _ _ _ _ _ w.0.taken w.3 w.2.ensures) (λ w. judged-kept _ _ _ _ w.0.left w.1) q.if2.branch) c.before.if3.true
+
+loop-again-2 : tie.Need-loop-preserved-2 invariant-loop decreases-loop
+loop-again-2 c =
+    let q = c.before in
+    let n = q.before in
+    let k = carried n.before in
+    let a = event-read k in
+    let l = turn a in
+    let s = entered l in
+    scanning-more s.args.starts.now (given s) s.pre l.loop.i (inside a) a.event-at.result a.event-at.ensures (tables-at l) l.loop.n l.loop.order l.loop.inv
+    _ n.begun-after.result n.before.step.ensures n.begun-after.ensures k.carry.result q.if2.order k.carry.ensures
+    (⊎_elim (λ w. judged-anew _ _ _ _ _ w.0.taken w.3 w.2.ensures) (λ w. judged-kept _ _ _ _ w.0.left w.1) q.if2.branch) c.if3.false
 
 returns-2 : tie.Need-returns-2 invariant-loop decreases-loop
 returns-2 c =
     let l = c.before in
     let s = entered l in
-    scanning-end s.args.starts.now (given s) s.pre l.loop.i (tables-at l) l.loop.n l.loop.order (omega (arith, c.loop-test.false, logged-length s.args.log.now)) l.loop.invariant
+    scanning-end s.args.starts.now (given s) l.loop.i (tables-at l) l.loop.n l.loop.order (omega (arith, c.loop-test.false, logged-length s.args.log.now)) l.loop.invariant
 
 pub scan_prefixes_spec : {M : Type 1} → statement M
 scan_prefixes_spec =
     tie.close
     (tie.spec invariant-loop decreases-loop (λ c κs. search rules) loop-holds (λ c κs. search rules) (λ c. search rules) (λ c κs. search rules)
-    (λ c. search rules) loop-again carry-requires step-requires begun-after-requires complete-requires faulted-requires returns
-    (λ c. search rules) loop-again-2 (λ c. search rules) loop-again-3 returns-2)
+    (λ c. search rules) loop-again carry-requires step-requires begun-after-requires complete-requires (λ c κs. search rules) returns
+    (λ c. search rules) loop-again-2 returns-2)

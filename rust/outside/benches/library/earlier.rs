@@ -43,7 +43,7 @@ macro_rules! call {
     };
 }
 
-/// The two calls, as versions 2 and 3 declare them, and with the column of threads, as versions 4 to 6 do.
+/// The two calls, as versions 2 and 3 declare them, and with the column of threads, as version 4 does.
 type Scan = call!(usize);
 type ScanThreads = call!(*const u16, usize, usize);
 type Find = call!(usize, usize, *mut u8, usize);

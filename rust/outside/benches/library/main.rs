@@ -4,7 +4,6 @@
 
 mod clock;
 mod earlier;
-mod faults;
 mod files;
 mod growth;
 mod hard;
@@ -34,7 +33,6 @@ fn main() {
     judged::print();
     hard::print();
     hard::print_by_trying(quick);
-    faults::print(quick);
     growth::print();
     if let Some(path) = std::env::var_os("SENDOSHI_EARLIER") {
         earlier::print(&path, quick);

@@ -4,7 +4,7 @@ use crate::earlier::{Earlier, EarlierColumns};
 use crate::measure::{measure, Measured};
 use outside::lent::lent_count;
 use outside::views::{find_answer, scan_answer};
-use plain::{After, Scanned, Straightened, Tally, Verdict};
+use plain::{Scanned, Straightened, Tally, Verdict};
 use reference::event::{Columns as Held, Event, BEGIN};
 use reference::history_file;
 use reference::log::Log;
@@ -42,12 +42,7 @@ impl Capture {
         }
     }
 
-    /// The number of events.
-    pub fn count(&self) -> usize {
-        self.count
-    }
-
-    /// The same as the library takes it.
+    /// The number of events, as the library takes it.
     fn lent_count(&self) -> u32 {
         lent_count(self.count)
     }
@@ -155,18 +150,6 @@ impl Capture {
         let library = || calls::scan(self.store(), black_box(self.library()), self.lent_count());
         assert_eq!(library(), other());
         measure(library, other)
-    }
-
-    /// The scan by plain Rust that carries no order: with a search after every event, and after those that can fault alone. How many
-    /// searches each makes, and the second measured by the first, unless the first places so many.
-    pub fn scan_searching(&self, most: u64) -> Option<([u64; 2], Measured)> {
-        let scan = |after| plain::scan_searching(after, self.plain_store(), black_box(self.plain()), self.count);
-        let counted = |after| plain::scan_searching_counting(after, self.plain_store(), self.plain(), self.count, most);
-        let [every, can_fault] = [After::Every, After::CanFault].map(|after| counted(after).expect("a capture that is judged"));
-        let searches = [every?.searches, can_fault?.searches];
-        let library = calls::scan(self.store(), self.library(), self.lent_count());
-        assert_eq!([After::Every, After::CanFault].map(|after| scan_answer(scan(after))), [library; 2]);
-        Some((searches, measure(|| scan(After::CanFault), || scan(After::Every))))
     }
 
     /// How many searches plain Rust needs for a scan, and how many transactions it places in them.

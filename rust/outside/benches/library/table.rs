@@ -35,26 +35,6 @@ pub fn counted_row(what: &str, counts: &[u64], measured: &Measured) {
     println!("| {what} |{counted} {} | {} | {} | {samples} |", time(*library), time(*plain), fraction(*ratio));
 }
 
-/// Prints the head of a table of scans with a search after every event and after those that can fault alone.
-pub fn saved_head() {
-    println!(
-        "| input | events | searches after every event | searches after events that can fault | after every event | \
-         after events that can fault | the second / the first | samples |"
-    );
-    println!("|---|---:|---:|---:|---:|---:|---:|---:|");
-}
-
-/// Prints a row of it, which has the second measured by the first, or dashes where nothing was measured.
-pub fn saved_row(what: &str, events: usize, saved: Option<&([u64; 2], Measured)>) {
-    let events = thousands(events as u64);
-    let Some(([every, can_fault], Measured { library: second, plain: first, ratio, samples })) = saved else {
-        return println!("| {what} | {events} | – | – | – | – | – | – |");
-    };
-    let [every, can_fault] = [every, can_fault].map(|&searches| thousands(searches));
-    let (first, second, ratio) = (time(*first), time(*second), fraction(*ratio));
-    println!("| {what} | {events} | {every} | {can_fault} | {first} | {second} | {ratio} | {samples} |");
-}
-
 /// Prints a row of times, or of dashes where nothing was measured.
 pub fn row_if(what: &str, measured: Option<&Measured>) {
     match measured {

@@ -1,7 +1,7 @@
 -- `put_starts` meets its contract: the loop's invariant says what stands in the output so far. Assumes nothing.
 use Prim.Native.Nat.{ℕ, ◌+◌, ◌-◌, ◌≤◌, ◌<◌}
 use mathlib.Core.Path.{◌≡◌, refl, sym, ap, ◌∙◌}
-use mathlib.Core.List.{List, [], ◌∷◌}
+use mathlib.Core.List.{List}
 use native.Mathlib.Omega.{arith}
 use lib.ListN.{length, length-append}
 use Rattle.records.specs.Bytes.{placed}
@@ -15,30 +15,30 @@ use Rattle.writer.proofs.starts.put_starts.Statement.{statement}
 use Rattle.writer.proofs.starts.put_starts.Tie as tie
 
 abbrev invariant-loop : tie.invariant-loop
-invariant-loop starts end out₀ at₀ r₀ out at r = (r ≤ 32) × (at ≡ 6 + length (starts_to starts r)) × (out ≡ placed out₀ 6 (starts_to starts r))
+invariant-loop starts out₀ at₀ r₀ out at r = (r ≤ 32) × (at ≡ 6 + length (starts_to starts r)) × (out ≡ placed out₀ 6 (starts_to starts r))
 
 abbrev decreases-loop : tie.decreases-loop
-decreases-loop starts end out₀ at₀ r₀ out at r = 32 - r
+decreases-loop starts out₀ at₀ r₀ out at r = 32 - r
 
 -- where a turn begins, and the function's entry
 abbrev turn : tie.After-start-length invariant-loop decreases-loop → tie.In-loop invariant-loop decreases-loop
 turn c = c.before.before.before.before.before.before
 
 abbrev entered : tie.At-loop invariant-loop decreases-loop → tie.Start invariant-loop decreases-loop
-entered l = l.before.before.before
+entered l = l.before.before
 
 -- the output is as long as it was, and has room for one record more
 long : (s : tie.Start invariant-loop decreases-loop) (r : ℕ) (out : List ℕ) → r ≤ 32 → out ≡ placed s.args.out.now 6 (starts_to s.args.starts.now r) → length out ≡ length s.args.out.now
 long s r out l e =
     let g = starts-grow s.args.starts.now r 32 l in
-    ap length e ∙ length-placed s.args.out.now 6 (starts_to s.args.starts.now r) (omega (arith, s.requires.0, s.requires.1))
+    ap length e ∙ length-placed s.args.out.now 6 (starts_to s.args.starts.now r) (omega (arith, s.requires))
 
 room : (s : tie.Start invariant-loop decreases-loop) (r : ℕ) → r < 32 → 6 + length (starts_to s.args.starts.now r) + length (start_record r (start_of s.args.starts.now r)) ≤ length s.args.out.now
-room s r l = omega (arith, starts-grow s.args.starts.now _ 32 l, starts-longer s.args.starts.now r, s.requires.0, s.requires.1)
+room s r l = omega (arith, starts-grow s.args.starts.now _ 32 l, starts-longer s.args.starts.now r, s.requires)
 
 loop-holds : tie.Need-loop-init invariant-loop decreases-loop
 unfolding starts_to
-loop-holds c = (omega arith, refl, sym (placed-none c.before.before.args.out.now 6))
+loop-holds c = (omega arith, refl, sym (placed-none c.before.args.out.now 6))
 
 cast-put-start : tie.Need-overflow-cast-put-start invariant-loop decreases-loop
 cast-put-start c = omega (arith, c.before.before.loop-test.true)
@@ -46,7 +46,7 @@ cast-put-start c = omega (arith, c.before.before.loop-test.true)
 put-start-requires : tie.Need-put-start-requires invariant-loop decreases-loop
 unfolding start_of
 put-start-requires c κs =
-    let s = entered c.before.before.before in
+    let s = c.before.before.before.before.before in
     let l = c.before.before.before.loop in
     omega (arith, l.invariant.1, room s l.r c.before.before.loop-test.true, long s l.r l.out l.invariant.0 l.invariant.2)
 
@@ -78,26 +78,16 @@ loop-again c =
       omega (arith, l.inv.1, ap length m, length-append (starts_to v l.r) d, c.start-length.ensures.0 l.r),
       c.before.before.before.put-start.ensures
           ∙ (ap (λ (o : List ℕ). placed o l.at d) l.inv.2
-          ∙ (placed-more s.args.out.now 6 (starts_to v l.r) d l.at (sym l.inv.1) (omega (arith, s.pre.0, s.pre.1)) ∙ ap (placed s.args.out.now 6) (sym m))),
+          ∙ (placed-more s.args.out.now 6 (starts_to v l.r) d l.at (sym l.inv.1) (omega (arith, s.pre)) ∙ ap (placed s.args.out.now 6) (sym m))),
     )
 
 same_length : tie.Need-same-length invariant-loop decreases-loop
 same_length c =
     let l = c.before.loop in
-    long (entered c.before) l.r l.out l.invariant.0 l.invariant.2
-
--- where nothing is put, the output is as it was
-none-put : (out xs : List ℕ) → length xs ≡ 0 → out ≡ placed out 6 xs
-none-put out [] e = sym (placed-none out 6)
-none-put out (x ∷ xs) e = absurd (omega (arith, e))
+    long c.before.before.before l.r l.out l.invariant.0 l.invariant.2
 
 returns : tie.Need-returns invariant-loop decreases-loop
 returns c =
-    let s = c.before.before in
-    none-put s.args.out.now (starts_to s.args.starts.now 32) (omega (arith, s.requires.0, c.if1.true))
-
-returns-2 : tie.Need-returns-2 invariant-loop decreases-loop
-returns-2 c =
     let l = c.before.loop in
     let e : l.r ≡ 32 = omega (arith, l.invariant.0, c.loop-test.false) in
     rw e at l.invariant.2
@@ -105,6 +95,5 @@ returns-2 c =
 pub put_starts_spec : {M : Type 1} → statement M
 put_starts_spec =
     tie.close
-    (tie.spec invariant-loop decreases-loop returns loop-holds (λ c. omega arith) (λ c. omega arith) cast-put-start
-    put-start-requires (λ c κs. search rules) add_at add_r loop-less loop-again same_length
-    returns-2)
+    (tie.spec invariant-loop decreases-loop loop-holds (λ c. omega arith) (λ c. omega arith) cast-put-start
+    put-start-requires (λ c κs. search rules) add_at add_r loop-less loop-again same_length returns)
