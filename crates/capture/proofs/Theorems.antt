@@ -13,9 +13,9 @@ use Rattle.events.specs.declared.event.Event.{Event}
 use Rattle.records.specs.Bytes.{Bytes}
 use Rattle.opacity.specs.Justification.{zeros}
 use Rattle.events.specs.Said.{refuse}
-use Rattle.log.specs.Starts.{start_of}
+use Rattle.event_log.specs.Starts.{start_of}
 use Rattle.events.proofs.QuestionLaws.{readable-in}
-use Rattle.log.proofs.StartLaws.{no-starts}
+use Rattle.event_log.proofs.StartLaws.{no-starts}
 use Rattle.events.specs.Events.{begins}
 use Rattle.events.specs.Questions.{readable as IsReadable}
 use Rattle.opacity.specs.declared.verdict.Scanned.{Scanned}

@@ -4,7 +4,7 @@
 use Rattle.std.specs.Prelude.{ℕ, List, length}
 use Rattle.events.specs.declared.event.Event.{Event}
 use Rattle.events.specs.Said.{refuse}
-use Rattle.log.specs.Starts.{start_of}
+use Rattle.event_log.specs.Starts.{start_of}
 use Rattle.opacity.specs.Counts.{counts}
 use Rattle.opacity.specs.Scan.{scan}
 use Rattle.counts.specs.Tally.{tally}

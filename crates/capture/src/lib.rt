@@ -4,23 +4,25 @@
 // The history is read once, into the rows of a log, and no event is asked again: counts, tally, marking
 // and scan all go by that log. The rows stand in here, so that no buffer is lent and none can be too
 // short.
+#![tactic(auto)]
+
 ghost use Rattle.std.specs.Prelude.{◌≡◌, true, length};
 ghost use Rattle.events.specs.Questions.{readable};
-ghost use Rattle.log.specs.Rows.{logged};
-ghost use Rattle.log.specs.Starts.{start_of};
+ghost use Rattle.event_log.specs.Rows.{logged};
+ghost use Rattle.event_log.specs.Starts.{start_of};
 ghost use Rattle.reader.specs.Reading.{RowsFor};
 ghost use Rattle.capture.specs.Report.{counts_of, judged, report_on};
 
 use counts::tally::{Tally, tally_of};
 use events::refusal::Refusal;
-use log::rows::{BLANK, MOST, Row, SHORT, transactions_begun};
+use event_log::rows::{BLANK, MOST, Row, SHORT, transactions_begun};
 use marking::check::{Ruling, check_log};
 use reader::{Reading, SHORT_FILE, read_log};
 use reads::count_store_reads;
 use scan::{Scanning, scan_log};
 
 // The report's first line: events, transactions begun and store reads.
-#[derive(Drop)]
+#[derive(Clone, Copy)]
 pub struct Counts {
     pub events: usize,
     pub transactions: usize,
@@ -29,7 +31,7 @@ pub struct Counts {
 
 // The report: the history is refused with its byte and nothing more is said; or the four lines, the third
 // of which is the checker's ruling and the last the scan's answer.
-#[derive(Drop)]
+#[derive(Clone, Copy)]
 pub enum Report {
     Refused(Refusal),
     Judged {

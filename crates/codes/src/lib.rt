@@ -1,6 +1,8 @@
 // Every answer as one number, code × 2^32 + place: each function gives the number that specs/Codes gives
 // for what its answer says. Required: each number of the answer stands where it is put. The library that
 // other programs call, which tells these numbers, shows that of every answer (its proofs/Bounds).
+#![tactic(auto)]
+
 ghost use Rattle.std.specs.Prelude.{◌≡◌, ◌+◌, ◌≤◌};
 ghost use Rattle.events.specs.Said.{broken};
 ghost use Rattle.opacity.specs.Marking.{rule_number};

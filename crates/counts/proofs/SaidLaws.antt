@@ -5,11 +5,11 @@ use native.Mathlib.Omega.{arith}
 use mathlib.Core.Path.{◌≡◌, refl, sym, ap, ◌∙◌}
 use mathlib.Core.Logic.{◌↔◌}
 use mathlib.Core.List.{List, [], ◌∷◌}
-use Rattle.log.specs.declared.admit.Checked.{Checked}
-use Rattle.log.specs.declared.admit.Checked.TheVariants.{Readable, Refused as Refuses}
-use Rattle.log.specs.Columns.{Columns, history}
+use Rattle.event_log.specs.declared.admit.Checked.{Checked}
+use Rattle.event_log.specs.declared.admit.Checked.TheVariants.{Readable, Refused as Refuses}
+use Rattle.event_log.specs.Columns.{Columns, history}
 use Rattle.events.specs.Said.{Said, done, at_event, refuse}
-use Rattle.log.specs.Answer.{history_answer}
+use Rattle.event_log.specs.Answer.{history_answer}
 use Rattle.opacity.specs.Counts.{counts}
 use Rattle.counts.specs.declared.tally.Tally.{Tally}
 use Rattle.counts.specs.Tally.{tally}

@@ -13,11 +13,11 @@ use lib.ListN.{length}
 use borrow.Author.Tests.{eqb-true, ne_eqb}
 use Rattle.lists.specs.Lists.{◌and◌, keep, range}
 use Rattle.events.specs.declared.event.Event.{Event}
-use Rattle.log.specs.declared.admit.Checked.{Checked}
+use Rattle.event_log.specs.declared.admit.Checked.{Checked}
 use Rattle.events.specs.Events.{begins}
-use Rattle.log.specs.Columns.{Columns, history}
+use Rattle.event_log.specs.Columns.{Columns, history}
 use Rattle.events.specs.Questions.{readable}
-use Rattle.log.specs.Answer.{history_answer}
+use Rattle.event_log.specs.Answer.{history_answer}
 use Rattle.lists.proofs.ListLaws.{and-false-l, eqb-self, keep-both}
 use Rattle.opacity.specs.Transactions.{Status, committed, aborted, pending, live, HasStatus, status_number, status}
 use Rattle.opacity.specs.Counts.{one, counts}

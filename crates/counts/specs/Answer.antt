@@ -3,10 +3,10 @@
 -- Assumes nothing.
 use Rattle.std.specs.Prelude.{ℕ, List, [], ◌∷◌}
 use Rattle.events.specs.declared.event.Event.{Event}
-use Rattle.log.specs.declared.admit.Checked.{Checked}
-use Rattle.log.specs.Columns.{Columns, history}
+use Rattle.event_log.specs.declared.admit.Checked.{Checked}
+use Rattle.event_log.specs.Columns.{Columns, history}
 use Rattle.events.specs.Said.{Said, done, event_refused}
-use Rattle.log.specs.Answer.{history_answer}
+use Rattle.event_log.specs.Answer.{history_answer}
 use Rattle.opacity.specs.Counts.{counts}
 use Rattle.counts.specs.declared.Counting.{Counting}
 use Rattle.counts.specs.declared.Tallying.{Tallying}

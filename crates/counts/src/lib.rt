@@ -1,26 +1,28 @@
 // The counts of the report's first line and the tally of its second, of columns that no one has put a
 // question to yet: 17, 3 and each event's own questions come first, then the events are counted.
+#![tactic(auto)]
+
 ghost use Rattle.std.specs.Prelude.{◌≡◌, take};
-ghost use Rattle.log.specs.Columns.{columns};
-ghost use Rattle.log.specs.Rows.{logged, Entered};
+ghost use Rattle.event_log.specs.Columns.{columns};
+ghost use Rattle.event_log.specs.Rows.{logged, Entered};
 ghost use Rattle.counts.specs.Answer.{transactions_of, store_reads_of, tally_of, transactions_answer, store_reads_answer, tally_answer};
 
 pub mod tally;
 
 use crate::tally::{Tally, tally_of};
+use event_log::admit::{Checked, admit};
+use event_log::rows::{BLANK, MOST, Row, SHORT, transactions_begun};
 use events::refusal::Refusal;
-use log::admit::{Checked, admit};
-use log::rows::{BLANK, MOST, Row, SHORT, transactions_begun};
 
 // A count's answer: the number, or the question that says no with its event.
-#[derive(Drop)]
+#[derive(Clone, Copy)]
 pub enum Counting {
     Counted(usize),
     Refused(Refusal),
 }
 
 // The tally's answer: the four numbers, or the question that says no with its event.
-#[derive(Drop)]
+#[derive(Clone, Copy)]
 pub enum Tallying {
     Tallied(Tally),
     Refused(Refusal),

@@ -1,15 +1,15 @@
 // The tally of the transactions in a log: how each stands after the last event.
 ghost use Rattle.std.specs.Prelude.{◌≡◌, true};
 ghost use Rattle.events.specs.Questions.{readable};
-ghost use Rattle.log.specs.Rows.{logged};
+ghost use Rattle.event_log.specs.Rows.{logged};
 ghost use Rattle.counts.specs.Tally.{tally};
 
+use event_log::rows::{Row, transactions_begun};
 use links::tables::{Fact, index_of, table};
-use log::rows::{Row, transactions_begun};
 
 // How many transactions are committed, aborted, pending (commit is called and unanswered) and live
 // (the others not ended).
-#[derive(Drop)]
+#[derive(Clone, Copy)]
 pub struct Tally {
     pub committed: usize,
     pub aborted: usize,

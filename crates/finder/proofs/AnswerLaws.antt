@@ -9,24 +9,24 @@ use mathlib.Core.Option.{Option, none, some, none-ne-some, some-ne-none, some-in
 use lib.ListN.{length, take}
 use borrow.Author.Tests.{le-leb, lt-leb, leb-true}
 use Rattle.events.specs.declared.event.Event.{Event}
-use Rattle.log.specs.declared.admit.Checked.{Checked}
+use Rattle.event_log.specs.declared.admit.Checked.{Checked}
 use Rattle.events.specs.declared.refusal.Refusal.{Refusal}
 use Rattle.events.specs.Said.{done, nothing, at_event, refuse}
 use Rattle.records.specs.Bytes.{over}
 use Rattle.events.specs.Events.{begins}
-use Rattle.log.specs.Columns.{Columns, history, hold}
-use Rattle.log.specs.Starts.{start_of, admits}
+use Rattle.event_log.specs.Columns.{Columns, history, hold}
+use Rattle.event_log.specs.Starts.{start_of, admits}
 use Rattle.events.specs.Questions.{readable_in}
-use Rattle.log.specs.Answer.{events_answer, columns_answer, history_answer}
-use Rattle.log.proofs.ColumnLaws.{hold-e}
-use Rattle.log.proofs.AnswerLaws.{answer-readable, readable-columns}
+use Rattle.event_log.specs.Answer.{events_answer, columns_answer, history_answer}
+use Rattle.event_log.proofs.ColumnLaws.{hold-e}
+use Rattle.event_log.proofs.AnswerLaws.{answer-readable, readable-columns}
 use Rattle.opacity.specs.Justification.{Place}
 use Rattle.opacity.specs.Lowest.{lowest_of}
 use Rattle.opacity.specs.Marking.{marked, marking_bytes}
-use Rattle.log.specs.Rows.{logged}
-use Rattle.log.proofs.DoorLaws.{prefix-logged}
-use Rattle.log.specs.Calls.{then_checked}
-use Rattle.log.proofs.CallLaws.{asked-none, asked-yes, asked-no, asked-e, then-readable, then-refused, then-e}
+use Rattle.event_log.specs.Rows.{logged}
+use Rattle.event_log.proofs.DoorLaws.{prefix-logged}
+use Rattle.event_log.specs.Calls.{then_checked}
+use Rattle.event_log.proofs.CallLaws.{asked-none, asked-yes, asked-no, asked-e, then-readable, then-refused, then-e}
 use Rattle.finder.specs.declared.Finding.{Finding}
 use Rattle.finder.specs.Answer.{Given, marking_size, Passed, said, gives, decided, prefix_refusal, call_refusal, find_refusal, marking_of, lowest_marking, found_answer}
 use Rattle.finder.specs.Logs.{find_of, find_after}

@@ -9,17 +9,17 @@ use mathlib.Core.Option.{Option, none, some}
 use lib.ListN.{length, take, drop}
 use Rattle.records.proofs.BufferLaws.{take-over, drop-over}
 use Rattle.events.specs.declared.event.Event.{Event}
-use Rattle.log.specs.declared.admit.Checked.{Checked}
+use Rattle.event_log.specs.declared.admit.Checked.{Checked}
 use Rattle.events.specs.declared.refusal.Refusal.{Refusal}
 use Rattle.events.specs.Said.{done, nothing, at_event, refuse}
 use Rattle.records.specs.Bytes.{over}
-use Rattle.log.specs.Columns.{Columns, history, hold}
-use Rattle.log.specs.Starts.{start_of, no_starts}
+use Rattle.event_log.specs.Columns.{Columns, history, hold}
+use Rattle.event_log.specs.Starts.{start_of, no_starts}
 use Rattle.events.specs.Questions.{Question, ask, readable}
-use Rattle.log.specs.Answer.{events_answer}
-use Rattle.log.proofs.ColumnLaws.{history-length}
+use Rattle.event_log.specs.Answer.{events_answer}
+use Rattle.event_log.proofs.ColumnLaws.{history-length}
 use Rattle.events.proofs.QuestionLaws.{readable-in, readable-take}
-use Rattle.log.proofs.StartLaws.{no-starts, first-admitted}
+use Rattle.event_log.proofs.StartLaws.{no-starts, first-admitted}
 use Rattle.opacity.specs.Justification.{Place, Justified}
 use Rattle.opacity.specs.Lowest.{LowestJustified}
 use Rattle.opacity.specs.Serial.{Serial, LowestSerial}
@@ -27,8 +27,8 @@ use Rattle.opacity.specs.Marking.{ReadableFor, marked, marking_bytes, verdict}
 use Rattle.opacity.specs.declared.verdict.Verdict.{Verdict}
 use Rattle.opacity.proofs.Least.{lowest-least}
 use Rattle.opacity.proofs.Theorems.{lowest-unique, lowest-some, lowest-none, prefix-lowest-serial, prefix-none-serial, marked-is-readable, marked-is-accepted}
-use Rattle.log.specs.Calls.{asked_of, then_checked}
-use Rattle.log.proofs.CallLaws.{asked-yes, asked-no, then-then}
+use Rattle.event_log.specs.Calls.{asked_of, then_checked}
+use Rattle.event_log.proofs.CallLaws.{asked-yes, asked-no, then-then}
 use Rattle.finder.specs.declared.Finding.{Finding}
 use Rattle.finder.specs.Answer.{Given, gives, said, Passed, decided, prefix_refusal, call_refusal, find_refusal, lowest_marking, found_answer, first_edition_refusal, first_edition_answer}
 use Rattle.finder.specs.Words.{Passes, LowestSize, Written}

@@ -4,19 +4,19 @@
 use Rattle.std.specs.Prelude.{ℕ, ◌+◌, ◌*◌, ◌≤◌, ◌≡◌, true, List, [], ◌∷◌, leb, length, take}
 use Rattle.std.proofs.Math.Option.{Option, none, some}
 use Rattle.events.specs.declared.event.Event.{Event}
-use Rattle.log.specs.declared.admit.Checked.{Checked}
+use Rattle.event_log.specs.declared.admit.Checked.{Checked}
 use Rattle.records.specs.Bytes.{over}
 use Rattle.events.specs.Events.{begins}
-use Rattle.log.specs.Columns.{Columns, history, hold}
-use Rattle.log.specs.Starts.{start_of, admits}
+use Rattle.event_log.specs.Columns.{Columns, history, hold}
+use Rattle.event_log.specs.Starts.{start_of, admits}
 use Rattle.events.specs.Said.{Said, done, nothing, event_refused}
 use Rattle.events.specs.Questions.{ask, readable_in}
-use Rattle.log.specs.Answer.{events_answer}
+use Rattle.event_log.specs.Answer.{events_answer}
 use Rattle.opacity.specs.Transactions.{store_reads}
 use Rattle.opacity.specs.Justification.{Place, zeros}
 use Rattle.opacity.specs.Lowest.{lowest_of}
 use Rattle.opacity.specs.Marking.{marked, marking_bytes}
-use Rattle.log.specs.Calls.{asked_of, then_checked}
+use Rattle.event_log.specs.Calls.{asked_of, then_checked}
 use Rattle.finder.specs.declared.Finding.{Finding}
 
 -- What a call gives: its result, and the output afterwards.

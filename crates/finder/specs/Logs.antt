@@ -3,9 +3,9 @@
 -- Assumes nothing.
 use Rattle.std.specs.Prelude.{ℕ, List, length}
 use Rattle.events.specs.declared.event.Event.{Event}
-use Rattle.log.specs.declared.admit.Checked.{Checked}
-use Rattle.log.specs.Starts.{start_of}
-use Rattle.log.specs.Calls.{then_checked}
+use Rattle.event_log.specs.declared.admit.Checked.{Checked}
+use Rattle.event_log.specs.Starts.{start_of}
+use Rattle.event_log.specs.Calls.{then_checked}
 use Rattle.finder.specs.Answer.{Given, prefix_refusal, lowest_marking, decided}
 
 -- 31 and 32 of a history that comes with this count, and then what is found of it

@@ -1,9 +1,9 @@
 -- To be believed: the words of the theorems about the finder's answer.
 -- Assumes nothing.
 use Rattle.std.specs.Prelude.{ℕ, ◌≡◌, List, length, take, drop}
-use Rattle.log.specs.declared.admit.Checked.{Checked}
-use Rattle.log.specs.Columns.{Columns, history}
-use Rattle.log.specs.Starts.{start_of}
+use Rattle.event_log.specs.declared.admit.Checked.{Checked}
+use Rattle.event_log.specs.Columns.{Columns, history}
+use Rattle.event_log.specs.Starts.{start_of}
 use Rattle.opacity.specs.declared.verdict.Verdict.{Verdict}
 use Rattle.opacity.specs.Justification.{Place}
 use Rattle.opacity.specs.Lowest.{LowestJustified}

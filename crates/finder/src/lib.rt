@@ -1,29 +1,31 @@
 // The finder: the lowest justification of a prefix, as a marking.
+#![tactic(auto)]
+
 ghost use Rattle.std.specs.Prelude.{◌≡◌, true, cond, ◌≤◌, leb, length, take};
 ghost use Rattle.events.specs.Events.{begins};
 ghost use Rattle.events.specs.Questions.{readable};
 ghost use Rattle.events.specs.Said.{refuse};
-ghost use Rattle.log.specs.Columns.{columns};
-ghost use Rattle.log.specs.Rows.{logged, Entered};
-ghost use Rattle.log.specs.Starts.{start_of};
-ghost use Rattle.log.specs.declared.admit.Checked.TheVariants.{Readable};
+ghost use Rattle.event_log.specs.Columns.{columns};
+ghost use Rattle.event_log.specs.Rows.{logged, Entered};
+ghost use Rattle.event_log.specs.Starts.{start_of};
+ghost use Rattle.event_log.specs.declared.admit.Checked.TheVariants.{Readable};
 ghost use Rattle.lowest.specs.Order.{Judged};
 ghost use Rattle.finder.specs.Answer.{marking_size, lowest_marking, gives, decided, found_answer};
 ghost use Rattle.finder.specs.Logs.{find_of, find_after};
 
 use events::refusal::Refusal;
 use found::write_order;
-use log::admit::{Checked, admit};
-use log::columns::columns_hold;
-use log::rows::{BLANK, MOST, Row, SHORT, transactions_begun};
-use log::starts::is_admitted;
+use event_log::admit::{Checked, admit};
+use event_log::columns::columns_hold;
+use event_log::rows::{BLANK, MOST, Row, SHORT, transactions_begun};
+use event_log::starts::is_admitted;
 use lowest::find_order;
 use places::facts::SEARCHED;
 use reads::{FEW_SLOTS, count_by};
 use records::record::Record;
 
 // The finder's answer: the length of the marking written, none, or the question that says no with its event.
-#[derive(Drop)]
+#[derive(Clone, Copy)]
 pub enum Finding {
     Marking(usize),
     None,

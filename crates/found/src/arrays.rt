@@ -6,7 +6,7 @@ ghost use Rattle.places.specs.Places.{decode};
 ghost use Rattle.found.specs.Arrays.{Arrayed};
 
 // The transaction at each place, and its outcome, 0 aborted or 1 committed.
-#[derive(Drop)]
+#[derive(Clone, Copy)]
 pub struct Placed {
     pub order: [u16; 64],
     pub outcomes: [u8; 64],

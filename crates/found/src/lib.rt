@@ -1,15 +1,17 @@
 // An order found, written as a marking: each store read has its point at its reader's place.
+#![tactic(auto)]
+
 ghost use Rattle.std.specs.Prelude.{◌≡◌, ◌≤◌, length, take};
 ghost use Rattle.records.specs.Bytes.{over};
 ghost use Rattle.events.specs.Events.{begins};
-ghost use Rattle.log.specs.Rows.{logged};
+ghost use Rattle.event_log.specs.Rows.{logged};
 ghost use Rattle.places.specs.Places.{codes_of};
 ghost use Rattle.lowest.specs.Order.{Judged};
 ghost use Rattle.found.specs.Arrays.{found_bytes};
 
 mod arrays;
 
-use log::rows::{MOST, Row, SHORT};
+use event_log::rows::{MOST, Row, SHORT};
 use marking_writer::write_marking;
 use places::state::codes_of;
 use reads::{FEW_SLOTS, put_gaps};

@@ -1,6 +1,8 @@
 // The text of the report on a capture, line by line: bytes in a buffer that has room for the lines of
 // any report, with as many digits as a number may have. Proved of each function: the buffer
 // afterwards, all of it, as one equation, and the place behind what was put there.
+#![tactic(auto)]
+
 ghost use Rattle.std.specs.Prelude.{◌≡◌, [], ◌∷◌, ◌++◌, ◌+◌, ◌≤◌, length};
 ghost use Rattle.records.specs.Bytes.{over};
 ghost use Rattle.capture.specs.Report.{report_on};

@@ -10,8 +10,8 @@ use Rattle.events.specs.declared.event.Event.{Event}
 use Rattle.events.specs.Events.{event_at}
 use Rattle.events.specs.Questions.{readable}
 use Rattle.events.proofs.ReadableLaws.{readable-most}
-use Rattle.log.specs.Rows.{logged}
-use Rattle.log.proofs.RowLaws.{logged-length}
+use Rattle.event_log.specs.Rows.{logged}
+use Rattle.event_log.proofs.RowLaws.{logged-length}
 use Rattle.events.proofs.RegisterLaws.{register-low}
 use Rattle.opacity.proofs.Bounds.{transaction-low}
 

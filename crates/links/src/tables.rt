@@ -1,16 +1,16 @@
 // Tables of one number for each transaction, filled by going once through the events.
 ghost use Rattle.std.specs.Prelude.{◌≡◌, true, ◌<◌, max};
 ghost use Rattle.events.specs.Questions.{readable};
-ghost use Rattle.log.specs.Rows.{logged};
+ghost use Rattle.event_log.specs.Rows.{logged};
 ghost use Rattle.links.specs.Tables.{last_one, first_one, rank_of, slot_at, noted, Tabled};
 ghost use Rattle.links.specs.Registers.{with_written, registered, AllTabled};
 
+use event_log::rows::{Row, event_at};
 use events::event::{Event, asks_commit, is_abort, is_begin, is_commit, is_end, is_write};
 use lists::sets::with_register;
-use log::rows::{Row, event_at};
 
 // What a table tells of a transaction: one past an event, with 0 for none, or how far it has come.
-#[derive(Drop)]
+#[derive(Clone, Copy)]
 pub enum Fact {
     LastEvent,
     LastWrite,
@@ -134,7 +134,7 @@ fn note_register(registers: &mut [u32; 64], e: Event)
 }
 
 // The tables of several facts, and for each transaction the set of the registers that it writes.
-#[derive(Drop)]
+#[derive(Clone, Copy)]
 pub struct Tables {
     pub ranks: [u16; 64],
     pub ended: [u16; 64],

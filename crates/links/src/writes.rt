@@ -2,11 +2,11 @@
 // without going through the events of others.
 ghost use Rattle.std.specs.Prelude.{◌≡◌, true, ◌≤◌, length};
 ghost use Rattle.events.specs.Questions.{readable};
-ghost use Rattle.log.specs.Rows.{logged};
+ghost use Rattle.event_log.specs.Rows.{logged};
 ghost use Rattle.links.specs.Writes.{Linked};
 
 use crate::tables::{Fact, index_of, note};
-use log::rows::{Row, event_at};
+use event_log::rows::{Row, event_at};
 
 // For each event, one past the last write of its transaction before it, with 0 for none; the entries
 // past the last event are left as they were.

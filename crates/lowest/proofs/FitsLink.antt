@@ -14,7 +14,7 @@ use borrow.Author.Tests.{eqb-true, eqb-false, eq-eqb, ne_eqb, lt-ltb}
 use Rattle.lists.specs.Lists.{◌and◌, ◌implies◌, push, keep, all, every}
 use Rattle.events.specs.declared.event.Event.{Event}
 use Rattle.events.specs.Events.{event_at, begins}
-use Rattle.log.specs.Starts.{start_of}
+use Rattle.event_log.specs.Starts.{start_of}
 use Rattle.opacity.specs.Transactions.{precedes, Status, status, allows, is_store_read}
 use Rattle.opacity.specs.Justification.{Place, placed, contents, preceded, legal_over}
 use Rattle.opacity.specs.Lowest.{place, fits}

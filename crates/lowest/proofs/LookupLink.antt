@@ -16,7 +16,7 @@ use borrow.Author.Tests.{ltb-true, lt-ltb}
 use Rattle.lists.specs.Lists.{or_else, all, latest}
 use Rattle.lists.proofs.ListLaws.{and_l, and_r, and_i}
 use Rattle.events.specs.declared.event.Event.{Event}
-use Rattle.log.specs.Starts.{start_of}
+use Rattle.event_log.specs.Starts.{start_of}
 use Rattle.opacity.specs.Transactions.{last_write}
 use Rattle.opacity.specs.Justification.{Place, written, contents}
 use Rattle.opacity.specs.Store.{applied}

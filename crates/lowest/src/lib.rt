@@ -1,15 +1,17 @@
 // The lowest justification of a log: the first completion that the search finds over the table of facts of its events.
+#![tactic(auto)]
+
 ghost use Rattle.std.specs.Prelude.{◌≡◌, cond, ◌≤◌, eqb};
 ghost use Rattle.std.proofs.Math.Option.{none};
 ghost use Rattle.events.specs.Events.{begins};
-ghost use Rattle.log.specs.Rows.{logged};
-ghost use Rattle.log.specs.Starts.{start_of};
+ghost use Rattle.event_log.specs.Rows.{logged};
+ghost use Rattle.event_log.specs.Starts.{start_of};
 ghost use Rattle.opacity.specs.Lowest.{lowest_of};
 ghost use Rattle.places.specs.Tree.{first_whole, Answers, EndAsks};
 ghost use Rattle.tables.specs.Tables.{tables_by};
 ghost use Rattle.lowest.specs.Order.{constraints_of, Judged, order_of};
 
-use log::rows::{Row, event_at};
+use event_log::rows::{Row, event_at};
 use places::facts::Facts;
 use tables::{Standing, no_events};
 

@@ -7,17 +7,17 @@ use mathlib.Core.Path.{◌≡◌, refl, sym, ap, ◌∙◌}
 use mathlib.Core.Logic.{◌↔◌}
 use mathlib.Core.Bool.{true}
 use mathlib.Core.List.{List, []}
-use Rattle.log.specs.declared.admit.Checked.{Checked}
-use Rattle.log.specs.declared.admit.Checked.TheVariants.{Readable, Refused}
+use Rattle.event_log.specs.declared.admit.Checked.{Checked}
+use Rattle.event_log.specs.declared.admit.Checked.TheVariants.{Readable, Refused}
 use Rattle.events.specs.declared.refusal.Refusal.{Refusal}
 use Rattle.events.specs.Said.{done, broken, at_event, at_byte, refuse}
 use Rattle.events.specs.declared.event.Event.{Event}
 use Rattle.records.specs.Bytes.{Bytes}
-use Rattle.log.specs.Columns.{Columns, history}
-use Rattle.log.specs.Starts.{start_of, no_starts}
+use Rattle.event_log.specs.Columns.{Columns, history}
+use Rattle.event_log.specs.Starts.{start_of, no_starts}
 use Rattle.events.specs.Questions.{readable}
-use Rattle.log.specs.Answer.{history_answer}
-use Rattle.log.proofs.StartLaws.{no-starts, first-edition as first-asked, history-readable}
+use Rattle.event_log.specs.Answer.{history_answer}
+use Rattle.event_log.proofs.StartLaws.{no-starts, first-edition as first-asked, history-readable}
 use Rattle.opacity.specs.declared.verdict.Verdict.{Verdict}
 use Rattle.opacity.specs.declared.verdict.Verdict.TheVariants.{Accepted, Broken}
 use Rattle.opacity.specs.declared.verdict.Rule.{Rule}

@@ -1,16 +1,16 @@
 // The checker: the questions of the history, those of the marking file, and the verdict.
 ghost use Rattle.std.specs.Prelude.{◌≡◌, true, ℕ, ◌≤◌, ◌<◌, length, get_or, take};
 ghost use Rattle.events.specs.Questions.{readable};
-ghost use Rattle.log.specs.Columns.{columns};
-ghost use Rattle.log.specs.Rows.{logged, Entered};
-ghost use Rattle.log.specs.Starts.{start_of};
+ghost use Rattle.event_log.specs.Columns.{columns};
+ghost use Rattle.event_log.specs.Rows.{logged, Entered};
+ghost use Rattle.event_log.specs.Starts.{start_of};
 ghost use Rattle.marking_reader.specs.File.{known, file_read};
 ghost use Rattle.marking.specs.Answer.{ruling, from_file, after_columns, verdict_answer};
 
 use events::refusal::Refusal;
 use links::writes::links;
-use log::admit::{Checked, admit};
-use log::rows::{BLANK, MOST, Row, SHORT, transactions_begun};
+use event_log::admit::{Checked, admit};
+use event_log::rows::{BLANK, MOST, Row, SHORT, transactions_begun};
 use marking_reader::read::read_marking;
 use opacity::verdict::Verdict;
 use reads::{NO_POINT, own_writes};
@@ -18,7 +18,7 @@ use rules::judge::judge;
 
 // The checker's answer: the verdict of the rules; the question that refuses the history, with its
 // event; or the question that refuses the marking, with its byte.
-#[derive(Drop)]
+#[derive(Clone, Copy)]
 pub enum Checking {
     Ruled(Verdict),
     HistoryRefused(Refusal),
@@ -27,7 +27,7 @@ pub enum Checking {
 
 // The answer for a readable history: the verdict of the rules, or the question that refuses the
 // marking, with its byte.
-#[derive(Drop)]
+#[derive(Clone, Copy)]
 pub enum Ruling {
     Ruled(Verdict),
     Refused(Refusal),

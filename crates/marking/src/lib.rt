@@ -1,2 +1,4 @@
 // The checker: its door and its answer.
+#![tactic(auto)]
+
 pub mod check;

@@ -6,8 +6,8 @@ use mathlib.Core.Path.{◌≡◌}
 use mathlib.Core.Bool.{false}
 use mathlib.Core.List.{List}
 use lib.ListN.{length}
-use Rattle.log.specs.Rows.{logged}
-use Rattle.log.proofs.RowLaws.{logged-length}
+use Rattle.event_log.specs.Rows.{logged}
+use Rattle.event_log.proofs.RowLaws.{logged-length}
 use Rattle.opacity.specs.Transactions.{is_store_read}
 use Rattle.opacity.proofs.Bounds.{at-most-64}
 use Rattle.links.proofs.LogLaws.{log-most}

@@ -10,8 +10,8 @@ use Rattle.lists.specs.Lists.{every, keep, range}
 use Rattle.events.specs.declared.event.Event.{Event}
 use Rattle.events.specs.Events.{begins}
 use Rattle.events.specs.Said.{refuse}
-use Rattle.log.specs.declared.admit.Checked.{Checked}
-use Rattle.log.specs.declared.admit.Checked.TheVariants.{Readable}
+use Rattle.event_log.specs.declared.admit.Checked.{Checked}
+use Rattle.event_log.specs.declared.admit.Checked.TheVariants.{Readable}
 use Rattle.opacity.specs.Transactions.{is_store_read, store_reads}
 use Rattle.opacity.specs.Marking.{Marking}
 use Rattle.rules.specs.Judge.{content as in_arrays}

@@ -6,9 +6,9 @@ use Rattle.lists.specs.Lists.{◌and◌, ◌implies◌, all}
 use Rattle.events.specs.declared.event.Event.{Event}
 use Rattle.events.specs.Events.{begins}
 use Rattle.events.specs.Questions.{Question, ask, refusal, readable}
-use Rattle.log.specs.declared.admit.Checked.{Checked}
-use Rattle.log.specs.declared.admit.Checked.TheVariants.{Readable, Refused}
-use Rattle.log.specs.Rows.{logged}
+use Rattle.event_log.specs.declared.admit.Checked.{Checked}
+use Rattle.event_log.specs.declared.admit.Checked.TheVariants.{Readable, Refused}
+use Rattle.event_log.specs.Rows.{logged}
 use Rattle.opacity.specs.Transactions.{is_store_read}
 use Rattle.opacity.specs.Justification.{placed, distinct, is_order}
 use Rattle.opacity.specs.Marking.{Marking, Point}

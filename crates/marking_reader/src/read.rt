@@ -2,15 +2,15 @@
 ghost use Rattle.std.specs.Prelude.{◌≡◌, ◌+◌, ◌≤◌, length};
 ghost use Rattle.events.specs.Questions.{refusal, numbered};
 ghost use Rattle.events.specs.Said.{refuse};
-ghost use Rattle.log.specs.declared.admit.Checked.TheVariants.{Readable, Refused};
-ghost use Rattle.log.specs.Rows.{logged};
+ghost use Rattle.event_log.specs.declared.admit.Checked.TheVariants.{Readable, Refused};
+ghost use Rattle.event_log.specs.Rows.{logged};
 ghost use Rattle.marking_reader.specs.File.{known, head_questions, opening, file_read};
 ghost use Rattle.marking_reader.specs.State.{Asking, Fresh, read_as, Kept};
 
 use crate::step::{MarkingStep, Progress, step_at};
+use event_log::admit::Checked;
+use event_log::rows::Row;
 use events::refusal::Refusal;
-use log::admit::Checked;
-use log::rows::Row;
 use records::fields::u16_at;
 use records::record::{Found, Record, record_at};
 

@@ -3,20 +3,20 @@ ghost use Rattle.std.specs.Prelude.{◌≡◌, Bool, false, not, ℕ, ◌+◌, �
 ghost use Rattle.lists.specs.Lists.{◌implies◌, every};
 ghost use Rattle.events.specs.Questions.{refusal, numbered};
 ghost use Rattle.records.specs.Records.{body_of};
-ghost use Rattle.log.specs.Rows.{logged};
+ghost use Rattle.event_log.specs.Rows.{logged};
 ghost use Rattle.opacity.specs.Transactions.{is_store_read};
 ghost use Rattle.reads.specs.Own.{OwnWrites};
 ghost use Rattle.marking_reader.specs.File.{body_step, end_step, step_at};
 ghost use Rattle.marking_reader.specs.State.{Asking, point_by, asked_by, place_questions, point_questions, place_step, point_step};
 
-use log::rows::Row;
+use event_log::rows::Row;
 use reads::{NO_POINT, is_store_read};
 use records::fields::{u16_at, u32_at};
 use records::record::{Found, Record, record_at};
 
 // A place or a point with the byte where its record ends; the question that says no, at a record or
 // at the end of the file; or the end, where none says no.
-#[derive(Drop)]
+#[derive(Clone, Copy)]
 pub enum MarkingStep {
     Placed(u16, u16, usize),
     Pointed(usize, u16, usize),
@@ -27,7 +27,7 @@ pub enum MarkingStep {
 
 // How far a marking has been read: how many transactions are placed, one past the last point's event,
 // and the byte of the next record.
-#[derive(Drop)]
+#[derive(Clone, Copy)]
 pub struct Progress {
     pub filled: usize,
     pub next: usize,

@@ -1,5 +1,7 @@
 // A marking file, put into an output that has room for it: what the finder and the straightening write with. Proved of each
 // function: the output afterwards, all of it, as one equation.
+#![tactic(auto)]
+
 ghost use Rattle.std.specs.Prelude.{◌≡◌, ◌++◌, ◌+◌, ◌*◌, ◌≤◌, eqb, length};
 ghost use Rattle.records.specs.Bytes.{u16_bytes, u32_bytes, placed, over};
 ghost use Rattle.opacity.specs.Arrays.{places_of};

@@ -1,4 +1,6 @@
 // Checks the paper's marking examples, and a file for each refusal, and prints a line for each.
+#![tactic(auto)]
+
 ghost use Rattle.std.specs.Prelude.{◌≤◌};
 
 use libc::STDOUT_FILENO;
@@ -58,7 +60,7 @@ fn show(label: &[u8], answer: Checking) {
 }
 
 // A small marking file, of at most 64 bytes: what is put beyond them is left out.
-#[derive(Drop)]
+#[derive(Clone, Copy)]
 struct File {
     bytes: [u8; 64],
     length: usize,
@@ -131,7 +133,7 @@ fn t0_t1() -> File {
 }
 
 // The first events of a history, in columns of ten.
-#[derive(Drop)]
+#[derive(Clone, Copy)]
 struct History {
     kinds: [u16; 10],
     transactions: [u16; 10],

@@ -1,5 +1,5 @@
 // The checker's rules, in the order in which they are tried.
-#[derive(Drop)]
+#[derive(Clone, Copy)]
 pub enum Rule {
     A,
     B,
@@ -9,7 +9,7 @@ pub enum Rule {
 }
 
 // The checker's answer: a broken rule comes with its event and transaction.
-#[derive(Drop)]
+#[derive(Clone, Copy)]
 pub enum Verdict {
     Accepted,
     Broken {
@@ -20,7 +20,7 @@ pub enum Verdict {
 }
 
 // The scan's answer: the event that faults the history, and the cause.
-#[derive(Drop)]
+#[derive(Clone, Copy)]
 pub enum Scanned {
     Opaque,
     Faulted { event: usize, cause: u32 },

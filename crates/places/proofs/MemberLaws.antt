@@ -31,7 +31,8 @@ members-off (suc d) i (suc k) n l h = go (n % 2) refl (members-off d (suc i) k (
     go (suc b) e r =
         let z : (n - 2 ^ suc k) % 2 ≡ suc b = off-low n k (member-le k (n / 2) h) ∙ e in
         let f : eqb i (i + suc k) ≡ false = ne_eqb i (i + suc k) (λ q. omega arith) in
-        rw (z, off-half n k, f, add-suc, ← suc-add) (ap (λ (l : List ℕ). i ∷ l) r)
+        let s : suc i + k ≡ i + suc k = omega arith in
+        rw (z, off-half n k, f) (ap (λ (l : List ℕ). i ∷ l) (rw s at r))
 
 -- ---- two sets with no member in common
 

@@ -12,7 +12,7 @@ const BITS: usize = 5;
 
 // The state of the search: the transactions not yet placed, one bit each; how many places are filled; and what fills them, five bits
 // a place behind a leading 1, the last place lowest, each its transaction times 2 plus its outcome. It holds nothing of the registers.
-#[derive(Drop)]
+#[derive(Clone, Copy)]
 pub struct Search {
     pub unplaced: u64,
     pub filled: usize,
@@ -43,7 +43,7 @@ pub fn code_at(placed: u64, back: usize) -> usize
 }
 
 // A place of an order: what stands before it, as a state has it, and its outcome.
-#[derive(Drop)]
+#[derive(Clone, Copy)]
 pub struct Spot {
     pub filled: usize,
     pub placed: u64,

@@ -10,13 +10,13 @@ use mathlib.Core.List.{List, [], ◌∷◌, ◌++◌, map, Memᴰ}
 use lib.ListN.{length, take, drop, length-map}
 use Rattle.events.specs.declared.event.Event.{Event}
 use Rattle.records.specs.Bytes.{Bytes, over}
-use Rattle.log.specs.Columns.{Columns, history, hold, filled_with, Fitting}
+use Rattle.event_log.specs.Columns.{Columns, history, hold, filled_with, Fitting}
 use Rattle.events.specs.Said.{done, nothing, faulted, broken}
-use Rattle.log.specs.Starts.{FittingStarts}
+use Rattle.event_log.specs.Starts.{FittingStarts}
 use Rattle.events.specs.Events.{begins}
 use Rattle.lists.specs.Lists.{range}
 use Rattle.records.proofs.BufferLaws.{drop-over}
-use Rattle.log.proofs.ColumnLaws.{history-length}
+use Rattle.event_log.proofs.ColumnLaws.{history-length}
 use Rattle.lists.proofs.ListLaws.{keep-length, range_length}
 use Rattle.reader.specs.declared.Reading.{Reading}
 use Rattle.reader.specs.declared.HistoryRead.{HistoryRead}

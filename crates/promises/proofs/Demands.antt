@@ -8,12 +8,12 @@ use mathlib.Core.Logic.{◌↔◌, ◌⊎◌}
 use mathlib.Core.Bool.{true}
 use mathlib.Core.List.{List, [], ◌∷◌}
 use lib.ListN.{length, take, drop}
-use Rattle.log.specs.declared.admit.Checked.TheVariants.{Readable, Refused}
+use Rattle.event_log.specs.declared.admit.Checked.TheVariants.{Readable, Refused}
 use Rattle.records.specs.Bytes.{Bytes, over}
-use Rattle.log.specs.Columns.{Columns, history, hold, Fitting}
+use Rattle.event_log.specs.Columns.{Columns, history, hold, Fitting}
 use Rattle.events.specs.Said.{done, nothing, faulted, broken, at_event, at_byte, refuse, number}
-use Rattle.log.specs.Starts.{start_of, FittingStarts}
-use Rattle.log.specs.Answer.{history_answer}
+use Rattle.event_log.specs.Starts.{start_of, FittingStarts}
+use Rattle.event_log.specs.Answer.{history_answer}
 use Rattle.opacity.specs.declared.verdict.Rule.{Rule}
 use Rattle.opacity.specs.Explains.{Explains}
 use Rattle.opacity.specs.Justification.{Place, Justified}

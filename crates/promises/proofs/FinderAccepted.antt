@@ -7,13 +7,13 @@ use mathlib.Core.Path.{◌≡◌, sym, ap, ◌∙◌, subst}
 use mathlib.Core.List.{List}
 use lib.ListN.{length, take}
 use Rattle.events.specs.declared.event.Event.{Event}
-use Rattle.log.specs.declared.admit.Checked.TheVariants.{Readable}
-use Rattle.log.specs.Columns.{Columns, history}
-use Rattle.log.specs.Starts.{start_of}
-use Rattle.log.specs.Answer.{history_answer}
-use Rattle.log.proofs.ColumnLaws.{Held, hold-e, history-take}
-use Rattle.log.proofs.AnswerLaws.{readable-columns, readable-fewer}
-use Rattle.log.proofs.StartLaws.{fine-answer}
+use Rattle.event_log.specs.declared.admit.Checked.TheVariants.{Readable}
+use Rattle.event_log.specs.Columns.{Columns, history}
+use Rattle.event_log.specs.Starts.{start_of}
+use Rattle.event_log.specs.Answer.{history_answer}
+use Rattle.event_log.proofs.ColumnLaws.{Held, hold-e, history-take}
+use Rattle.event_log.proofs.AnswerLaws.{readable-columns, readable-fewer}
+use Rattle.event_log.proofs.StartLaws.{fine-answer}
 use Rattle.opacity.specs.declared.verdict.Verdict.TheVariants.{Accepted}
 use Rattle.opacity.specs.Marking.{Marking, ReadableFor, marked, verdict}
 use Rattle.finder.specs.declared.Finding.{Finding}

@@ -8,13 +8,13 @@ use mathlib.Core.Bool.{true}
 use mathlib.Core.List.{List, [], ◌∷◌}
 use lib.ListN.{length, take}
 use Rattle.events.specs.declared.event.Event.{Event}
-use Rattle.log.specs.Columns.{Columns, history, hold}
+use Rattle.event_log.specs.Columns.{Columns, history, hold}
 use Rattle.events.specs.Events.{begins}
 use Rattle.events.specs.Said.{done, nothing}
-use Rattle.log.specs.Starts.{start_of}
+use Rattle.event_log.specs.Starts.{start_of}
 use Rattle.events.specs.Questions.{readable}
-use Rattle.log.proofs.ColumnLaws.{hold-i}
-use Rattle.log.proofs.StartLaws.{fine, history-readable-in}
+use Rattle.event_log.proofs.ColumnLaws.{hold-i}
+use Rattle.event_log.proofs.StartLaws.{fine, history-readable-in}
 use Rattle.opacity.specs.Justification.{Place, Justified}
 use Rattle.opacity.specs.Lowest.{LowestJustified}
 use Rattle.opacity.specs.Marking.{marked, marking_bytes}

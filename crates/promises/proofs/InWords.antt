@@ -8,12 +8,12 @@ use mathlib.Core.Bool.{true}
 use mathlib.Core.List.{List, [], ◌∷◌}
 use lib.ListN.{length, take}
 use Rattle.events.specs.declared.event.Event.{Event}
-use Rattle.log.specs.Columns.{Columns, history}
+use Rattle.event_log.specs.Columns.{Columns, history}
 use Rattle.events.specs.Said.{done}
-use Rattle.log.specs.Starts.{start_of}
+use Rattle.event_log.specs.Starts.{start_of}
 use Rattle.events.specs.Questions.{readable}
 use Rattle.events.proofs.QuestionLaws.{readable-in, readable-take}
-use Rattle.log.proofs.StartLaws.{history-readable}
+use Rattle.event_log.proofs.StartLaws.{history-readable}
 use Rattle.opacity.specs.Explains.{Explains}
 use Rattle.opacity.specs.Justification.{Place, zeros}
 use Rattle.opacity.specs.Marking.{Marking}

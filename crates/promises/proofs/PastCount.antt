@@ -7,12 +7,12 @@ use mathlib.Core.Bool.{Bool, true, false, cond}
 use mathlib.Core.List.{List}
 use lib.Dec.{leb}
 use lib.ListN.{length}
-use Rattle.log.specs.declared.admit.Checked.{Checked}
-use Rattle.log.specs.declared.admit.Checked.TheVariants.{Readable, Refused as Refuses}
+use Rattle.event_log.specs.declared.admit.Checked.{Checked}
+use Rattle.event_log.specs.declared.admit.Checked.TheVariants.{Readable, Refused as Refuses}
 use Rattle.events.specs.Said.{refuse}
 use Rattle.records.specs.Bytes.{over}
-use Rattle.log.specs.Columns.{Columns, history, hold, filled_with}
-use Rattle.log.specs.Answer.{history_answer}
+use Rattle.event_log.specs.Columns.{Columns, history, hold, filled_with}
+use Rattle.event_log.specs.Answer.{history_answer}
 use Rattle.reader.specs.declared.HistoryRead.{HistoryRead}
 use Rattle.reader.specs.Reading.{Log, Outcome, readable, refused, history_of, history_read, not_read, answered as filled_in, filled, read_answer}
 use Rattle.writer.specs.declared.Writing.{Writing}

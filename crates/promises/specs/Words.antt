@@ -1,13 +1,13 @@
 -- To be believed: the words in which the demands are stated that no crate below has.
 -- Assumes nothing.
 use Rattle.std.specs.Prelude.{ℕ, ◌≤◌, ◌<◌, ◌≡◌, true, List, length, take}
-use Rattle.log.specs.declared.admit.Checked.TheVariants.{Readable}
+use Rattle.event_log.specs.declared.admit.Checked.TheVariants.{Readable}
 use Rattle.events.specs.declared.event.Event.{Event}
 use Rattle.records.specs.Bytes.{Bytes}
-use Rattle.log.specs.Columns.{Columns, history}
+use Rattle.event_log.specs.Columns.{Columns, history}
 use Rattle.events.specs.Events.{begins}
-use Rattle.log.specs.Starts.{start_of}
-use Rattle.log.specs.Answer.{history_answer}
+use Rattle.event_log.specs.Starts.{start_of}
+use Rattle.event_log.specs.Answer.{history_answer}
 use Rattle.opacity.specs.Explains.{Explains}
 use Rattle.opacity.specs.Justification.{Place}
 use Rattle.opacity.specs.Marking.{Marking, gap_of}

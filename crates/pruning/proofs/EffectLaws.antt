@@ -13,7 +13,7 @@ use lib.Bits.{bit_and, bit_or, and_le_l, and_le_r, or_add_and, or_mod}
 use lib.Dec.{eqb}
 use borrow.Author.Tests.{eqb-true, eqb-false, ne_eqb}
 use Rattle.lists.specs.Lists.{all}
-use Rattle.log.specs.Starts.{start_of}
+use Rattle.event_log.specs.Starts.{start_of}
 use Rattle.opacity.specs.Justification.{written, contents}
 use Rattle.opacity.proofs.Contents.{contents-more}
 use Rattle.lists.specs.Bits.{bit_at, members}

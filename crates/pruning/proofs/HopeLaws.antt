@@ -11,7 +11,7 @@ use lib.Dec.{eqb}
 use lib.Count.{ones, count_trailing_zeros}
 use borrow.Author.Tests.{eqb-true, ne_eqb}
 use Rattle.lists.specs.Lists.{◌and◌, all}
-use Rattle.log.specs.Starts.{start_of}
+use Rattle.event_log.specs.Starts.{start_of}
 use Rattle.lists.proofs.ListLaws.{clash, all-weaken}
 use Rattle.opacity.specs.Justification.{written}
 use Rattle.opacity.proofs.Contents.{contents-more}

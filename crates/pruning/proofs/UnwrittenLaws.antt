@@ -13,7 +13,7 @@ use lib.Bits.{bit_xor}
 use lib.Dec.{eqb, ltb}
 use borrow.Author.Tests.{eqb-true, eqb-false, ltb-true, lt-ltb}
 use Rattle.lists.specs.Lists.{◌and◌, all}
-use Rattle.log.specs.Starts.{start_of}
+use Rattle.event_log.specs.Starts.{start_of}
 use Rattle.lists.proofs.ListLaws.{and_l, and_r, and_i, both_ways}
 use Rattle.opacity.specs.Justification.{contents}
 use Rattle.lists.specs.Bits.{bit_at, members}

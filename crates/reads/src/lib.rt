@@ -1,16 +1,18 @@
 // Own reads and store reads of a log: whether a read returns what its own transaction wrote is decided
 // here alone, by one pass that keeps the last write of each transaction to each register.
+#![tactic(auto)]
+
 ghost use Rattle.std.specs.Prelude.{◌≡◌, true, ℕ, ◌*◌, ◌≤◌, ◌<◌, length, get_or, set};
 ghost use Rattle.lists.specs.Filled.{Front};
 ghost use Rattle.events.specs.Events.{begins};
 ghost use Rattle.events.specs.Questions.{readable};
-ghost use Rattle.log.specs.Rows.{logged};
+ghost use Rattle.event_log.specs.Rows.{logged};
 ghost use Rattle.opacity.specs.Transactions.{is_store_read, store_reads, own_right};
 ghost use Rattle.opacity.specs.Counts.{one};
 ghost use Rattle.reads.specs.Own.{OwnWrites, Low, Blank, slot_of, noted_at, reads_store, gap_of, placed_at};
 
+use event_log::rows::{Row, event_at, transactions_begun};
 use events::event::{Event, is_read, is_write};
-use log::rows::{Row, event_at, transactions_begun};
 
 // What stands for no point, in a table of gaps by event.
 pub const NO_POINT: u16 = 65535;

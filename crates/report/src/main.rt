@@ -4,56 +4,55 @@
 //
 // A file that is there and cannot be read to its end is reported on standard error, and nothing is
 // printed: what was read of it would be judged as if it were the whole.
-use libc::STDOUT_FILENO;
+#![tactic(auto)]
+
+ghost use Rattle.std.specs.Prelude.{◌≤◌, length, IfOk};
+
 use lines::put_report_on;
+use std::fs::{self, File};
+use std::io::{self, ErrorKind, Read, Write};
 
-// Tells whether the input has ended, where fewer bytes came than were asked for.
-fn has_ended(fd: i32) -> bool {
-    let mut next = [0u8; 1];
-    libc::read(fd, &mut next) == 0
+// Reads to the end of the file or of the buffer, whichever comes first, and answers how many bytes
+// came.
+fn fill(file: &mut File, buffer: &mut [u8]) -> io::Result<usize>
+    ensures { IfOk result (λ n. n ≤ length buffer.new) }
+{
+    let mut n: usize = 0;
+    while n < buffer.len() {
+        let more = file.read(&mut buffer[n..])?;
+        if more == 0 {
+            return Ok(n);
+        }
+        n += more;
+    }
+    Ok(n)
 }
 
-// Reads the file to the start of the buffer and answers how many bytes it has, or one more than the
-// buffer has where it cannot be read. A longer file fills the buffer.
-fn load(path: &[u8], buffer: &mut [u8]) -> usize {
-    let failed = buffer.len() + 1;
-    let fd = os::open_read(path);
-    if fd < 0 {
-        if os::errno() == libc::ENOENT {
-            return 0;
-        }
-        os::fail(path);
-        return failed;
-    }
-    let n = io::read_full(fd, buffer);
-    if n < buffer.len() {
-        if !has_ended(fd) {
-            os::fail(path);
-            return failed;
+// Reads the file to the start of the buffer and answers how many bytes it has. An absent file has none, and a
+// longer one fills the buffer.
+fn load(rt: &HostRuntime, path: &str, buffer: &mut [u8]) -> io::Result<usize>
+    ensures { IfOk result (λ n. n ≤ length buffer.new) }
+{
+    match fs::open(rt, path) {
+        Ok(mut file) => fill(&mut file, buffer),
+        Err(e) => {
+            if e.kind() == ErrorKind::NotFound {
+                Ok(0)
+            } else {
+                Err(e)
+            }
         }
     }
-    libc::close(fd);
-    n
-}
-
-fn report(history: &[u8], n: usize, marking: &[u8], m: usize) {
-    if n > history.len() {
-        return;
-    }
-    if m > marking.len() {
-        return;
-    }
-    let mut text = [0u8; 343];
-    let k = put_report_on(&history[..n], &marking[..m], &mut text);
-    io::write_all(STDOUT_FILENO, &text[..k]);
 }
 
 // The buffers have one byte more than a file may have: a file that is too long is refused for its
 // length, however long it is.
-fn main() {
+fn main(rt: HostRuntime) -> io::Result<()> {
     let mut history = [0u8; 32769];
     let mut marking = [0u8; 32769];
-    let n = load(b"capture.hst", &mut history);
-    let m = load(b"capture.mrk", &mut marking);
-    report(&history, n, &marking, m);
+    let n = load(&rt, "capture.hst", &mut history)?;
+    let m = load(&rt, "capture.mrk", &mut marking)?;
+    let mut text = [0u8; 343];
+    let k = put_report_on(&history[..n], &marking[..m], &mut text);
+    rt.stdout().write_all(&text[..k])
 }

@@ -2,8 +2,8 @@
 ghost use Rattle.std.specs.Prelude.{◌≡◌, true, ℕ, ◌-◌, ◌≤◌, ◌<◌, length, get_or};
 ghost use Rattle.events.specs.Events.{event_at};
 ghost use Rattle.events.specs.Questions.{readable};
-ghost use Rattle.log.specs.Rows.{logged};
-ghost use Rattle.log.specs.Starts.{start_of};
+ghost use Rattle.event_log.specs.Rows.{logged};
+ghost use Rattle.event_log.specs.Starts.{start_of};
 ghost use Rattle.opacity.specs.declared.verdict.Verdict.TheVariants.{Broken};
 ghost use Rattle.opacity.specs.Marking.{verdict};
 ghost use Rattle.opacity.specs.Transactions.{own_right};
@@ -17,7 +17,7 @@ use crate::order::{rule_a, rule_b};
 use crate::places::{Writer, places_of, writers_of};
 use crate::points::first_broken;
 use links::tables::{Fact, Tables, index_of, table, tables_of};
-use log::rows::{Row, event_at, transactions_begun};
+use event_log::rows::{Row, event_at, transactions_begun};
 use opacity::verdict::{Rule, Verdict};
 use reads::own_right;
 

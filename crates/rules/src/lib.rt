@@ -5,6 +5,8 @@
 // and, of a transaction placed there that writes the register, at each write at most once: reads x
 // (places + writes) steps at most. Reads and writes share the events, so where there are many reads
 // there are few writes.
+#![tactic(auto)]
+
 pub mod judge;
 pub mod order;
 pub mod places;

@@ -1,8 +1,8 @@
 // Rules D and E, of read points.
 ghost use Rattle.std.specs.Prelude.{◌≡◌, ◌≤◌, ◌<◌, min, max, length, get_or};
 ghost use Rattle.events.specs.declared.event.Event.{Event};
-ghost use Rattle.log.specs.Rows.{logged};
-ghost use Rattle.log.specs.Starts.{start_of};
+ghost use Rattle.event_log.specs.Rows.{logged};
+ghost use Rattle.event_log.specs.Starts.{start_of};
 ghost use Rattle.rules.specs.Orders.{broken};
 ghost use Rattle.rules.specs.Walks.{Walkable, Pointable, no_writer, right_value, point_rule};
 
@@ -11,7 +11,7 @@ use crate::walk::last_writer;
 use events::event::Event;
 use links::tables::index_of;
 use lists::numbers::stored;
-use log::rows::{Row, event_at};
+use event_log::rows::{Row, event_at};
 use opacity::verdict::Rule;
 use reads::NO_POINT;
 

@@ -1,6 +1,6 @@
 // The walk back over places and, at each, over the writes of its transaction.
 ghost use Rattle.std.specs.Prelude.{◌≡◌, ◌≤◌, ◌<◌};
-ghost use Rattle.log.specs.Rows.{logged};
+ghost use Rattle.event_log.specs.Rows.{logged};
 ghost use Rattle.links.specs.Writes.{plus_one};
 ghost use Rattle.rules.specs.Walks.{start_at, last_in, Walkable};
 
@@ -8,7 +8,7 @@ use crate::places::{LAST, WRITES, Writer, from_field};
 use links::tables::index_of;
 use lists::numbers::stored;
 use lists::sets::has_register;
-use log::rows::{Row, event_at};
+use event_log::rows::{Row, event_at};
 
 // Where the walk over the writes at place k starts: nowhere, where that is the reader's own place or
 // its transaction does not write r.

@@ -8,22 +8,22 @@ use mathlib.Core.List.{List}
 use lib.ListN.{length}
 use borrow.Author.Tests.{le-leb, lt-leb, leb-true}
 use Rattle.events.specs.declared.event.Event.{Event}
-use Rattle.log.specs.declared.admit.Checked.{Checked}
+use Rattle.event_log.specs.declared.admit.Checked.{Checked}
 use Rattle.events.specs.declared.refusal.Refusal.{Refusal}
 use Rattle.events.specs.Said.{at_event, refuse}
 use Rattle.events.specs.Events.{begins}
-use Rattle.log.specs.Columns.{Columns, history, hold}
-use Rattle.log.specs.Starts.{start_of, admits}
+use Rattle.event_log.specs.Columns.{Columns, history, hold}
+use Rattle.event_log.specs.Starts.{start_of, admits}
 use Rattle.events.specs.Questions.{readable}
-use Rattle.log.specs.Answer.{history_answer}
-use Rattle.log.proofs.ColumnLaws.{hold-e, hold-i}
-use Rattle.log.proofs.StartLaws.{fine, fine-answer}
+use Rattle.event_log.specs.Answer.{history_answer}
+use Rattle.event_log.proofs.ColumnLaws.{hold-e, hold-i}
+use Rattle.event_log.proofs.StartLaws.{fine, fine-answer}
 use Rattle.events.proofs.QuestionLaws.{readable-in}
-use Rattle.log.proofs.AnswerLaws.{columns-readable, readable-columns}
+use Rattle.event_log.proofs.AnswerLaws.{columns-readable, readable-columns}
 use Rattle.opacity.specs.declared.verdict.Scanned.{Scanned}
 use Rattle.opacity.specs.Scan.{scan}
-use Rattle.log.specs.Calls.{then_checked}
-use Rattle.log.proofs.CallLaws.{asked-none, asked-yes, asked-no, asked-e, then-readable, then-refused, then-e}
+use Rattle.event_log.specs.Calls.{then_checked}
+use Rattle.event_log.proofs.CallLaws.{asked-none, asked-yes, asked-no, asked-e, then-readable, then-refused, then-e}
 use Rattle.scan.specs.declared.Scanning.{Scanning}
 use Rattle.scan.specs.Answer.{Passed, scanned_said, said, size_refusal, scan_refusal, decided, scan_answer}
 use Rattle.scan.specs.Logs.{scan_of, scan_after}

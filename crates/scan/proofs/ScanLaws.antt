@@ -16,7 +16,7 @@ use Rattle.lists.specs.Lists.{is_none, first, keep}
 use Rattle.events.specs.declared.event.Event.{Event}
 use Rattle.events.specs.Events.{begins, is_begin, is_quiet, event_at}
 use Rattle.events.proofs.KindLaws.{quiet}
-use Rattle.log.specs.Starts.{start_of}
+use Rattle.event_log.specs.Starts.{start_of}
 use Rattle.opacity.specs.Justification.{Justified}
 use Rattle.opacity.specs.Lowest.{lowest_of}
 use Rattle.opacity.specs.Scan.{cause, scan}

@@ -5,19 +5,19 @@ use mathlib.Core.Logic.{◌↔◌}
 use Prim.Native.Nat.{ℕ}
 use mathlib.Core.List.{List, []}
 use lib.ListN.{length}
-use Rattle.log.specs.declared.admit.Checked.{Checked}
+use Rattle.event_log.specs.declared.admit.Checked.{Checked}
 use Rattle.events.specs.declared.refusal.Refusal.{Refusal}
 use Rattle.events.specs.Said.{done, faulted, at_event, refuse}
-use Rattle.log.specs.Columns.{Columns, history, hold}
-use Rattle.log.specs.Starts.{start_of, no_starts}
-use Rattle.log.specs.Answer.{history_answer}
-use Rattle.log.proofs.ColumnLaws.{history-length}
-use Rattle.log.proofs.StartLaws as start-laws
+use Rattle.event_log.specs.Columns.{Columns, history, hold}
+use Rattle.event_log.specs.Starts.{start_of, no_starts}
+use Rattle.event_log.specs.Answer.{history_answer}
+use Rattle.event_log.proofs.ColumnLaws.{history-length}
+use Rattle.event_log.proofs.StartLaws as start-laws
 use Rattle.opacity.specs.declared.verdict.Scanned.{Scanned}
 use Rattle.opacity.specs.Scan.{scan, AllJustified, FaultsAt}
 use Rattle.opacity.specs.Serial.{AllSerial}
 use Rattle.opacity.proofs.Theorems.{opaque-iff, faulted-iff, opaque-iff-serial, cause-never-four}
-use Rattle.log.specs.Calls.{then_checked}
+use Rattle.event_log.specs.Calls.{then_checked}
 use Rattle.scan.specs.declared.Scanning.{Scanning}
 use Rattle.scan.specs.Answer.{said, Passes, Passed, size_refusal, scan_refusal, decided, scan_answer, first_edition_answer}
 use Rattle.scan.proofs.AnswerLaws.{said-scanned, said-refused, passes, decided-refused, decided-scanned, scanned-e, refused-e, passed, passed-readable}

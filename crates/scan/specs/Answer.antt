@@ -2,17 +2,17 @@
 -- Assumes nothing.
 use Rattle.std.specs.Prelude.{ℕ, ◌≤◌, ◌≡◌, true, List, [], ◌∷◌, leb}
 use Rattle.events.specs.declared.event.Event.{Event}
-use Rattle.log.specs.declared.admit.Checked.{Checked}
+use Rattle.event_log.specs.declared.admit.Checked.{Checked}
 use Rattle.events.specs.Events.{begins}
-use Rattle.log.specs.Columns.{Columns, history, hold}
-use Rattle.log.specs.Starts.{start_of, admits}
+use Rattle.event_log.specs.Columns.{Columns, history, hold}
+use Rattle.event_log.specs.Starts.{start_of, admits}
 use Rattle.events.specs.Said.{Said, done, faulted, event_refused}
 use Rattle.events.specs.Questions.{ask, readable_in}
-use Rattle.log.specs.Answer.{columns_answer, history_answer}
+use Rattle.event_log.specs.Answer.{columns_answer, history_answer}
 use Rattle.opacity.specs.declared.verdict.Scanned.{Scanned}
 use Rattle.opacity.specs.Justification.{zeros}
 use Rattle.opacity.specs.Scan.{scan}
-use Rattle.log.specs.Calls.{asked_of, then_checked}
+use Rattle.event_log.specs.Calls.{asked_of, then_checked}
 use Rattle.scan.specs.declared.Scanning.{Scanning}
 
 -- what the scan of a history says: opaque, or the event with the cause

@@ -3,10 +3,10 @@
 -- Assumes nothing.
 use Rattle.std.specs.Prelude.{ℕ, List, length}
 use Rattle.events.specs.declared.event.Event.{Event}
-use Rattle.log.specs.declared.admit.Checked.{Checked}
-use Rattle.log.specs.Starts.{start_of}
+use Rattle.event_log.specs.declared.admit.Checked.{Checked}
+use Rattle.event_log.specs.Starts.{start_of}
 use Rattle.opacity.specs.Scan.{scan}
-use Rattle.log.specs.Calls.{then_checked}
+use Rattle.event_log.specs.Calls.{then_checked}
 use Rattle.scan.specs.declared.Scanning.{Scanning}
 use Rattle.scan.specs.Answer.{size_refusal, decided}
 

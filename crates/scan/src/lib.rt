@@ -1,9 +1,11 @@
 // The scan: the prefixes of a history, by rising length, until one has no justification.
+#![tactic(auto)]
+
 ghost use Rattle.std.specs.Prelude.{◌≡◌, true, take};
 ghost use Rattle.events.specs.Questions.{readable};
-ghost use Rattle.log.specs.Columns.{columns};
-ghost use Rattle.log.specs.Rows.{logged, Entered};
-ghost use Rattle.log.specs.Starts.{start_of};
+ghost use Rattle.event_log.specs.Columns.{columns};
+ghost use Rattle.event_log.specs.Rows.{logged, Entered};
+ghost use Rattle.event_log.specs.Starts.{start_of};
 ghost use Rattle.opacity.specs.Scan.{scan, cause};
 ghost use Rattle.opacity.specs.declared.verdict.Scanned.TheVariants.{Faulted};
 ghost use Rattle.lowest.specs.Order.{Judged};
@@ -13,13 +15,13 @@ ghost use Rattle.scan.specs.Logs.{scan_of, scan_after};
 use events::event::{Event, is_abort, is_begin, is_commit, is_quiet, is_read};
 use events::refusal::Refusal;
 use events::state::begun_after;
-use log::admit::{Checked, admit};
-use log::rows::{BLANK, MOST, Row, SHORT, event_at, transactions_begun};
+use event_log::admit::{Checked, admit};
+use event_log::rows::{BLANK, MOST, Row, SHORT, event_at, transactions_begun};
 use opacity::verdict::Scanned;
 use places::facts::SEARCHED;
 
 // The scan's answer: opaque, or the event and the cause; or the question that says no, with its event.
-#[derive(Drop)]
+#[derive(Clone, Copy)]
 pub enum Scanning {
     Scanned(Scanned),
     Refused(Refusal),

@@ -3,7 +3,7 @@
 use Rattle.std.specs.Prelude.{◌≡◌, refl, [], ◌∷◌, replicate}
 use Rattle.std.proofs.Math.Option.{some}
 use Rattle.lists.specs.Lists.{◌and◌, ◌or◌, all, latest}
-use Rattle.log.specs.Starts.{start_of}
+use Rattle.event_log.specs.Starts.{start_of}
 use Rattle.events.specs.Events.{is_write, by}
 use Rattle.opacity.specs.Transactions.{last_write}
 use Rattle.opacity.specs.Justification.{written, contents}

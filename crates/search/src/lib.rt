@@ -1,5 +1,7 @@
 // The lowest completion: a search over the orders and outcomes of at most ten transactions. `places` has the places filled and what
 // they leave in a register, `pruning` the test that leaves a state which nothing completes, and here transactions and outcomes are chosen.
+#![tactic(auto)]
+
 ghost use Rattle.std.specs.Prelude.{◌≡◌, false, ◌≤◌, ◌<◌};
 ghost use Rattle.lists.specs.Bits.{bit_at, members};
 ghost use Rattle.places.specs.State.{placed_of, whole, Sound, Placeable, Within};

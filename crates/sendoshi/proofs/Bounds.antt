@@ -11,16 +11,16 @@ use lib.Dec.{ltb}
 use lib.ListN.{length, take}
 use borrow.Author.Tests.{lt-ltb, le-ltb}
 use Rattle.events.specs.declared.event.Event.{Event}
-use Rattle.log.specs.declared.admit.Checked.{Checked}
+use Rattle.event_log.specs.declared.admit.Checked.{Checked}
 use Rattle.events.specs.declared.refusal.Refusal.{Refusal}
 use Rattle.events.specs.Said.{Said, event_refused, byte_refused}
 use Rattle.lists.specs.Lists.{◌or◌}
 use Rattle.events.specs.Events.{is_begin, is_read, is_commit, is_abort, begins}
-use Rattle.log.specs.Columns.{Columns, history}
-use Rattle.log.specs.Starts.{start_of}
+use Rattle.event_log.specs.Columns.{Columns, history}
+use Rattle.event_log.specs.Starts.{start_of}
 use Rattle.events.specs.Questions.{readable}
-use Rattle.log.specs.Answer.{history_answer}
-use Rattle.log.proofs.ColumnLaws.{history-length}
+use Rattle.event_log.specs.Answer.{history_answer}
+use Rattle.event_log.proofs.ColumnLaws.{history-length}
 use Rattle.events.proofs.QuestionLaws.{readable-in, readable-take}
 use Rattle.events.proofs.ReadableLaws.{readable-most}
 use Rattle.opacity.specs.declared.verdict.Rule.{Rule}

@@ -12,19 +12,19 @@ use lib.ListN.{length, take}
 use lib.Seq.{length-take-le}
 use borrow.Author.Tests.{leb-true}
 use Rattle.events.specs.declared.event.Event.{Event}
-use Rattle.log.specs.declared.admit.Checked.{Checked}
+use Rattle.event_log.specs.declared.admit.Checked.{Checked}
 use Rattle.events.specs.declared.refusal.Refusal.{Refusal}
 use Rattle.events.specs.Said.{refuse}
 use Rattle.lists.specs.Lists.{◌and◌, all, lowest}
 use Rattle.events.specs.Events.{event_at}
-use Rattle.log.specs.Columns.{Columns, history, hold}
-use Rattle.log.specs.Starts.{admits}
+use Rattle.event_log.specs.Columns.{Columns, history, hold}
+use Rattle.event_log.specs.Starts.{admits}
 use Rattle.events.specs.Questions.{Question, refusal, Past, past, event_questions, column_questions, refused_at, readable}
-use Rattle.log.specs.Answer.{refused_with, events_answer, history_answer}
+use Rattle.event_log.specs.Answer.{refused_with, events_answer, history_answer}
 use Rattle.lists.proofs.ListLaws.{and_l, and_r, lowest-some, Lowest}
 use Rattle.events.proofs.QuestionLaws.{asked, fit}
-use Rattle.log.proofs.StartLaws.{history-readable}
-use Rattle.log.specs.Calls.{asked_of, then_checked}
+use Rattle.event_log.proofs.StartLaws.{history-readable}
+use Rattle.event_log.specs.Calls.{asked_of, then_checked}
 use Rattle.codes.specs.Codes.{Within}
 
 abbrev pub within : ℕ → ℕ → ℕ → Bool

@@ -9,14 +9,14 @@ use mathlib.Core.Bool.{Bool, true, false, cond}
 use mathlib.Core.List.{List}
 use lib.Dec.{leb}
 use lib.ListN.{length}
-use Rattle.log.specs.declared.admit.Checked.{Checked}
+use Rattle.event_log.specs.declared.admit.Checked.{Checked}
 use Rattle.events.specs.declared.refusal.Refusal.{Refusal}
 use Rattle.events.specs.Said.{refuse}
 use Rattle.lists.specs.Lists.{◌and◌, all}
 use Rattle.records.specs.Bytes.{over}
-use Rattle.log.specs.Columns.{Columns, history, hold, filled_with}
-use Rattle.log.specs.Starts.{start_of}
-use Rattle.log.specs.Answer.{columns_answer, history_answer}
+use Rattle.event_log.specs.Columns.{Columns, history, hold, filled_with}
+use Rattle.event_log.specs.Starts.{start_of}
+use Rattle.event_log.specs.Answer.{columns_answer, history_answer}
 use Rattle.reader.specs.declared.Reading.{Reading}
 use Rattle.reader.specs.Reading.{Log, Outcome, readable as is_read, refused as unread, history_of, history_read, not_read, answered as answers, filled, read_answer}
 use Rattle.writer.specs.declared.Writing.{Writing}

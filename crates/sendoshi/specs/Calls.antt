@@ -2,7 +2,7 @@
 -- is lent to fill, afterwards.
 -- Assumes nothing.
 use Rattle.std.specs.Prelude.{ℕ, ◌≤◌, List, [], ◌∷◌}
-use Rattle.log.specs.Columns.{Columns}
+use Rattle.event_log.specs.Columns.{Columns}
 use Rattle.reader.specs.declared.Reading.{Reading}
 use Rattle.reader.specs.declared.HistoryRead.{HistoryRead}
 use Rattle.reader.specs.Reading.{ReadAnswer, read_answer, said as read_said}

@@ -5,8 +5,10 @@
 // Assumed of the caller, since no function can test it: each slice is a pointer that is good for its
 // length, nothing else refers to what is written, start values are a pointer to 32 numbers and a note is one
 // to 3.
+#![tactic(auto)]
+
 ghost use Rattle.std.specs.Prelude.{◌≡◌};
-ghost use Rattle.log.specs.Columns.{columns};
+ghost use Rattle.event_log.specs.Columns.{columns};
 ghost use Rattle.reader.specs.Reading.{read_answer, said as read_said};
 ghost use Rattle.writer.specs.Writing.{written_answer, said as written_said};
 ghost use Rattle.finder.specs.Answer.{found_answer, said as found_said};

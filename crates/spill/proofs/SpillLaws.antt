@@ -11,10 +11,10 @@ use lib.Seq.{drop-cons, set_at, take-length}
 use Rattle.events.specs.declared.event.Event.{Event}
 use Rattle.events.specs.Events.{event_at}
 use Rattle.records.specs.Bytes.{over}
-use Rattle.log.specs.Columns.{Columns, hold, filled_with, spilled}
-use Rattle.log.specs.Rows.{logged}
-use Rattle.log.proofs.ColumnLaws.{Held, hold-i}
-use Rattle.log.proofs.RowLaws.{logged-length, logged-more}
+use Rattle.event_log.specs.Columns.{Columns, hold, filled_with, spilled}
+use Rattle.event_log.specs.Rows.{logged}
+use Rattle.event_log.proofs.ColumnLaws.{Held, hold-i}
+use Rattle.event_log.proofs.RowLaws.{logged-length, logged-more}
 
 -- ---- one column, of a field f
 

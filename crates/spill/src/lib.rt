@@ -1,10 +1,12 @@
 // A log put back into columns, for the doors that hand a history out.
-ghost use Rattle.std.specs.Prelude.{◌≡◌, length};
-ghost use Rattle.log.specs.Columns.{columns, hold, spilled};
-ghost use Rattle.log.specs.Rows.{logged};
+#![tactic(auto)]
 
-use log::columns::columns_hold;
-use log::rows::{Row, event_at};
+ghost use Rattle.std.specs.Prelude.{◌≡◌, length};
+ghost use Rattle.event_log.specs.Columns.{columns, hold, spilled};
+ghost use Rattle.event_log.specs.Rows.{logged};
+
+use event_log::columns::columns_hold;
+use event_log::rows::{Row, event_at};
 
 // Copies the events of a log into the first entries of the columns, if each column has an entry for
 // each event, and says whether they have; the other entries stay as they were.

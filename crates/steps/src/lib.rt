@@ -1,2 +1,4 @@
 // What a record past the head of a history answers.
+#![tactic(auto)]
+
 pub mod step;

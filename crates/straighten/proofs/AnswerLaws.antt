@@ -10,17 +10,17 @@ use mathlib.Core.Option.{Option, none, some, get_or, none-ne-some, some-injectiv
 use lib.Dec.{eqb}
 use lib.ListN.{length, take}
 use Rattle.events.specs.declared.event.Event.{Event}
-use Rattle.log.specs.declared.admit.Checked.{Checked}
-use Rattle.log.specs.declared.admit.Checked.TheVariants.{Readable, Refused as Refuses}
+use Rattle.event_log.specs.declared.admit.Checked.{Checked}
+use Rattle.event_log.specs.declared.admit.Checked.TheVariants.{Readable, Refused as Refuses}
 use Rattle.events.specs.declared.refusal.Refusal.{Refusal}
 use Rattle.events.specs.Said.{refuse}
 use Rattle.lists.specs.Lists.{◌and◌, all, lowest}
 use Rattle.records.specs.Bytes.{over}
 use Rattle.events.specs.Events.{event_at}
-use Rattle.log.specs.Columns.{Columns, history, hold}
-use Rattle.log.specs.Starts.{start_of, admits}
+use Rattle.event_log.specs.Columns.{Columns, history, hold}
+use Rattle.event_log.specs.Starts.{start_of, admits}
 use Rattle.events.specs.Questions.{Question, Past, past, refusal, event_questions, column_questions, refused_at}
-use Rattle.log.specs.Answer.{refused_with, events_answer, history_answer}
+use Rattle.event_log.specs.Answer.{refused_with, events_answer, history_answer}
 use Rattle.lists.proofs.ListLaws.{and_l, and_r, eqb-self, not-true, clash, Lowest, lowest-some}
 use Rattle.opacity.specs.declared.verdict.Rule.{Rule}
 use Rattle.opacity.specs.declared.verdict.Verdict.{Verdict}

@@ -10,17 +10,17 @@ use mathlib.Core.Bool.{Bool, true, false, cond}
 use mathlib.Core.List.{List, [], ◌∷◌}
 use lib.ListN.{length, take, drop}
 use Rattle.events.specs.declared.event.Event.{Event}
-use Rattle.log.specs.declared.admit.Checked.{Checked}
-use Rattle.log.specs.declared.admit.Checked.TheVariants.{Readable, Refused as Refuses}
+use Rattle.event_log.specs.declared.admit.Checked.{Checked}
+use Rattle.event_log.specs.declared.admit.Checked.TheVariants.{Readable, Refused as Refuses}
 use Rattle.events.specs.declared.refusal.Refusal.{Refusal}
 use Rattle.events.specs.Said.{done as is_done, broken, at_event, at_byte, refuse}
 use Rattle.records.specs.Bytes.{Bytes, over}
 use Rattle.events.specs.Events.{event_at}
-use Rattle.log.specs.Columns.{Columns, history, hold}
-use Rattle.log.specs.Starts.{start_of, no_starts}
-use Rattle.log.specs.Answer.{history_answer}
+use Rattle.event_log.specs.Columns.{Columns, history, hold}
+use Rattle.event_log.specs.Starts.{start_of, no_starts}
+use Rattle.event_log.specs.Answer.{history_answer}
 use Rattle.records.proofs.BufferLaws.{take-over, drop-over}
-use Rattle.log.proofs.StartLaws.{no-starts, history-readable, first-edition as first-asked}
+use Rattle.event_log.proofs.StartLaws.{no-starts, history-readable, first-edition as first-asked}
 use Rattle.opacity.specs.declared.verdict.Rule.{Rule}
 use Rattle.opacity.specs.declared.verdict.Rule.TheVariants.{D, E}
 use Rattle.opacity.specs.declared.verdict.Verdict.{Verdict}

@@ -13,8 +13,8 @@ use borrow.Author.Tests.{leb-true}
 use Rattle.events.specs.declared.event.Event.{Event}
 use Rattle.lists.specs.Lists.{◌and◌}
 use Rattle.records.specs.Bytes.{Bytes}
-use Rattle.log.specs.Rows.{logged}
-use Rattle.log.proofs.RowLaws.{logged-length}
+use Rattle.event_log.specs.Rows.{logged}
+use Rattle.event_log.proofs.RowLaws.{logged-length}
 use Rattle.events.specs.Events.{begins}
 use Rattle.events.specs.Said.{refuse}
 use Rattle.lists.proofs.ListLaws.{and_l, and_r}

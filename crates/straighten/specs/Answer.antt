@@ -2,14 +2,14 @@
 -- Assumes nothing.
 use Rattle.std.specs.Prelude.{ℕ, ◌≡◌, Bool, true, false, cond, List, [], ◌∷◌, leb, length}
 use Rattle.events.specs.declared.event.Event.{Event}
-use Rattle.log.specs.declared.admit.Checked.{Checked}
-use Rattle.log.specs.declared.admit.Checked.TheVariants.{Readable, Refused as Refuses}
+use Rattle.event_log.specs.declared.admit.Checked.{Checked}
+use Rattle.event_log.specs.declared.admit.Checked.TheVariants.{Readable, Refused as Refuses}
 use Rattle.lists.specs.Lists.{◌and◌}
 use Rattle.records.specs.Bytes.{over}
-use Rattle.log.specs.Columns.{Columns, history}
-use Rattle.log.specs.Starts.{start_of}
+use Rattle.event_log.specs.Columns.{Columns, history}
+use Rattle.event_log.specs.Starts.{start_of}
 use Rattle.events.specs.Said.{Said, done, event_refused, byte_refused, refuse}
-use Rattle.log.specs.Answer.{columns_answer, history_answer}
+use Rattle.event_log.specs.Answer.{columns_answer, history_answer}
 use Rattle.opacity.specs.declared.verdict.Verdict.{Verdict}
 use Rattle.opacity.specs.declared.verdict.Verdict.TheVariants.{Accepted, Broken as Breaks}
 use Rattle.opacity.specs.Transactions.{store_reads}

@@ -3,13 +3,15 @@
 // output and list as one equation, refusals and broken rules among them (specs/Answer); that it
 // succeeds exactly if outcomes and order justify the history, and that the checker accepts what it
 // writes (proofs/Theorems). A point that stays is judged twice, by itself and with all the others.
+#![tactic(auto)]
+
 ghost use Rattle.std.specs.Prelude.{◌≡◌, true, ◌+◌, ◌*◌, ◌-◌, ◌/◌, ◌≤◌, leb, length, take};
 ghost use Rattle.lists.specs.Lists.{◌and◌};
 ghost use Rattle.events.specs.Questions.{readable};
 ghost use Rattle.events.specs.Said.{refuse};
-ghost use Rattle.log.specs.Columns.{columns};
-ghost use Rattle.log.specs.Rows.{logged, Entered};
-ghost use Rattle.log.specs.Starts.{start_of};
+ghost use Rattle.event_log.specs.Columns.{columns};
+ghost use Rattle.event_log.specs.Rows.{logged, Entered};
+ghost use Rattle.event_log.specs.Starts.{start_of};
 ghost use Rattle.opacity.specs.Marking.{verdict};
 ghost use Rattle.rules.specs.Judge.{content};
 ghost use Rattle.marking_reader.specs.File.{known, file_read};
@@ -27,8 +29,8 @@ use crate::moves::{move_points, moves_of};
 use events::refusal::Refusal;
 use links::tables::tables_of;
 use links::writes::links;
-use log::admit::{Checked, admit};
-use log::rows::{BLANK, MOST, Row, SHORT, transactions_begun};
+use event_log::admit::{Checked, admit};
+use event_log::rows::{BLANK, MOST, Row, SHORT, transactions_begun};
 use marking_reader::read::read_marking;
 use marking_writer::write_marking;
 use opacity::verdict::{Rule, Verdict};
@@ -40,7 +42,7 @@ use rules::places::{places_of, writers_of};
 // The answer: the length of the marking written and the number of events moved; the rule that is
 // broken wherever the points are; the question that refuses the history or a lent buffer, with its
 // event; or the question that refuses the marking, with its byte.
-#[derive(Drop)]
+#[derive(Clone, Copy)]
 pub enum Straightening {
     Straightened {
         length: usize,

@@ -2,12 +2,12 @@
 ghost use Rattle.std.specs.Prelude.{◌≡◌, true, false, ◌≤◌, ◌<◌, length};
 ghost use Rattle.lists.specs.Filled.{Front};
 ghost use Rattle.events.specs.Questions.{readable};
-ghost use Rattle.log.specs.Rows.{logged};
-ghost use Rattle.log.specs.Starts.{start_of};
+ghost use Rattle.event_log.specs.Rows.{logged};
+ghost use Rattle.event_log.specs.Starts.{start_of};
 ghost use Rattle.rules.specs.Walks.{Pointable, point_rule};
 ghost use Rattle.straighten.specs.Tables.{breaks_by, gap_by};
 
-use log::rows::{Row, event_at};
+use event_log::rows::{Row, event_at};
 use opacity::verdict::Rule;
 use rules::places::Writer;
 use rules::points::{holds_at, place_at};

@@ -1,4 +1,6 @@
 // What the search is told of a prefix: a table of facts taken from its events, one event at a time.
+#![tactic(auto)]
+
 ghost use Rattle.std.specs.Prelude.{◌≡◌, ◌+◌, ◌<◌, replicate};
 ghost use Rattle.tables.specs.Tables.{tables_by, Tabled, clashes, expected, contradicts, reads_store, joined, next, empty};
 ghost use Rattle.tables.specs.Tables.{after_with, rule_with, allowed_with, read_with, written_with};
@@ -15,7 +17,7 @@ use places::sets;
 // What a prefix says of its transactions stands in a table of facts, which the loops hold and lend to each step, so that it is not copied
 // with an event. What is left goes by value, as sets of one bit each: `ended` has the transactions that have ended, `contradictory` those
 // with a read that is wrong wherever they are placed.
-#[derive(Drop)]
+#[derive(Clone, Copy)]
 pub struct Standing {
     pub ended: u64,
     pub contradictory: u64,

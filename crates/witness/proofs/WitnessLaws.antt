@@ -15,7 +15,7 @@ use borrow.Author.Tests.{eq-eqb, ne_eqb, ltb-true, lt-ltb}
 use Rattle.lists.specs.Lists.{◌or◌, ◌implies◌, all}
 use Rattle.events.specs.declared.event.Event.{Event}
 use Rattle.events.specs.Events.{event_at, is_begin, is_read, is_commit, is_abort, is_end, begins}
-use Rattle.log.specs.Starts.{start_of}
+use Rattle.event_log.specs.Starts.{start_of}
 use Rattle.lists.proofs.ListLaws.{and_l, and_r, and_i, nor-l, nor-r, all-weaken}
 use Rattle.events.proofs.EventLaws.{begins-snoc, begins-same}
 use Rattle.events.proofs.QuestionLaws as asking

@@ -4,7 +4,7 @@
 use Rattle.std.specs.Prelude.{◌≡◌, ℕ, ◌+◌, ◌*◌, ◌^◌, ◌<◌, true, false, cond, List}
 use Rattle.events.specs.declared.event.Event.{Event}
 use Rattle.events.specs.Events.{is_begin, is_commit}
-use Rattle.log.specs.Starts.{start_of}
+use Rattle.event_log.specs.Starts.{start_of}
 use Rattle.opacity.specs.Marking.{outcome_number}
 use Rattle.opacity.specs.Carry.{carries}
 use Rattle.places.specs.Places.{codes_of, decode, writes_in}

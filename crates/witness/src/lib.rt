@@ -1,7 +1,9 @@
 // The witness: an order of places that justifies the prefix passed, as the search answers it, carried on to the next event.
+#![tactic(auto)]
+
 ghost use Rattle.std.specs.Prelude.{◌≡◌, true, cond, not, ◌<◌};
 ghost use Rattle.events.specs.Events.{is_begin, is_commit};
-ghost use Rattle.log.specs.Starts.{start_of};
+ghost use Rattle.event_log.specs.Starts.{start_of};
 ghost use Rattle.opacity.specs.Justification.{outcome};
 ghost use Rattle.opacity.specs.Carry.{seen};
 ghost use Rattle.places.specs.Places.{codes_of, decode, writes_in};

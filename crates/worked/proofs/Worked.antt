@@ -6,10 +6,10 @@ use Rattle.lists.specs.Lists.{◌and◌, ◌or◌, ◌implies◌, any, all, keep
 use Rattle.events.specs.Events.{is_known, is_lone, is_begin, answers_read, is_read, is_write, is_call, names_register, asks_commit, is_commit, is_abort, is_end}
 use Rattle.events.specs.Events.{by, has, begins, ended, last_of, pending_call, pending_of, latest_on}
 use Rattle.events.specs.Questions.{refusal, thread_free, due, register_due, fields_due, event_questions, column_questions, refused_at}
-use Rattle.log.specs.Answer.{events_answer, history_answer}
-use Rattle.log.specs.Answer.{said}
-use Rattle.log.specs.Starts.{start_of, all_zero, admits}
-use Rattle.log.specs.Columns.{history, hold, filled_with}
+use Rattle.event_log.specs.Answer.{events_answer, history_answer}
+use Rattle.event_log.specs.Answer.{said}
+use Rattle.event_log.specs.Starts.{start_of, all_zero, admits}
+use Rattle.event_log.specs.Columns.{history, hold, filled_with}
 use Rattle.opacity.specs.Transactions.{status, allows, precedes, last_write, own_write, is_own_read, is_store_read, store_reads, own_right}
 use Rattle.opacity.specs.Justification.{placed, before, outcome, written, contents, distinct, is_order, outcome_kept, preceded, legal_over, real_time_kept}
 use Rattle.opacity.specs.Lowest.{fits, lowest_place, continued, lowest_of}

@@ -5,10 +5,10 @@ use Rattle.std.proofs.Math.Option.{Option, none, some}
 use Rattle.lists.specs.Lists.{◌and◌, ◌or◌, all}
 use Rattle.events.specs.declared.event.Event.{Event}
 use Rattle.events.specs.Events.{begins}
-use Rattle.log.specs.Starts.{start_of, no_starts}
-use Rattle.log.specs.Columns.{Columns, columns, filled_with}
+use Rattle.event_log.specs.Starts.{start_of, no_starts}
+use Rattle.event_log.specs.Columns.{Columns, columns, filled_with}
 use Rattle.events.specs.Said.{Said, done, nothing, faulted, broken, at_event, at_byte}
-use Rattle.log.specs.Answer.{history_answer, said}
+use Rattle.event_log.specs.Answer.{history_answer, said}
 use Rattle.reader.specs.Reading.{read_answer, said as read_said}
 use Rattle.notes.specs.declared.NextNote.{NextNote}
 use Rattle.notes.specs.declared.NextNote.TheVariants.{Next, None}

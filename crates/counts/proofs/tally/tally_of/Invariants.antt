@@ -1,0 +1,17 @@
+-- `tally_of` meets its contract: after t transactions the counts are of those below t. Assumes nothing.
+use Prim.Native.Nat.{◌-◌, ◌<◌, ◌≤◌}
+use native.Mathlib.Omega.{arith}
+use mathlib.Core.Path.{◌≡◌, sym, ap, ◌∙◌}
+use Rattle.events.specs.Events.{begins}
+use Rattle.event_log.specs.Rows.{logged}
+use Rattle.opacity.specs.Transactions.{status_number, status}
+use Rattle.opacity.proofs.Bounds.{at-most-64}
+use Rattle.links.proofs.TableLaws.{status-table}
+use Rattle.counts.proofs.TallyLaws.{Counted, counted-first, number-low, counts-few, counted-more, counted-all}
+use Rattle.counts.proofs.tally.tally_of.Given as goal
+
+abbrev pub invariant-loop-t : goal.invariant-loop-t
+invariant-loop-t l = Counted (logged l.log) l.many l.t
+
+abbrev pub decreases-loop-t : goal.decreases-loop-t
+decreases-loop-t l = l.begun - l.t

@@ -1,0 +1,18 @@
+-- `marking_writer::put_points` meets its contract.
+-- Assumes nothing.
+use Prim.Native.Nat.{ℕ, ◌-◌, ◌≤◌}
+use mathlib.Core.Path.{◌≡◌}
+use mathlib.Core.List.{List}
+use native.Mathlib.Omega.{arith}
+use lib.ListN.{length, get_or}
+use Rattle.marking_writer.specs.Points.{is_gap, read_bytes}
+use Rattle.marking_writer.proofs.RunLaws.{Put, put-none, put-room, put-more}
+use Rattle.marking_writer.proofs.PointLaws.{points_none, points-more}
+use Rattle.marking_writer.specs.Whole.{points_in}
+use Rattle.marking_writer.proofs.put_points.Given as goal
+
+abbrev pub invariant-loop-i : goal.invariant-loop-i
+invariant-loop-i l = (l.i ≤ length l.gaps) × Put (points_in l.gaps) l.initial.out l.from l.i l.out l.at
+
+abbrev pub decreases-loop-i : goal.decreases-loop-i
+decreases-loop-i l = length l.gaps - l.i

@@ -1,0 +1,16 @@
+-- `places::state::codes_of` meets its contract.
+-- Assumes nothing.
+use mathlib.Core.Path.{◌≡◌, refl, sym, ap, ◌∙◌}
+use native.Mathlib.Omega.{arith}
+use Prim.Native.Nat.{ℕ, ◌≤◌, ◌-◌}
+use lib.ListN.{length, take, length-set, length-replicate}
+use lib.Seq.{take_all}
+use Rattle.places.specs.Places.{codes_of}
+use Rattle.places.proofs.StateLaws.{length-codes, code-at-place, take_more}
+use Rattle.places.proofs.state.codes_of.Given as goal
+
+abbrev pub invariant-loop-i : goal.invariant-loop-i
+invariant-loop-i l = (l.i ≤ l.count) × (length l.codes ≡ 10) × (take l.i l.codes ≡ take l.i (codes_of l.count l.order))
+
+abbrev pub decreases-loop-i : goal.decreases-loop-i
+decreases-loop-i l = l.count - l.i

@@ -1,0 +1,17 @@
+-- `pruning::effects::orphan` meets its contract.
+-- Assumes nothing.
+use mathlib.Core.Path.{◌≡◌}
+use mathlib.Core.Bool.{false≢true}
+use Prim.Native.Nat.{ℕ, ◌^◌, ◌<◌}
+use native.Mathlib.Omega.{arith}
+use lib.Pow.{pow_pos}
+use Rattle.lists.specs.Bits.{bit_at}
+use Rattle.lists.proofs.BitLaws.{member-le, member-lt, member-off}
+use Rattle.places.proofs.SetLaws.{lowest-member}
+use Rattle.pruning.proofs.effects.orphan.Given as goal
+
+abbrev pub invariant-loop-left : goal.invariant-loop-left
+invariant-loop-left l = (l.left < 2 ^ 32) × ((k : ℕ) → bit_at k l.left ≡ 1 → bit_at k l.registers ≡ 1)
+
+abbrev pub decreases-loop-left : goal.decreases-loop-left
+decreases-loop-left l = l.left

@@ -1,0 +1,28 @@
+-- `pruning::unwritten::written_by_any` meets its contract.
+-- Assumes nothing.
+use borrow.Author.Tests.{eqb-true, eqb-false}
+use mathlib.Core.Path.{◌≡◌, refl}
+use mathlib.Core.Bool.{Bool, true, false}
+use Prim.Native.Nat.{ℕ, ◌+◌, ◌-◌, ◌≤◌, ◌<◌}
+use native.Mathlib.Omega.{arith}
+use mathlib.Core.List.{List}
+use lib.ListN.{get_or}
+use lib.Bits.{bit_or}
+use lib.Dec.{eqb}
+use Rattle.lists.specs.Bits.{bit_at}
+use Rattle.lists.proofs.BitLaws.{member-or-l, member-or-r}
+use Rattle.std.proofs.Common.{rules}
+use Rattle.pruning.proofs.unwritten.written_by_any.Goals as goal
+use Rattle.pruning.proofs.unwritten.written_by_any.Invariants.{Has}
+
+one_more : (writes : List ℕ) (any t : ℕ) → Has writes any t → Has writes (bit_or any (get_or writes t 0)) (t + 1)
+one_more writes any t has k r l h = go (eqb k t) refl
+  where
+    go : (b : Bool) → eqb k t ≡ b → bit_at r (bit_or any (get_or writes t 0)) ≡ 1
+    go true e = let q : k ≡ t = eqb-true _ _ e in member-or-r r any (get_or writes t 0) (rw q at h)
+    go false e = let n : k ≡ t → ⊥ = eqb-false _ _ e in member-or-l r any (get_or writes t 0) (has k r (omega arith) h)
+
+pub loop-t-preserved : goal.loop-t-preserved
+loop-t-preserved c =
+    let at = c.loop-t in
+    (omega arith, one_more c.args.writes.now at.any at.t at.invariant.1)
