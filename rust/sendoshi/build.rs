@@ -9,7 +9,7 @@ fn main() {
     let archive = folder.join("libsendoshi.a");
     println!("cargo:rerun-if-changed={}", archive.display());
     if !archive.is_file() {
-        panic!("{} is missing: run `rt staticlib sendoshi`, or set SENDOSHI_LIB_DIR to its folder", archive.display());
+        panic!("{} is missing: run `./staticlib` at the top of the repository, or set SENDOSHI_LIB_DIR to its folder", archive.display());
     }
     println!("cargo:rustc-link-search=native={}", folder.display());
     println!("cargo:rustc-link-lib=static=sendoshi");

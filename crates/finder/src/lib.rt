@@ -13,12 +13,12 @@ ghost use Rattle.lowest.specs.Order.{Judged};
 ghost use Rattle.finder.specs.Answer.{marking_size, lowest_marking, gives, decided, found_answer};
 ghost use Rattle.finder.specs.Logs.{find_of, find_after};
 
-use events::refusal::Refusal;
-use found::write_order;
 use event_log::admit::{Checked, admit};
 use event_log::columns::columns_hold;
 use event_log::rows::{BLANK, MOST, Row, SHORT, transactions_begun};
 use event_log::starts::is_admitted;
+use events::refusal::Refusal;
+use found::write_order;
 use lowest::find_order;
 use places::facts::SEARCHED;
 use reads::{FEW_SLOTS, count_by};

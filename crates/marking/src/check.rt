@@ -7,10 +7,10 @@ ghost use Rattle.event_log.specs.Starts.{start_of};
 ghost use Rattle.marking_reader.specs.File.{known, file_read};
 ghost use Rattle.marking.specs.Answer.{ruling, from_file, after_columns, verdict_answer};
 
-use events::refusal::Refusal;
-use links::writes::links;
 use event_log::admit::{Checked, admit};
 use event_log::rows::{BLANK, MOST, Row, SHORT, transactions_begun};
+use events::refusal::Refusal;
+use links::writes::links;
 use marking_reader::read::read_marking;
 use opacity::verdict::Verdict;
 use reads::{NO_POINT, own_writes};

@@ -3,18 +3,20 @@
 
 ghost use Rattle.std.specs.Prelude.{◌≤◌};
 
-use libc::STDOUT_FILENO;
 use marking::check::{Checking, check_marking};
 use opacity::verdict::{Rule, Verdict};
 use records::record::Record;
 
+// The number of standard output.
+const STDOUT: i32 = 1;
+
 fn put(text: &[u8]) {
-    io::write_all(STDOUT_FILENO, text);
+    io::write_all(STDOUT, text);
 }
 
 fn put_number(before: &[u8], n: usize) {
     put(before);
-    io::print_decimal(STDOUT_FILENO, n as u64);
+    io::print_decimal(STDOUT, n as u64);
 }
 
 fn put_rule(rule: Rule) {

@@ -12,11 +12,11 @@ ghost use Rattle.lowest.specs.Order.{Judged};
 ghost use Rattle.scan.specs.Answer.{scan_answer};
 ghost use Rattle.scan.specs.Logs.{scan_of, scan_after};
 
+use event_log::admit::{Checked, admit};
+use event_log::rows::{BLANK, MOST, Row, SHORT, event_at, transactions_begun};
 use events::event::{Event, is_abort, is_begin, is_commit, is_quiet, is_read};
 use events::refusal::Refusal;
 use events::state::begun_after;
-use event_log::admit::{Checked, admit};
-use event_log::rows::{BLANK, MOST, Row, SHORT, event_at, transactions_begun};
 use opacity::verdict::Scanned;
 use places::facts::SEARCHED;
 

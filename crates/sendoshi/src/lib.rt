@@ -69,8 +69,7 @@ fn tell_note(answer: NextNote, note: &mut [u32; 3])
 
 // Reads a history's file into the start values and the columns: the edition and the event count, or the
 // question and the byte.
-#[unsafe(no_mangle)]
-pub extern "C" fn sendoshi_read(
+pub fn sendoshi_read(
     file: &[u8],
     starts: &mut [u32; 32],
     kinds: &mut [u16],
@@ -93,8 +92,7 @@ pub extern "C" fn sendoshi_read(
 }
 
 // Writes the first `count` events as a file: its length, or the question and the event.
-#[unsafe(no_mangle)]
-pub extern "C" fn sendoshi_write(
+pub fn sendoshi_write(
     edition: u16,
     starts: &[u32; 32],
     kinds: &[u16],
@@ -130,8 +128,7 @@ pub extern "C" fn sendoshi_write(
 
 // Writes the lowest marking of the first `prefix` of the first `count` events: its length, or none, or
 // the question and the event.
-#[unsafe(no_mangle)]
-pub extern "C" fn sendoshi_find(
+pub fn sendoshi_find(
     edition: u16,
     starts: &[u32; 32],
     kinds: &[u16],
@@ -169,8 +166,7 @@ pub extern "C" fn sendoshi_find(
 
 // Judges the prefixes of the first `count` events: opaque, or the cause and the event, or the question
 // and the event.
-#[unsafe(no_mangle)]
-pub extern "C" fn sendoshi_scan(
+pub fn sendoshi_scan(
     edition: u16,
     starts: &[u32; 32],
     kinds: &[u16],
@@ -201,8 +197,7 @@ pub extern "C" fn sendoshi_scan(
 
 // Checks a marking file against the first `count` events: accepted, or the rule with its event and
 // transaction, or the question with its event or byte.
-#[unsafe(no_mangle)]
-pub extern "C" fn sendoshi_check(
+pub fn sendoshi_check(
     edition: u16,
     starts: &[u32; 32],
     kinds: &[u16],
@@ -237,8 +232,7 @@ pub extern "C" fn sendoshi_check(
 // Straightens the read points of a marking file of the first `count` events, into output and list: how
 // many points were moved and the length of the marking, or the rule that is broken wherever the points
 // are with its event and transaction, or the question with its event or byte.
-#[unsafe(no_mangle)]
-pub extern "C" fn sendoshi_straighten(
+pub fn sendoshi_straighten(
     edition: u16,
     starts: &[u32; 32],
     kinds: &[u16],
@@ -277,8 +271,7 @@ pub extern "C" fn sendoshi_straighten(
 }
 
 // Counts the transactions that begin in the first `count` events, or gives the question and the event.
-#[unsafe(no_mangle)]
-pub extern "C" fn sendoshi_transactions(
+pub fn sendoshi_transactions(
     edition: u16,
     starts: &[u32; 32],
     kinds: &[u16],
@@ -308,8 +301,7 @@ pub extern "C" fn sendoshi_transactions(
 }
 
 // Counts the store reads of the first `count` events, or gives the question and the event.
-#[unsafe(no_mangle)]
-pub extern "C" fn sendoshi_store_reads(
+pub fn sendoshi_store_reads(
     edition: u16,
     starts: &[u32; 32],
     kinds: &[u16],
@@ -340,8 +332,7 @@ pub extern "C" fn sendoshi_store_reads(
 
 // Counts the committed, aborted, pending and live transactions of the first `count` events, or gives
 // the question and the event.
-#[unsafe(no_mangle)]
-pub extern "C" fn sendoshi_tally(
+pub fn sendoshi_tally(
     edition: u16,
     starts: &[u32; 32],
     kinds: &[u16],
@@ -372,8 +363,7 @@ pub extern "C" fn sendoshi_tally(
 
 // Finds the first note of a history's file whose record begins at the byte `from` or behind it, and tells how
 // many events are before it, where its bytes begin and how many they are; or there is none.
-#[unsafe(no_mangle)]
-pub extern "C" fn sendoshi_next_note(file: &[u8], from: u32, note: &mut [u32; 3]) -> u64
+pub fn sendoshi_next_note(file: &[u8], from: u32, note: &mut [u32; 3]) -> u64
     ensures note_after { told result note.new ≡ next_note_call file.now from note.old }
     ensures result_value { decoded no_value never result ≡ note_said (next_note file.now from) }
 {

@@ -26,11 +26,11 @@ mod moves;
 
 use crate::list::list_moved;
 use crate::moves::{move_points, moves_of};
+use event_log::admit::{Checked, admit};
+use event_log::rows::{BLANK, MOST, Row, SHORT, transactions_begun};
 use events::refusal::Refusal;
 use links::tables::tables_of;
 use links::writes::links;
-use event_log::admit::{Checked, admit};
-use event_log::rows::{BLANK, MOST, Row, SHORT, transactions_begun};
 use marking_reader::read::read_marking;
 use marking_writer::write_marking;
 use opacity::verdict::{Rule, Verdict};

@@ -37,7 +37,7 @@
 //! # Linking
 //!
 //! The build script looks for `libsendoshi.a` in the folder named by the environment variable `SENDOSHI_LIB_DIR`, or else in the
-//! repository's `target/staticlib`, where `rt staticlib sendoshi` puts it.
+//! repository's `target/staticlib`, where `./staticlib` puts it.
 
 pub mod answer;
 pub mod calls;
