@@ -51,7 +51,7 @@ def mapping(all_texts):
             if path.endswith(".antt") and (m := TYPED.match(line)) and m.group(1)[0].islower():
                 types.add(m.group(1))
             for word in WORD.findall(line):
-                if CAMEL.search(word) and word[0].islower() and "Rattle" not in word:
+                if CAMEL.search(word) and word[0].islower() and "Rattle" not in word and "::" not in word:
                     words.add(word)
     return {w: respelled(w, types) for w in sorted(words)}
 

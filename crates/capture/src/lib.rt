@@ -14,8 +14,8 @@ ghost use Rattle.reader.specs.Reading.{RowsFor};
 ghost use Rattle.capture.specs.Report.{counts_of, judged, report_on};
 
 use counts::tally::{Tally, tally_of};
-use events::refusal::Refusal;
 use event_log::rows::{BLANK, MOST, Row, SHORT, transactions_begun};
+use events::refusal::Refusal;
 use marking::check::{Ruling, check_log};
 use reader::{Reading, SHORT_FILE, read_log};
 use reads::count_store_reads;

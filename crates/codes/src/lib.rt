@@ -21,7 +21,7 @@ use counts::{Counting, Tallying};
 use events::refusal::Refusal;
 use finder::Finding;
 use marking::check::Checking;
-use notes::next_note;
+use notes::NextNote;
 use opacity::verdict::{Rule, Scanned, Verdict};
 use reader::{HistoryRead, Reading};
 use scan::Scanning;

@@ -42,7 +42,7 @@ use codes::{
     check_code, count_code, found_code, note_code, read_code, scan_code, straighten_code,
     tally_code, written_code,
 };
-use notes::next_note;
+use notes::{NextNote, next_note};
 use reader::{HistoryRead, Reading};
 
 // Hands over the start values, all 32, of a history that was read; a refusal leaves the lent ones as

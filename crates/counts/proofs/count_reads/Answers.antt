@@ -1,10 +1,5 @@
 -- `count_reads` meets its contract: by the answers behind the door. Assumes nothing.
-use mathlib.Core.Path.{◌≡◌, sym, ap, ◌∙◌}
-use lib.Seq.{length-take-le}
-use Rattle.event_log.specs.Rows.{logged}
 use Rattle.opacity.specs.Counts.{counts}
-use Rattle.counts.specs.Answer.{store_reads_of}
-use Rattle.std.proofs.Common.{rules}
 use Rattle.counts.proofs.count_reads.Goals as goal
 
 pub returns : goal.returns

@@ -1,12 +1,9 @@
 -- `finder::find_admitted` meets its contract: a refusal is the answer, and else what is found of the first rows. Assumes nothing.
-use mathlib.Core.Path.{sym, ◌∙◌}
-use native.Mathlib.Omega.{arith}
+use mathlib.Core.Path.{◌∙◌}
 use lib.ListN.{take}
-use lib.Seq.{length-take-le}
 use Rattle.event_log.specs.Rows.{logged}
 use Rattle.event_log.proofs.DoorLaws.{prefix-readable}
 use Rattle.finder.proofs.AnswerLaws.{after-refused, after-readable}
-use Rattle.std.proofs.Common.{rules}
 use Rattle.finder.proofs.find_admitted.Goals as goal
 
 pub returns-in-Refused : goal.returns-in-Refused

@@ -1,10 +1,8 @@
 -- `finder::find_log` meets its contract: 31 and 32, and then the lowest marking. Assumes nothing.
 use Prim.Native.Nat.{◌≤◌}
 use mathlib.Core.Path.{◌≡◌, sym, ap, ◌∙◌}
-use mathlib.Core.List.{List}
 use native.Mathlib.Omega.{arith}
 use lib.ListN.{length}
-use Rattle.events.specs.declared.event.Event.{Event}
 use Rattle.events.specs.Events.{begins}
 use Rattle.event_log.specs.declared.admit.Checked.{Checked}
 use Rattle.event_log.specs.Rows.{logged}
@@ -12,8 +10,7 @@ use Rattle.event_log.specs.Starts.{start_of}
 use Rattle.finder.specs.Answer.{marking_size, lowest_marking, decided}
 use Rattle.finder.specs.Logs.{find_of}
 use Rattle.finder.proofs.AnswerLaws.{decided-refused, refused-31, refused-32, passes-31-32}
-use borrow.Author.Tests.{leb-true, leb-false, not-true, not-false}
-use Rattle.std.proofs.Common.{rules}
+use borrow.Author.Tests.{leb-true, leb-false}
 use Rattle.finder.proofs.find_log.Goals as goal
 use Rattle.finder.proofs.find_log.Goals.{Else-begun-gt-SEARCHED, Else-not-has_room}
 
@@ -33,14 +30,16 @@ unfolding find_of
 returns-then-begun-gt-SEARCHED c =
     let d = c.args.output.now in
     let begun = c.transactions_begun-begun.ensures in
-    decided-refused (lowest_marking (start_of c.args.starts.now) (logged c.args.log.now)) d (refused-31 (logged c.args.log.now) c.args.count (length d) (omega (arith, begun)))
+    decided-refused (lowest_marking (start_of c.args.starts.now) (logged c.args.log.now)) d (refused-31 (logged c.args.log.now) c.args.count
+        (length d) (omega (arith, begun)))
 
 pub returns-then-not-has_room : goal.returns-then-not-has_room
 unfolding find_of
 returns-then-not-has_room c =
     let d = c.args.output.now in
     let short = leb-false _ _ (sym c.has_room.ensures ∙ c.if-not-has_room.true) in
-    decided-refused (lowest_marking (start_of c.args.starts.now) (logged c.args.log.now)) d (refused-32 (logged c.args.log.now) c.args.count (length d) (few (goal.at.returns-then-not-has_room c).Else-begun-gt-SEARCHED) short)
+    decided-refused (lowest_marking (start_of c.args.starts.now) (logged c.args.log.now)) d (refused-32 (logged c.args.log.now) c.args.count
+        (length d) (few (goal.at.returns-then-not-has_room c).Else-begun-gt-SEARCHED) short)
 
 pub returns : goal.returns
 unfolding find_of
@@ -49,4 +48,5 @@ returns c =
     let d = c.args.output.now in
     c.find_lowest.ensures
     ∙ ap (λ (x : Checked). decided x (lowest_marking (start_of c.args.starts.now) h) d)
-    (sym (passes-31-32 h c.args.count (length d) (few (goal.at.returns c).Else-begun-gt-SEARCHED) (fits (goal.at.returns c).Else-not-has_room)))
+    (sym (passes-31-32 h c.args.count (length d) (few (goal.at.returns c).Else-begun-gt-SEARCHED)
+        (fits (goal.at.returns c).Else-not-has_room)))

@@ -1,19 +1,15 @@
 -- `finder::has_room` meets its contract: no log has more store reads than events. Assumes nothing.
 use Prim.Native.Nat.{◌≤◌}
-use mathlib.Core.Path.{◌≡◌, sym, ap, ◌∙◌}
-use mathlib.Core.List.{List}
+use mathlib.Core.Path.{sym}
 use native.Mathlib.Omega.{arith}
-use lib.Dec.{leb}
 use lib.ListN.{length}
 use borrow.Author.Tests.{le-leb}
-use Rattle.events.specs.declared.event.Event.{Event}
 use Rattle.events.proofs.ReadableLaws.{readable-most}
 use Rattle.event_log.specs.Rows.{logged}
 use Rattle.event_log.proofs.RowLaws.{logged-length}
 use Rattle.opacity.proofs.Bounds.{reads-low, reads-most}
 use Rattle.reads.proofs.OwnLaws.{blank-few}
 use Rattle.finder.specs.Answer.{marking_size}
-use Rattle.std.proofs.Common.{rules}
 use Rattle.finder.proofs.has_room.Goals as goal
 use Rattle.finder.proofs.has_room.Goals.{Start}
 
@@ -26,7 +22,8 @@ short s =
 pub returns-then-places-log : goal.returns-then-places-log
 returns-then-places-log c =
     let n = logged-length c.args.log.now in
-    sym (le-leb (marking_size (logged c.args.log.now)) c.args.room (omega (arith, c.if-places-log.true, reads-most (logged c.args.log.now), c.requires.begun_value, n)))
+    sym (le-leb (marking_size (logged c.args.log.now)) c.args.room (omega (arith, c.if-places-log.true, reads-most (logged c.args.log.now),
+        c.requires.begun_value, n)))
 
 pub count_by-reads-requires : goal.count_by-reads-requires
 count_by-reads-requires c =
@@ -40,4 +37,5 @@ overflow_mul-result c = omega (arith, c.count_by-reads.ensures, reads-low (logge
 
 pub overflow_add-result : goal.overflow_add-result
 overflow_add-result c =
-    omega (arith, c.count_by-reads.ensures, reads-low (logged c.args.log.now) c.requires.judged.readable, (short (goal.at.overflow_add-result c).Start).1)
+    omega (arith, c.count_by-reads.ensures, reads-low (logged c.args.log.now) c.requires.judged.readable,
+        (short (goal.at.overflow_add-result c).Start).1)

@@ -7,7 +7,6 @@ use lib.ListN.{length, take}
 use lib.Seq.{length-take-le}
 use Rattle.records.specs.Bytes.{over}
 use Rattle.lists.specs.Filled.{Front}
-use Rattle.events.specs.declared.event.Event.{Event}
 use Rattle.events.proofs.ReadableLaws.{readable-most}
 use Rattle.event_log.specs.Rows.{logged}
 use Rattle.event_log.proofs.RowLaws.{logged-length}
@@ -43,8 +42,10 @@ marks g =
     let order = g.placed_by-placed.result.order in
     let outcomes = g.placed_by-placed.result.outcomes in
     subst (λ (k : ℕ). bytes_in order outcomes g.args.begun (take k gaps) ≡ found_bytes h (take g.args.begun g.args.codes)) n
-    (arrays-mark h g.requires.judged.readable g.args.codes g.placed_by-placed.result.order g.placed_by-placed.result.outcomes g.args.begun g.requires.begun_value.0 ((let here : g.args.begun ≤ 10 = omega arith in here))
-    (omega (arith, (let here : g.args.begun ≤ 10 = omega arith in here))) g.placed_by-placed.ensures g.readers_by-place.result g.readers_by-place.ensures g.put_gaps.new.gaps front)
+    (arrays-mark h g.requires.judged.readable g.args.codes g.placed_by-placed.result.order g.placed_by-placed.result.outcomes g.args.begun
+        g.requires.begun_value.0 ((let here : g.args.begun ≤ 10 = omega arith in here))
+    (omega (arith, (let here : g.args.begun ≤ 10 = omega arith in here))) g.placed_by-placed.ensures g.readers_by-place.result
+        g.readers_by-place.ensures g.put_gaps.new.gaps front)
 
 pub put_gaps-requires : goal.put_gaps-requires
 put_gaps-requires c =
@@ -57,14 +58,17 @@ put_gaps-requires c =
 pub write_marking-requires : goal.write_marking-requires
 write_marking-requires c =
     let most = readable-most (logged c.args.log.now) c.requires.judged.readable in
-    let long = length-take-le (length c.args.log.now) c.put_gaps.new.gaps (room (goal.at.write_marking-requires c).After-put_gaps) in record {
+    let long = length-take-le (length c.args.log.now) c.put_gaps.new.gaps (room (goal.at.write_marking-requires c).After-put_gaps) in
+    record {
       begun_bound = (omega (arith, few (goal.at.write_marking-requires c).Start), omega (arith, most, long, logged-length c.args.log.now));
-      gaps_in_bounds = subst (λ (b : List ℕ). length b ≤ length c.args.output.now) (sym (marks (goal.at.write_marking-requires c).After-put_gaps)) c.requires.codes_in_bounds;
+      gaps_in_bounds = subst (λ (b : List ℕ). length b ≤ length c.args.output.now)
+          (sym (marks (goal.at.write_marking-requires c).After-put_gaps)) c.requires.codes_in_bounds;
     }
 
 pub returns : goal.returns
 returns c =
     record {
       value = c.write_marking.ensures.value ∙ ap length (marks (goal.at.returns c).After-put_gaps);
-      output_after = c.write_marking.ensures.out_after ∙ ap (λ (b : List ℕ). over b c.args.output.now) (marks (goal.at.returns c).After-put_gaps);
+      output_after = c.write_marking.ensures.out_after
+          ∙ ap (λ (b : List ℕ). over b c.args.output.now) (marks (goal.at.returns c).After-put_gaps);
     }

@@ -1,11 +1,8 @@
 -- `tables::complete` meets its contract.
 -- Assumes nothing.
-use Prim.Native.Nat.{◌+◌, ◌*◌}
-use lib.Pow.{pow_pos}
-use borrow.Author.Tests.{eq-eqb, ne_eqb}
+use borrow.Author.Tests.{eq-eqb}
 use Rattle.places.specs.Tree.{constraints, first_whole, Answers}
 use Rattle.search.proofs.EndLaws.{answers-whole}
-use Rattle.std.proofs.Common.{rules}
 use Rattle.lowest.proofs.complete.Goals as goal
 use Rattle.lowest.proofs.complete.Goals.{After-find}
 

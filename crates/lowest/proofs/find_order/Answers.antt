@@ -1,21 +1,18 @@
 -- `lowest::find_order` meets its contract: the standing and the facts are those of the events passed. Assumes nothing.
 use mathlib.Core.Path.{◌≡◌, sym, ap, ◌∙◌}
-use Prim.Native.Nat.{ℕ, ◌≤◌, ◌<◌, ◌-◌}
+use Prim.Native.Nat.{ℕ, ◌<◌}
 use native.Mathlib.Omega.{arith}
-use mathlib.Core.List.{List}
-use lib.ListN.{length, take}
+use lib.ListN.{length}
 use lib.Seq.{take_all}
-use Rattle.events.specs.declared.event.Event.{Event}
 use Rattle.event_log.specs.Rows.{logged}
 use Rattle.event_log.proofs.RowLaws.{logged-length}
 use Rattle.places.specs.Tree.{read_answer}
 use Rattle.lowest.specs.Order.{decoded}
-use Rattle.tables.specs.Tables.{Tables, tables_by, tables_of, go_through}
+use Rattle.tables.specs.Tables.{tables_by, tables_of, go_through}
 use Rattle.tables.proofs.TableLaws.{tables_more}
 use Rattle.lowest.proofs.GoodHistory.{tabled}
 use Rattle.lowest.proofs.EndMeaning.{asks-by}
 use Rattle.lowest.proofs.Link.{found-by}
-use Rattle.std.proofs.Common.{rules}
 use Rattle.lowest.proofs.find_order.Goals as goal
 use Rattle.lowest.proofs.find_order.Goals.{After-event_at-e, After-facts-2-1}
 
@@ -33,12 +30,14 @@ loop-i-init c = (omega arith, c.no_events-s.ensures)
 
 pub step-s-requires : goal.step-s-requires
 step-s-requires c =
-    tabled (logged c.args.log.now) c.requires.judged c.loop-i.i (inside (goal.at.step-s-requires c).After-event_at-e) c.event_at-e.result c.event_at-e.ensures
+    tabled (logged c.args.log.now) c.requires.judged c.loop-i.i (inside (goal.at.step-s-requires c).After-event_at-e) c.event_at-e.result
+        c.event_at-e.ensures
 
 pub loop-i-preserved : goal.loop-i-preserved
 loop-i-preserved c =
     let h = (logged c.args.log.now) in
-    (omega arith, tables_more h c.loop-i.i (inside (goal.at.loop-i-preserved c).After-event_at-e) (tables_by c.loop-i.s c.loop-i.facts) _ c.event_at-e.result c.loop-i.invariant.1 c.event_at-e.ensures c.step-s.ensures)
+    (omega arith, tables_more h c.loop-i.i (inside (goal.at.loop-i-preserved c).After-event_at-e) (tables_by c.loop-i.s c.loop-i.facts) _
+        c.event_at-e.result c.loop-i.invariant.1 c.event_at-e.ensures c.step-s.ensures)
 
 pub complete-requires : goal.complete-requires
 complete-requires c =
@@ -52,4 +51,5 @@ pub returns : goal.returns
 returns c =
     let count = c.requires.begun_value in
     ap (λ (k : ℕ). decoded (read_answer k c.complete.result)) (sym count)
-    ∙ found-by c.args.starts.now (logged c.args.log.now) _ _ _ c.requires.judged (whole (goal.at.returns c).After-facts-2-1) count c.complete.ensures.completion
+    ∙ found-by c.args.starts.now (logged c.args.log.now) _ _ _ c.requires.judged (whole (goal.at.returns c).After-facts-2-1) count
+        c.complete.ensures.completion

@@ -6,7 +6,6 @@ use Prim.Native.Nat.{◌+◌}
 use native.Mathlib.Omega.{arith}
 use Rattle.records.specs.Bytes.{u16_bytes}
 use Rattle.marking_writer.proofs.RunLaws.{placed-then}
-use Rattle.std.proofs.Common.{rules}
 use Rattle.marking_writer.proofs.put_place.Goals as goal
 
 pub returns : goal.returns
@@ -15,5 +14,7 @@ returns c =
     let at = c.args.at in
     let room = c.requires in
     let both = placed-then out _ _ at (u16_bytes 6) (u16_bytes 32) (at + 2) c.put_u16.ensures c.put_u16-2.ensures refl (omega arith) in
-    let all = placed-then out _ _ at (u16_bytes 6 ++ u16_bytes 32) (u16_bytes c.args.transaction) (at + 4) both c.put_u16-3.ensures refl (omega arith) in
-    placed-then out _ _ at (u16_bytes 6 ++ u16_bytes 32 ++ u16_bytes c.args.transaction) (u16_bytes c.args.outcome) (at + 6) all c.put_u16-4.ensures refl (omega arith)
+    let all = placed-then out _ _ at (u16_bytes 6 ++ u16_bytes 32) (u16_bytes c.args.transaction) (at + 4) both c.put_u16-3.ensures refl
+        (omega arith) in
+    placed-then out _ _ at (u16_bytes 6 ++ u16_bytes 32 ++ u16_bytes c.args.transaction) (u16_bytes c.args.outcome) (at + 6) all
+        c.put_u16-4.ensures refl (omega arith)

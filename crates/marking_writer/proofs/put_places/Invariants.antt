@@ -1,13 +1,8 @@
 -- `marking_writer::put_places` meets its contract.
 -- Assumes nothing.
-use Prim.Native.Nat.{ℕ, ◌+◌, ◌*◌, ◌-◌, ◌≤◌}
-use mathlib.Core.Path.{◌≡◌, ap, ◌∙◌}
-use mathlib.Core.List.{◌++◌}
-use native.Mathlib.Omega.{arith}
-use lib.ListN.{get_or}
-use Rattle.records.specs.Bytes.{u16_bytes, placed}
-use Rattle.marking_writer.proofs.RunLaws.{Put, put-none, put-more}
-use Rattle.marking_writer.proofs.WholeLaws.{places_to, place_here, places-none, places-more, places-bytes}
+use Prim.Native.Nat.{◌+◌, ◌*◌, ◌-◌, ◌≤◌}
+use Rattle.marking_writer.proofs.RunLaws.{Put}
+use Rattle.marking_writer.proofs.WholeLaws.{places_to}
 use Rattle.marking_writer.proofs.put_places.Given as goal
 
 abbrev pub invariant-loop-k : goal.invariant-loop-k

@@ -1,13 +1,8 @@
 -- `marking_writer::put_points` meets its contract.
 -- Assumes nothing.
-use Prim.Native.Nat.{ℕ, ◌-◌, ◌≤◌}
-use mathlib.Core.Path.{◌≡◌}
-use mathlib.Core.List.{List}
-use native.Mathlib.Omega.{arith}
-use lib.ListN.{length, get_or}
-use Rattle.marking_writer.specs.Points.{is_gap, read_bytes}
-use Rattle.marking_writer.proofs.RunLaws.{Put, put-none, put-room, put-more}
-use Rattle.marking_writer.proofs.PointLaws.{points_none, points-more}
+use Prim.Native.Nat.{◌-◌, ◌≤◌}
+use lib.ListN.{length}
+use Rattle.marking_writer.proofs.RunLaws.{Put}
 use Rattle.marking_writer.specs.Whole.{points_in}
 use Rattle.marking_writer.proofs.put_points.Given as goal
 

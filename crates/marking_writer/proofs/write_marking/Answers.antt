@@ -7,7 +7,6 @@ use lib.ListN.{length}
 use Rattle.marking_writer.proofs.PointLaws.{marking-put}
 use Rattle.marking_writer.specs.Whole.{points_in, bytes_in}
 use Rattle.marking_writer.proofs.WholeLaws.{places_to, places-bytes, bytes-length}
-use Rattle.std.proofs.Common.{rules}
 use Rattle.marking_writer.proofs.write_marking.Goals as goal
 use Rattle.marking_writer.proofs.write_marking.Goals.{Start}
 
@@ -34,7 +33,9 @@ pub returns : goal.returns
 returns c =
     let order = c.args.order.now in
     let outcomes = c.args.outcomes.now in record {
-      out_after = marking-put (places_to order outcomes c.args.begun) (points_in c.args.gaps.now (length c.args.gaps.now)) c.args.out.now _ _ _ (6 + 8 * c.args.begun)
-          (omega (arith, places-bytes order outcomes c.args.begun)) c.requires.gaps_in_bounds c.put_head.ensures c.put_places.ensures c.put_points.ensures.out_after;
+      out_after = marking-put (places_to order outcomes c.args.begun) (points_in c.args.gaps.now (length c.args.gaps.now)) c.args.out.now _
+          _ _ (6 + 8 * c.args.begun)
+          (omega (arith, places-bytes order outcomes c.args.begun)) c.requires.gaps_in_bounds c.put_head.ensures c.put_places.ensures
+              c.put_points.ensures.out_after;
       value = c.put_points.ensures.value ∙ sym (size (goal.at.returns c).Start);
     }

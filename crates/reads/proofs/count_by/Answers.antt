@@ -1,7 +1,6 @@
 -- `count_by` meets its contract: a read counts by what stands at its slot before it. Assumes nothing.
-use Prim.Native.Nat.{ℕ, ◌+◌, ◌-◌, ◌≤◌, ◌<◌}
+use Prim.Native.Nat.{◌≤◌, ◌<◌}
 use mathlib.Core.Path.{◌≡◌, refl, sym, ap, ◌∙◌, subst}
-use mathlib.Core.List.{List}
 use native.Mathlib.Omega.{arith}
 use lib.ListN.{length, get_or}
 use Rattle.lists.specs.Lists.{keep, range}
@@ -13,7 +12,7 @@ use Rattle.event_log.proofs.RowLaws.{logged-length}
 use Rattle.opacity.specs.Transactions.{is_store_read}
 use Rattle.opacity.specs.Counts.{one}
 use Rattle.reads.specs.Own.{Low, slot_of, reads_store}
-use Rattle.reads.proofs.OwnLaws.{low, low-64, slot-room, Lasts, lasts-first, lasts-more, its-read, one-low, reads_more, reads-few, reads_all}
+use Rattle.reads.proofs.OwnLaws.{low, low-64, slot-room, lasts-first, lasts-more, its-read, one-low, reads_more, reads-few, reads_all}
 use Rattle.std.proofs.Common.{rules}
 use Rattle.reads.proofs.count_by.Goals as goal
 use Rattle.reads.proofs.count_by.Goals.{After-one_if-reads, In-loop-i}
@@ -34,7 +33,10 @@ adds c =
     let found = c.note-own.ensures.value ∙ ap (λ (x : Event). get_or c.loop-i.last (slot_of x) 0) c.event_at-e.ensures in
     c.one_if-reads.ensures
     ∙ ap one (c.reads_store.ensures ∙ (ap (λ (x : Event). reads_store x c.note-own.result) c.event_at-e.ensures
-    ∙ sym (its-read (logged c.args.log.now) _ c.loop-i.last c.loop-i.i c.loop-i.invariant.1 ((let here : Low (begins (logged c.args.log.now)) (event_at (logged c.args.log.now) c.loop-i.i) = low _ c.requires.log_value c.loop-i.i ((let here : c.loop-i.i < length (logged c.args.log.now) = omega (arith, logged-length c.args.log.now) in here)) in here)) c.note-own.result found)))
+    ∙ sym (its-read (logged c.args.log.now) _ c.loop-i.last c.loop-i.i c.loop-i.invariant.1
+        ((low _ c.requires.log_value c.loop-i.i
+            ((let here : c.loop-i.i < length (logged c.args.log.now) = omega (arith, logged-length c.args.log.now) in here))))
+                c.note-own.result found)))
 
 pub loop-i-init : goal.loop-i-init
 unfolding keep range
@@ -43,7 +45,8 @@ loop-i-init c = (refl, lasts-first _ _ _ c.requires.blank, refl)
 pub note-own-requires : goal.note-own-requires
 note-own-requires c =
     let same = sym c.event_at-e.ensures in record {
-      i_bound = (few (goal.at.note-own-requires c).In-loop-i, subst (λ (x : Event). slot_of x < length c.loop-i.last) same (slot-room _ (low-here (goal.at.note-own-requires c).In-loop-i) c.loop-i.invariant.1.room));
+      i_bound = (few (goal.at.note-own-requires c).In-loop-i, subst (λ (x : Event). slot_of x < length c.loop-i.last) same
+          (slot-room _ (low-here (goal.at.note-own-requires c).In-loop-i) c.loop-i.invariant.1.room));
       low = subst (Low 64) same (low-64 _ c.requires.log_value c.loop-i.i (inside (goal.at.note-own-requires c).In-loop-i));
     }
 
@@ -59,7 +62,9 @@ loop-i-preserved c =
     (
       c.note-own.auto.last ∙ c.loop-i.invariant.0,
       rw c.note-own.ensures.last_after
-          (lasts-more (logged c.args.log.now) _ c.loop-i.last c.loop-i.i c.loop-i.invariant.1 (inside (goal.at.loop-i-preserved c).In-loop-i) (low-here (goal.at.loop-i-preserved c).In-loop-i) c.event_at-e.result c.event_at-e.ensures),
+          (lasts-more (logged c.args.log.now) _ c.loop-i.last c.loop-i.i c.loop-i.invariant.1
+              (inside (goal.at.loop-i-preserved c).In-loop-i) (low-here (goal.at.loop-i-preserved c).In-loop-i) c.event_at-e.result
+                  c.event_at-e.ensures),
       omega (arith, c.loop-i.invariant.2, adds c, reads_more (logged c.args.log.now) c.loop-i.i),
     )
 

@@ -3,10 +3,8 @@ use native.Mathlib.Omega.{arith}
 use Rattle.event_log.specs.Rows.{logged}
 use Rattle.opacity.proofs.Bounds.{at-most-64}
 use Rattle.reads.proofs.OwnLaws.{blank-few}
-use Rattle.std.proofs.Common.{rules}
 use Rattle.reads.proofs.count_store_reads.Goals as goal
 
--- `count_store_reads` meets its contract: the table lent has room for the transactions begun. Assumes nothing.
 pub count_by-requires : goal.count_by-requires
 count_by-requires c =
     record {

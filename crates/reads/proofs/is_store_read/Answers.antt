@@ -1,5 +1,5 @@
 -- `is_store_read` meets its contract: an own write makes it an own read. Assumes nothing.
-use mathlib.Core.Path.{◌≡◌, sym, ap, ◌∙◌}
+use mathlib.Core.Path.{sym, ap, ◌∙◌}
 use native.Mathlib.Omega.{arith}
 use lib.ListN.{get_or}
 use Rattle.events.specs.declared.event.Event.{Event}
@@ -7,10 +7,8 @@ use Rattle.event_log.specs.Rows.{logged}
 use Rattle.event_log.proofs.RowLaws.{logged-length}
 use Rattle.reads.specs.Own.{reads_store}
 use Rattle.reads.proofs.OwnLaws.{store-read}
-use Rattle.std.proofs.Common.{rules}
 use Rattle.reads.proofs.is_store_read.Goals as goal
 
--- `is_store_read` meets its contract: an own write makes it an own read. Assumes nothing.
 pub bounds-own-i : goal.bounds-own-i
 bounds-own-i c = omega (arith, logged-length c.args.log.now)
 

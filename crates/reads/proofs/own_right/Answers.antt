@@ -1,25 +1,22 @@
 -- `own_right` meets its contract: the event that wrote last tells the value. Assumes nothing.
-use Prim.Native.Nat.{ℕ, suc, ◌-◌, ◌≤◌, ◌<◌}
+use Prim.Native.Nat.{suc, ◌-◌, ◌<◌}
 use mathlib.Core.Path.{◌≡◌, sym, ap, ◌∙◌}
 use mathlib.Core.Bool.{true, false}
 use native.Mathlib.Omega.{arith}
-use lib.Dec.{eqb}
 use lib.ListN.{length, get_or}
-use borrow.Author.Tests.{not-true, not-false}
 use Rattle.events.specs.Events.{is_read, event_at}
 use Rattle.event_log.specs.Rows.{logged}
 use Rattle.event_log.proofs.RowLaws.{logged-length}
 use Rattle.reads.proofs.OwnLaws.{right-none, right-other, right-own}
-use Rattle.std.proofs.Common.{rules}
 use Rattle.reads.proofs.own_right.Goals as goal
 
--- `own_right` meets its contract: the event that wrote last tells the value. Assumes nothing.
 pub bounds-own-i : goal.bounds-own-i
 bounds-own-i c = omega (arith, logged-length c.args.log.now)
 
 pub returns-then-w-eq0 : goal.returns-then-w-eq0
 returns-then-w-eq0 c =
-    sym (right-none (logged c.args.log.now) c.args.own.now c.requires.own_writes c.args.i (omega (arith, logged-length c.args.log.now)) c.if-w-eq0.true)
+    sym (right-none (logged c.args.log.now) c.args.own.now c.requires.own_writes c.args.i (omega (arith, logged-length c.args.log.now))
+        c.if-w-eq0.true)
 
 pub returns-then-not-is_read : goal.returns-then-not-is_read
 returns-then-not-is_read c =

@@ -1,7 +1,6 @@
 -- `own_writes` meets its contract: one pass, which keeps the last write of each transaction to each register. Assumes nothing.
-use Prim.Native.Nat.{ℕ, ◌+◌, ◌-◌, ◌<◌}
-use mathlib.Core.Path.{◌≡◌, refl, sym, ap, ◌∙◌, subst}
-use mathlib.Core.List.{List}
+use Prim.Native.Nat.{ℕ, ◌<◌}
+use mathlib.Core.Path.{refl, sym, ap, ◌∙◌, subst}
 use native.Mathlib.Omega.{arith}
 use lib.ListN.{length, get_or, replicate, length-set, length-replicate}
 use Rattle.events.specs.declared.event.Event.{Event}
@@ -10,8 +9,7 @@ use Rattle.events.proofs.ReadableLaws.{readable-most}
 use Rattle.event_log.specs.Rows.{logged}
 use Rattle.event_log.proofs.RowLaws.{logged-length}
 use Rattle.reads.specs.Own.{Low, slot_of}
-use Rattle.reads.proofs.OwnLaws.{low-64, slot-room, replicate-blank, Lasts, lasts-first, lasts-more, Owned, owned-none, owned-more, owned-done}
-use Rattle.std.proofs.Common.{rules}
+use Rattle.reads.proofs.OwnLaws.{low-64, slot-room, replicate-blank, lasts-first, lasts-more, owned-none, owned-more, owned-done}
 use Rattle.reads.proofs.own_writes.Goals as goal
 use Rattle.reads.proofs.own_writes.Goals.{In-loop-i}
 
@@ -38,7 +36,8 @@ pub note-requires : goal.note-requires
 note-requires c =
     let same = sym c.event_at.ensures in
     record {
-      i_bound = (few (goal.at.note-requires c).In-loop-i, subst (λ (e : Event). slot_of e < length c.loop-i.last) same (slot-room _ (low-here (goal.at.note-requires c).In-loop-i) c.loop-i.invariant.2.room));
+      i_bound = (few (goal.at.note-requires c).In-loop-i, subst (λ (e : Event). slot_of e < length c.loop-i.last) same
+          (slot-room _ (low-here (goal.at.note-requires c).In-loop-i) c.loop-i.invariant.2.room));
       low = subst (Low 64) same (low-here (goal.at.note-requires c).In-loop-i);
     }
 
@@ -48,8 +47,11 @@ loop-i-preserved c =
     let found = c.note.ensures.value ∙ ap (λ (x : Event). get_or c.loop-i.last (slot_of x) 0) c.event_at.ensures in (
       length-set c.loop-i.own c.loop-i.i c.note.result ∙ c.loop-i.invariant.0,
       c.note.auto.last ∙ c.loop-i.invariant.1,
-      rw c.note.ensures.last_after (lasts-more h 64 c.loop-i.last c.loop-i.i c.loop-i.invariant.2 (inside (goal.at.loop-i-preserved c).In-loop-i) (low-here (goal.at.loop-i-preserved c).In-loop-i) c.event_at.result c.event_at.ensures),
-      owned-more h 64 c.loop-i.last c.loop-i.i c.loop-i.invariant.2 (low-here (goal.at.loop-i-preserved c).In-loop-i) c.note.result found c.loop-i.own
+      rw c.note.ensures.last_after (lasts-more h 64 c.loop-i.last c.loop-i.i c.loop-i.invariant.2
+          (inside (goal.at.loop-i-preserved c).In-loop-i) (low-here (goal.at.loop-i-preserved c).In-loop-i) c.event_at.result
+              c.event_at.ensures),
+      owned-more h 64 c.loop-i.last c.loop-i.i c.loop-i.invariant.2 (low-here (goal.at.loop-i-preserved c).In-loop-i) c.note.result found
+          c.loop-i.own
           (has-entry (goal.at.loop-i-preserved c).In-loop-i) c.loop-i.invariant.3,
     )
 

@@ -1,11 +1,9 @@
 -- `put_gaps` meets its contract: an event's gap goes by what stands at its slot before it. Assumes nothing.
-use Prim.Native.Nat.{ℕ, ◌+◌, ◌-◌, ◌≤◌, ◌<◌}
+use Prim.Native.Nat.{◌<◌}
 use mathlib.Core.Path.{◌≡◌, refl, sym, ap, ◌∙◌, subst}
 use mathlib.Core.Bool.{Bool}
-use mathlib.Core.List.{List}
 use native.Mathlib.Omega.{arith}
 use lib.ListN.{length, get_or, length-set}
-use Rattle.lists.specs.Filled.{Front}
 use Rattle.lists.proofs.FilledLaws.{front-none, front-more}
 use Rattle.events.specs.declared.event.Event.{Event}
 use Rattle.events.specs.Events.{event_at, begins}
@@ -13,9 +11,7 @@ use Rattle.events.proofs.ReadableLaws.{readable-most}
 use Rattle.event_log.specs.Rows.{logged}
 use Rattle.event_log.proofs.RowLaws.{logged-length}
 use Rattle.reads.specs.Own.{Low, slot_of, reads_store, gap_of, placed_at}
-use Rattle.reads.proofs.OwnLaws.{low, low-64, slot-room, Lasts, lasts-first, lasts-more, its-read}
-use Rattle.std.proofs.Common.{rules}
-use Rattle.std.proofs.lemmas.Grind.{common_steps}
+use Rattle.reads.proofs.OwnLaws.{low, low-64, slot-room, lasts-first, lasts-more, its-read}
 use Rattle.reads.proofs.put_gaps.Goals as goal
 use Rattle.reads.proofs.put_gaps.Goals.{After-event_at-e, After-gap_of, In-loop-i}
 
@@ -30,7 +26,8 @@ low-here : (c : In-loop-i) → Low (begins (logged c.args.log.now)) (event_at (l
 low-here c = low _ c.requires.log_value c.loop-i.i (inside c)
 
 low-taken : (e : After-event_at-e) → Low 64 e.event_at-e.result
-low-taken e = subst (Low 64) (sym e.event_at-e.ensures) (low-64 _ e.requires.log_value e.loop-i.i ((let here : e.loop-i.i < length (logged e.args.log.now) = omega (arith, logged-length e.args.log.now) in here)))
+low-taken e = subst (Low 64) (sym e.event_at-e.ensures) (low-64 _ e.requires.log_value e.loop-i.i
+    ((let here : e.loop-i.i < length (logged e.args.log.now) = omega (arith, logged-length e.args.log.now) in here)))
 
 -- there is an entry for the event
 room : (c : After-gap_of) → c.loop-i.i < length c.loop-i.gaps
@@ -42,7 +39,10 @@ gap : (c : After-gap_of)
 gap c =
     let place = c.args.place.now in
     let found = c.note-own.ensures.value ∙ ap (λ (x : Event). get_or c.loop-i.last (slot_of x) 0) c.event_at-e.ensures in
-    let store = its-read (logged c.args.log.now) _ c.loop-i.last c.loop-i.i c.loop-i.invariant.2 ((let here : Low (begins (logged c.args.log.now)) (event_at (logged c.args.log.now) c.loop-i.i) = low _ c.requires.log_value c.loop-i.i ((let here : c.loop-i.i < length (logged c.args.log.now) = omega (arith, logged-length c.args.log.now) in here)) in here)) c.note-own.result found in
+    let store = its-read (logged c.args.log.now) _ c.loop-i.last c.loop-i.i c.loop-i.invariant.2
+        ((low _ c.requires.log_value c.loop-i.i
+            ((let here : c.loop-i.i < length (logged c.args.log.now) = omega (arith, logged-length c.args.log.now) in here))))
+                c.note-own.result found in
     c.gap_of.ensures
     ∙ (ap (λ (x : Event). gap_of (reads_store x c.note-own.result) x place) c.event_at-e.ensures
     ∙ ap (λ (b : Bool). gap_of b (event_at (logged c.args.log.now) c.loop-i.i) place) (sym store))
@@ -54,7 +54,8 @@ pub note-own-requires : goal.note-own-requires
 note-own-requires c =
     let slot = slot-room _ (low-here (goal.at.note-own-requires c).In-loop-i) c.loop-i.invariant.2.room in
     record {
-      i_bound = (few (goal.at.note-own-requires c).In-loop-i, subst (λ (x : Event). slot_of x < length c.loop-i.last) (sym c.event_at-e.ensures) slot);
+      i_bound = (few (goal.at.note-own-requires c).In-loop-i, subst (λ (x : Event). slot_of x < length c.loop-i.last)
+          (sym c.event_at-e.ensures) slot);
       low = low-taken (goal.at.note-own-requires c).After-event_at-e;
     }
 
@@ -67,6 +68,8 @@ loop-i-preserved c =
       c.note-own.auto.last ∙ c.loop-i.invariant.0,
       length-set c.loop-i.gaps c.loop-i.i c.gap_of.result ∙ c.loop-i.invariant.1,
       rw c.note-own.ensures.last_after
-          (lasts-more (logged c.args.log.now) _ c.loop-i.last c.loop-i.i c.loop-i.invariant.2 (inside (goal.at.loop-i-preserved c).In-loop-i) (low-here (goal.at.loop-i-preserved c).In-loop-i) c.event_at-e.result c.event_at-e.ensures),
+          (lasts-more (logged c.args.log.now) _ c.loop-i.last c.loop-i.i c.loop-i.invariant.2
+              (inside (goal.at.loop-i-preserved c).In-loop-i) (low-here (goal.at.loop-i-preserved c).In-loop-i) c.event_at-e.result
+                  c.event_at-e.ensures),
       front-more 0 _ c.loop-i.i c.gap_of.result c.loop-i.gaps (room c) (gap c) c.loop-i.invariant.3,
     )

@@ -3,11 +3,9 @@ use mathlib.Core.Path.{◌≡◌, sym, ◌∙◌}
 use mathlib.Core.Bool.{false}
 use Rattle.events.specs.Events.{is_begin, is_read, is_commit}
 use Rattle.opacity.specs.Scan.{cause}
-use Rattle.std.proofs.Common.{rules}
 use Rattle.scan.proofs.cause_of.Goals as goal
 use Rattle.scan.proofs.cause_of.Goals.{Else-is_begin, Else-is_commit, Else-is_read}
 
--- `scan::cause_of` meets its contract: by the tests. Assumes nothing.
 not-read : (a : Else-is_read) → is_read a.args.e ≡ false
 not-read a = sym a.is_read.ensures ∙ a.if-is_read.false
 
@@ -28,14 +26,17 @@ returns-then-is_begin c = rw (not-read (goal.at.returns-then-is_begin c).Else-is
 pub returns-then-is_commit : goal.returns-then-is_commit
 unfolding cause
 returns-then-is_commit c =
-    rw (not-read (goal.at.returns-then-is_commit c).Else-is_read, not-begin (goal.at.returns-then-is_commit c).Else-is_begin, sym c.is_commit.ensures ∙ c.if-is_commit.true)
+    rw (not-read (goal.at.returns-then-is_commit c).Else-is_read, not-begin (goal.at.returns-then-is_commit c).Else-is_begin,
+        sym c.is_commit.ensures ∙ c.if-is_commit.true)
 
 pub returns-then-is_abort : goal.returns-then-is_abort
 unfolding cause
 returns-then-is_abort c =
-    rw (not-read (goal.at.returns-then-is_abort c).Else-is_read, not-begin (goal.at.returns-then-is_abort c).Else-is_begin, not-commit (goal.at.returns-then-is_abort c).Else-is_commit, sym c.is_abort.ensures ∙ c.if-is_abort.true)
+    rw (not-read (goal.at.returns-then-is_abort c).Else-is_read, not-begin (goal.at.returns-then-is_abort c).Else-is_begin,
+        not-commit (goal.at.returns-then-is_abort c).Else-is_commit, sym c.is_abort.ensures ∙ c.if-is_abort.true)
 
 pub returns : goal.returns
 unfolding cause
 returns c =
-    rw (not-read (goal.at.returns c).Else-is_read, not-begin (goal.at.returns c).Else-is_begin, not-commit (goal.at.returns c).Else-is_commit, sym c.is_abort.ensures ∙ c.if-is_abort.false)
+    rw (not-read (goal.at.returns c).Else-is_read, not-begin (goal.at.returns c).Else-is_begin,
+        not-commit (goal.at.returns c).Else-is_commit, sym c.is_abort.ensures ∙ c.if-is_abort.false)

@@ -1,14 +1,12 @@
 -- `scan::scan_admitted` meets its contract: a refusal is the answer, and else the scan of the rows taken in. Assumes nothing.
-use mathlib.Core.Path.{sym, ◌∙◌}
+use mathlib.Core.Path.{◌∙◌}
 use lib.ListN.{take}
 use lib.Seq.{length-take-le}
 use Rattle.event_log.specs.Rows.{logged}
 use Rattle.event_log.proofs.RowLaws.{logged-length}
 use Rattle.scan.proofs.AnswerLaws.{after-refused, after-readable}
-use Rattle.std.proofs.Common.{rules}
 use Rattle.scan.proofs.scan_admitted.Goals as goal
 
--- `scan::scan_admitted` meets its contract: a refusal is the answer, and else the scan of the rows taken in. Assumes nothing.
 pub returns-in-Refused : goal.returns-in-Refused
 returns-in-Refused c =
     let a = c.args in

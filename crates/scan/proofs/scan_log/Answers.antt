@@ -9,10 +9,8 @@ use Rattle.event_log.specs.Rows.{logged}
 use Rattle.scan.specs.declared.Scanning.{Scanning}
 use Rattle.scan.specs.Logs.{scan_of}
 use Rattle.scan.proofs.AnswerLaws.{decided-refused, decided-scanned, refused-31, passes-31}
-use Rattle.std.proofs.Common.{rules}
 use Rattle.scan.proofs.scan_log.Goals as goal
 
--- `scan::scan_log` meets its contract: 31, and then the prefixes. Assumes nothing.
 pub returns-then-transactions_begun-gt-SEARCHED : goal.returns-then-transactions_begun-gt-SEARCHED
 unfolding scan_of
 returns-then-transactions_begun-gt-SEARCHED c =

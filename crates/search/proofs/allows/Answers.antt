@@ -2,11 +2,8 @@
 -- Assumes nothing.
 use borrow.Author.Tests.{eq-eqb, ne_eqb}
 use Rattle.places.specs.Tree.{allows_outcome}
-use Rattle.std.proofs.Common.{rules}
 use Rattle.search.proofs.allows.Goals as goal
 
--- `search::allows` meets its contract.
--- Assumes nothing.
 pub returns-then-rule-outcome : goal.returns-then-rule-outcome
 unfolding allows_outcome
 returns-then-rule-outcome c = simp (eq-eqb _ _ c.if-rule-outcome.true)

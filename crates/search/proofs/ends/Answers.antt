@@ -12,7 +12,6 @@ use Rattle.places.specs.Facts.{end_row, after_of}
 use Rattle.places.specs.Tree.{ends_at, none_in}
 use Rattle.lists.proofs.BitLaws.{none-counted}
 use Rattle.places.proofs.MemberLaws.{none-in-members}
-use Rattle.std.proofs.Common.{rules}
 use Rattle.search.proofs.ends.Goals as goal
 use Rattle.search.proofs.ends.Goals.{Start}
 
@@ -21,7 +20,8 @@ unfolding ones
 none-ones = refl
 
 -- none of the unplaced must come before the end exactly if the sets have no common member
-unplaced-before : (c : Start) → none_in (after_of c.args.facts.now end_row) (members c.args.s.unplaced) ≡ eqb (bit_and (after_of c.args.facts.now end_row) c.args.s.unplaced) 0
+unplaced-before : (c : Start) → none_in (after_of c.args.facts.now end_row) (members c.args.s.unplaced) ≡ eqb
+    (bit_and (after_of c.args.facts.now end_row) c.args.s.unplaced) 0
 unplaced-before c = none-in-members (after_of c.args.facts.now end_row) c.args.s.unplaced (omega arith)
 
 still-few : (c : Start) → (bit_and (after_of c.args.facts.now end_row) c.args.s.unplaced) < 2 ^ 10
@@ -30,11 +30,14 @@ still-few c = omega (arith, and_le_r (after_of c.args.facts.now end_row) c.args.
 pub returns-then-count-ne0 : goal.returns-then-count-ne0
 unfolding ends_at
 returns-then-count-ne0 c =
-    let some : (bit_and (after_of c.args.facts.now end_row) c.args.s.unplaced) ≡ 0 → ⊥ = λ z. c.if-count-ne0.true (c.count.ensures ∙ (ap ones z ∙ none-ones)) in
+    let some : (bit_and (after_of c.args.facts.now end_row) c.args.s.unplaced) ≡ 0 → ⊥ = λ z. c.if-count-ne0.true (c.count.ensures
+        ∙ (ap ones z ∙ none-ones)) in
     simp (unplaced-before (goal.at.returns-then-count-ne0 c).Start ∙ ne_eqb _ _ some)
 
 pub returns : goal.returns
 unfolding ends_at
 returns c =
-    let none : (bit_and (after_of c.args.facts.now end_row) c.args.s.unplaced) ≡ 0 = none-counted 10 (bit_and (after_of c.args.facts.now end_row) c.args.s.unplaced) (still-few (goal.at.returns c).Start) (sym c.count.ensures ∙ c.if-count-ne0.false) in
+    let none : (bit_and (after_of c.args.facts.now end_row) c.args.s.unplaced) ≡ 0 = none-counted 10
+        (bit_and (after_of c.args.facts.now end_row) c.args.s.unplaced) (still-few (goal.at.returns c).Start) (sym c.count.ensures
+            ∙ c.if-count-ne0.false) in
     simp (unplaced-before (goal.at.returns c).Start ∙ eq-eqb _ _ none) c.legal_reads.ensures

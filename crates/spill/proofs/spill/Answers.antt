@@ -1,29 +1,32 @@
 -- `spill` meets its contract: the first i events of the log stand in the columns. Assumes nothing.
-use Prim.Native.Nat.{◌-◌}
 use native.Mathlib.Omega.{arith}
 use lib.ListN.{length}
-use mathlib.Core.Path.{◌≡◌, refl, sym, ◌∙◌}
+use mathlib.Core.Path.{◌≡◌, sym, ◌∙◌}
 use mathlib.Core.Bool.{true}
-use borrow.Author.Tests.{not-true, not-false}
-use Rattle.event_log.specs.Columns.{Columns, columns, hold}
+use Rattle.event_log.specs.Columns.{columns, hold}
 use Rattle.event_log.proofs.ColumnLaws.{Held, hold-e}
-use Rattle.spill.proofs.SpillLaws.{Spilling, spilling-first, spilling-more, spilling-done, spilling-room, spilled-not}
-use Rattle.std.proofs.Common.{rules}
+use Rattle.spill.proofs.SpillLaws.{spilling-first, spilling-more, spilling-done, spilling-room, spilled-not}
 use Rattle.spill.proofs.spill.Goals as goal
 use Rattle.spill.proofs.spill.Goals.{After-event_at-e, At-loop-i}
 
-held : (l : At-loop-i) → hold (columns l.args.kinds.now l.args.transactions.now l.args.registers.now l.args.values.now l.args.threads.now) (length l.args.log.now) ≡ true
+held : (l : At-loop-i) → hold (columns l.args.kinds.now l.args.transactions.now l.args.registers.now l.args.values.now l.args.threads.now)
+    (length l.args.log.now) ≡ true
 held l = sym l.columns_hold.ensures ∙ l.if-not-columns_hold.false
 
-given : (l : At-loop-i) → Held (columns l.args.kinds.now l.args.transactions.now l.args.registers.now l.args.values.now l.args.threads.now) (length l.args.log.now)
+given : (l : At-loop-i) → Held (columns l.args.kinds.now l.args.transactions.now l.args.registers.now l.args.values.now l.args.threads.now)
+    (length l.args.log.now)
 given l = hold-e _ _ (held l)
 
-room : (c : After-event_at-e) → Held (columns c.loop-i.kinds c.loop-i.transactions c.loop-i.registers c.loop-i.values c.loop-i.threads) (length c.args.log.now)
-room c = spilling-room c.args.log.now (columns c.args.kinds.now c.args.transactions.now c.args.registers.now c.args.values.now c.args.threads.now) (columns c.loop-i.kinds c.loop-i.transactions c.loop-i.registers c.loop-i.values c.loop-i.threads) c.loop-i.i ((let here : Held (columns c.args.kinds.now c.args.transactions.now c.args.registers.now c.args.values.now c.args.threads.now) (length c.args.log.now) = hold-e _ _ ((let here : hold (columns c.args.kinds.now c.args.transactions.now c.args.registers.now c.args.values.now c.args.threads.now) (length c.args.log.now) ≡ true = sym c.columns_hold.ensures ∙ c.if-not-columns_hold.false in here)) in here)) c.loop-i.invariant
+room : (c : After-event_at-e) → Held (columns c.loop-i.kinds c.loop-i.transactions c.loop-i.registers c.loop-i.values c.loop-i.threads)
+    (length c.args.log.now)
+room c = spilling-room c.args.log.now (columns c.args.kinds.now c.args.transactions.now c.args.registers.now c.args.values.now
+    c.args.threads.now) (columns c.loop-i.kinds c.loop-i.transactions c.loop-i.registers c.loop-i.values c.loop-i.threads) c.loop-i.i
+        ((hold-e _ _ ((sym c.columns_hold.ensures ∙ c.if-not-columns_hold.false)))) c.loop-i.invariant
 
 pub loop-i-init : goal.loop-i-init
 loop-i-init c =
-    spilling-first c.args.log.now (columns c.args.kinds.now c.args.transactions.now c.args.registers.now c.args.values.now c.args.threads.now)
+    spilling-first c.args.log.now (columns c.args.kinds.now c.args.transactions.now c.args.registers.now c.args.values.now
+        c.args.threads.now)
 
 pub bounds-kinds-i : goal.bounds-kinds-i
 bounds-kinds-i c = omega (arith, (room c).kinds)
@@ -42,19 +45,24 @@ bounds-threads-i c = omega (arith, (room c).threads)
 
 pub loop-i-preserved : goal.loop-i-preserved
 loop-i-preserved c =
-    spilling-more c.args.log.now (columns c.args.kinds.now c.args.transactions.now c.args.registers.now c.args.values.now c.args.threads.now) (columns c.loop-i.kinds c.loop-i.transactions c.loop-i.registers c.loop-i.values c.loop-i.threads) c.loop-i.i (given (goal.at.loop-i-preserved c).At-loop-i) c.loop-i.invariant c.loop-i-test.true c.event_at-e.result c.event_at-e.ensures
+    spilling-more c.args.log.now (columns c.args.kinds.now c.args.transactions.now c.args.registers.now c.args.values.now
+        c.args.threads.now) (columns c.loop-i.kinds c.loop-i.transactions c.loop-i.registers c.loop-i.values c.loop-i.threads) c.loop-i.i
+            (given (goal.at.loop-i-preserved c).At-loop-i) c.loop-i.invariant c.loop-i-test.true c.event_at-e.result c.event_at-e.ensures
 
 pub returns-then-not-columns_hold : goal.returns-then-not-columns_hold
 returns-then-not-columns_hold c =
     let no = sym c.columns_hold.ensures ∙ c.if-not-columns_hold.true in
     record {
       value = sym no;
-      threads_after = spilled-not c.args.log.now (columns c.args.kinds.now c.args.transactions.now c.args.registers.now c.args.values.now c.args.threads.now) no;
+      threads_after = spilled-not c.args.log.now (columns c.args.kinds.now c.args.transactions.now c.args.registers.now c.args.values.now
+          c.args.threads.now) no;
     }
 
 pub returns : goal.returns
 returns c =
     record {
       value = sym (held (goal.at.returns c).At-loop-i);
-      threads_after = spilling-done c.args.log.now (columns c.args.kinds.now c.args.transactions.now c.args.registers.now c.args.values.now c.args.threads.now) (columns c.loop-i.kinds c.loop-i.transactions c.loop-i.registers c.loop-i.values c.loop-i.threads) c.loop-i.i (given (goal.at.returns c).At-loop-i) c.loop-i.invariant c.loop-i-test.false;
+      threads_after = spilling-done c.args.log.now (columns c.args.kinds.now c.args.transactions.now c.args.registers.now c.args.values.now
+          c.args.threads.now) (columns c.loop-i.kinds c.loop-i.transactions c.loop-i.registers c.loop-i.values c.loop-i.threads) c.loop-i.i
+              (given (goal.at.returns c).At-loop-i) c.loop-i.invariant c.loop-i-test.false;
     }

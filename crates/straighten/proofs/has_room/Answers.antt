@@ -3,11 +3,8 @@
 use native.Mathlib.Omega.{arith}
 use borrow.Author.Tests.{le-leb, lt-leb}
 use Rattle.lists.specs.Lists.{◌and◌}
-use Rattle.std.proofs.Common.{rules}
 use Rattle.straighten.proofs.has_room.Goals as goal
 
--- `has_room` meets its contract: the output, and then the list.
--- Assumes nothing.
 pub returns-then-output-marking : goal.returns-then-output-marking
 unfolding ◌and◌
 returns-then-output-marking c = rw (lt-leb _ _ c.if-output-marking.true)

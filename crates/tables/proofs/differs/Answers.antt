@@ -3,11 +3,8 @@
 use borrow.Author.Tests.{eq-eqb, ne_eqb}
 use Rattle.lists.specs.Lists.{◌and◌}
 use Rattle.tables.specs.Tables.{clashes}
-use Rattle.std.proofs.Common.{rules}
 use Rattle.tables.proofs.differs.Goals as goal
 
--- `tables::differs` meets its contract.
--- Assumes nothing.
 pub returns-then-old-eq0 : goal.returns-then-old-eq0
 unfolding clashes ◌and◌
 returns-then-old-eq0 c = simp (eq-eqb _ _ c.if-old-eq0.true)

@@ -1,10 +1,8 @@
 -- `tables::expected_at` meets its contract: by the test. Assumes nothing.
 use borrow.Author.Tests.{eq-eqb, ne_eqb}
 use Rattle.tables.specs.Tables.{expected}
-use Rattle.std.proofs.Common.{rules}
 use Rattle.tables.proofs.expected_at.Goals as goal
 
--- `tables::expected_at` meets its contract: by the test. Assumes nothing.
 pub returns-then-own-ne0 : goal.returns-then-own-ne0
 unfolding expected
 returns-then-own-ne0 c = rw (ne_eqb _ _ c.if-own-ne0.true)

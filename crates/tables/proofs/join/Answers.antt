@@ -1,9 +1,7 @@
 -- `tables::join` meets its contract: by the test. Assumes nothing.
 use Rattle.tables.specs.Tables.{joined}
-use Rattle.std.proofs.Common.{rules}
 use Rattle.tables.proofs.join.Goals as goal
 
--- `tables::join` meets its contract: by the test. Assumes nothing.
 pub returns-then-joins : goal.returns-then-joins
 unfolding joined
 returns-then-joins c = rw c.if-joins.true c.with.ensures

@@ -3,16 +3,13 @@ use mathlib.Core.Bool.{false}
 use mathlib.Core.Path.{◌≡◌, sym, ap, ◌∙◌}
 use Prim.Native.Nat.{ℕ}
 use mathlib.Core.List.{List}
-use borrow.Author.Tests.{not-true}
 use Rattle.events.specs.Events.{is_read, is_write}
 use Rattle.tables.specs.Tables.{read_with, written_with}
 use Rattle.events.proofs.KindLaws.{write-no-read}
 use Rattle.tables.proofs.TableLaws.{unread, unwritten}
-use Rattle.std.proofs.Common.{rules}
 use Rattle.tables.proofs.note_access.Goals as goal
 use Rattle.tables.proofs.note_access.Goals.{Else-is_write}
 
--- `tables::note_access` meets its contract: a write does not read, and what does neither changes nothing. Assumes nothing.
 -- where nothing is written
 no_write : (c : Else-is_write) → is_write c.args.e ≡ false
 no_write c = sym c.is_write.ensures ∙ c.if-is_write.false

@@ -1,8 +1,6 @@
 -- `tables::note_read` meets its contract: by the test. Assumes nothing.
 use mathlib.Core.Path.{sym, ◌∙◌}
-use borrow.Author.Tests.{not-true, not-false}
 use Rattle.tables.specs.Tables.{put_if}
-use Rattle.std.proofs.Common.{rules}
 use Rattle.tables.proofs.note_read.Goals as goal
 
 pub returns-then-not-reads_store : goal.returns-then-not-reads_store

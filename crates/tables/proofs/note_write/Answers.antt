@@ -1,10 +1,8 @@
 -- `tables::note_write` meets its contract: by the test. Assumes nothing.
 use mathlib.Core.Path.{sym, ◌∙◌}
 use Rattle.tables.specs.Tables.{put_if}
-use Rattle.std.proofs.Common.{rules}
 use Rattle.tables.proofs.note_write.Goals as goal
 
--- `tables::note_write` meets its contract: by the test. Assumes nothing.
 pub returns-then-is_write : goal.returns-then-is_write
 unfolding put_if
 returns-then-is_write c = rw (sym c.is_write.ensures ∙ c.if-is_write.true, ← c.stored.ensures)

@@ -1,12 +1,9 @@
 -- `tables::read_contradicts` meets its contract: by the test. Assumes nothing.
 use mathlib.Core.Path.{sym, ◌∙◌}
-use borrow.Author.Tests.{not-true, not-false}
 use Rattle.lists.specs.Lists.{◌and◌}
 use Rattle.tables.specs.Tables.{contradicts}
-use Rattle.std.proofs.Common.{rules}
 use Rattle.tables.proofs.read_contradicts.Goals as goal
 
--- `tables::read_contradicts` meets its contract: by the test. Assumes nothing.
 pub returns-then-not-is_read : goal.returns-then-not-is_read
 unfolding contradicts ◌and◌
 returns-then-not-is_read c = rw (sym c.is_read.ensures ∙ c.if-not-is_read.true)

@@ -1,12 +1,9 @@
 -- `tables::reads_store` meets its contract: by the test. Assumes nothing.
 use mathlib.Core.Path.{sym, ◌∙◌}
-use borrow.Author.Tests.{not-true, not-false}
 use Rattle.lists.specs.Lists.{◌and◌}
 use Rattle.tables.specs.Tables.{reads_store}
-use Rattle.std.proofs.Common.{rules}
 use Rattle.tables.proofs.reads_store.Goals as goal
 
--- `tables::reads_store` meets its contract: by the test. Assumes nothing.
 pub returns-then-not-is_read : goal.returns-then-not-is_read
 unfolding reads_store ◌and◌
 returns-then-not-is_read c = rw (sym c.is_read.ensures ∙ c.if-not-is_read.true)

@@ -3,11 +3,9 @@ use mathlib.Core.Path.{◌≡◌, sym, ◌∙◌}
 use mathlib.Core.Bool.{false}
 use Rattle.events.specs.Events.{is_commit, is_abort}
 use Rattle.tables.specs.Tables.{rule_with}
-use Rattle.std.proofs.Common.{rules}
 use Rattle.tables.proofs.rule_with.Goals as goal
 use Rattle.tables.proofs.rule_with.Goals.{Else-is_abort, Else-is_commit}
 
--- `tables::rule_with` meets its contract: by the tests. Assumes nothing.
 -- the event is no commit, and no abort
 no-commit : (a : Else-is_commit) → is_commit a.args.e ≡ false
 no-commit a = sym a.is_commit.ensures ∙ a.if-is_commit.false
@@ -26,9 +24,11 @@ returns-then-is_abort c = rw (no-commit (goal.at.returns-then-is_abort c).Else-i
 pub returns-then-asks_commit : goal.returns-then-asks_commit
 unfolding rule_with
 returns-then-asks_commit c =
-    rw (no-commit (goal.at.returns-then-asks_commit c).Else-is_commit, no_abort (goal.at.returns-then-asks_commit c).Else-is_abort, sym c.asks_commit.ensures ∙ c.if-asks_commit.true)
+    rw (no-commit (goal.at.returns-then-asks_commit c).Else-is_commit, no_abort (goal.at.returns-then-asks_commit c).Else-is_abort,
+        sym c.asks_commit.ensures ∙ c.if-asks_commit.true)
 
 pub returns : goal.returns
 unfolding rule_with
 returns c =
-    rw (no-commit (goal.at.returns c).Else-is_commit, no_abort (goal.at.returns c).Else-is_abort, sym c.asks_commit.ensures ∙ c.if-asks_commit.false)
+    rw (no-commit (goal.at.returns c).Else-is_commit, no_abort (goal.at.returns c).Else-is_abort, sym c.asks_commit.ensures
+        ∙ c.if-asks_commit.false)

@@ -1,7 +1,6 @@
 -- `witness::place_last` meets its contract: there is room for one place more, and a lone read reads what its register holds after the order.
 -- Assumes nothing.
 use Prim.Native.Nat.{◌<◌, ◌^◌}
-use mathlib.Core.Path.{sym, ◌∙◌}
 use native.Mathlib.Omega.{arith}
 use Rattle.events.specs.Events.{is_commit}
 use Rattle.places.proofs.PlaceLaws.{ordered-coded}
@@ -11,8 +10,6 @@ use Rattle.std.proofs.lemmas.Grind.{common_steps}
 use Rattle.witness.proofs.place_last.Goals as goal
 use Rattle.witness.proofs.place_last.Goals.{Start}
 
--- `witness::place_last` meets its contract: there is room for one place more, and a lone read reads what its register holds after the order.
--- Assumes nothing.
 -- there is room for one place more
 room : (s : Start) → s.args.order < 2 ^ 46
 room s = room-more s.args.count s.args.order (s.requires.carryable.another s.requires.e_value) s.requires.carryable.room

@@ -5,7 +5,6 @@ use Rattle.event_log.specs.Starts.{start_of}
 use Rattle.opacity.specs.Justification.{Place, contents}
 use Rattle.places.specs.Places.{codes_of, decode, writes_in}
 use Rattle.witness.proofs.WitnessLaws.{seen-own, seen-store}
-use Rattle.std.proofs.Common.{rules}
 use Rattle.witness.proofs.seen_by.Goals as goal
 
 pub returns-then-own-ne0 : goal.returns-then-own-ne0

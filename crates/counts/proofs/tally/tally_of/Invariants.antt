@@ -1,13 +1,7 @@
 -- `tally_of` meets its contract: after t transactions the counts are of those below t. Assumes nothing.
-use Prim.Native.Nat.{◌-◌, ◌<◌, ◌≤◌}
-use native.Mathlib.Omega.{arith}
-use mathlib.Core.Path.{◌≡◌, sym, ap, ◌∙◌}
-use Rattle.events.specs.Events.{begins}
+use Prim.Native.Nat.{◌-◌}
 use Rattle.event_log.specs.Rows.{logged}
-use Rattle.opacity.specs.Transactions.{status_number, status}
-use Rattle.opacity.proofs.Bounds.{at-most-64}
-use Rattle.links.proofs.TableLaws.{status-table}
-use Rattle.counts.proofs.TallyLaws.{Counted, counted-first, number-low, counts-few, counted-more, counted-all}
+use Rattle.counts.proofs.TallyLaws.{Counted}
 use Rattle.counts.proofs.tally.tally_of.Given as goal
 
 abbrev pub invariant-loop-t : goal.invariant-loop-t

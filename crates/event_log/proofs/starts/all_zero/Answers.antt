@@ -1,17 +1,13 @@
 -- `all_zero` meets its contract: the registers below r start at 0. Assumes nothing.
-use Prim.Native.Nat.{ℕ, ◌-◌, ◌≤◌, ◌<◌}
-use mathlib.Core.Path.{◌≡◌, sym}
+use mathlib.Core.Path.{sym}
 use mathlib.Core.Bool.{true}
 use mathlib.Core.Logic.{⊎_elim}
 use native.Mathlib.Omega.{arith}
-use native.Mathlib.Nat.{not-suc-le-zero}
 use native.Mathlib.Numerals.{add-one}
-use lib.Dec.{eqb}
 use borrow.Author.Tests.{eq-eqb}
 use Rattle.event_log.specs.Starts.{start_of, all_zero}
 use Rattle.lists.proofs.ListLaws.{every-i, below-cases}
 use Rattle.event_log.proofs.StartLaws.{not-all-zero}
-use Rattle.std.proofs.Common.{rules}
 use Rattle.event_log.proofs.starts.all_zero.Goals as goal
 
 pub returns-then-starts-r-ne0 : goal.returns-then-starts-r-ne0

@@ -2,10 +2,8 @@
 use Rattle.lists.specs.Lists.{◌and◌, ◌or◌}
 use Rattle.event_log.specs.Starts.{admits}
 use borrow.Author.Tests.{eq-eqb, ne_eqb}
-use Rattle.std.proofs.Common.{rules}
 use Rattle.event_log.proofs.starts.is_admitted.Goals as goal
 
--- `is_admitted` meets its contract. Assumes nothing.
 pub returns-then-edition-eq-STARTS_EDITION : goal.returns-then-edition-eq-STARTS_EDITION
 unfolding admits ◌or◌
 returns-then-edition-eq-STARTS_EDITION c = rw (eq-eqb _ _ c.if-edition-eq-STARTS_EDITION.true)

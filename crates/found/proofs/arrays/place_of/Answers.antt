@@ -1,11 +1,8 @@
 -- `found::arrays::place_of` meets its contract.
 -- Assumes nothing.
-use mathlib.Core.Path.{◌≡◌, refl, ◌∙◌}
-use Prim.Native.Nat.{◌-◌, ◌≤◌}
+use mathlib.Core.Path.{refl}
 use native.Mathlib.Omega.{arith}
-use lib.ListN.{length, take}
 use Rattle.places.specs.Places.{decode}
-use mathlib.Core.Bool.{false}
 use Rattle.lists.specs.Lists.{any}
 use Rattle.opacity.specs.Justification.{placed}
 use Rattle.found.proofs.MarkLaws.{place_none, place_here, not_yet}

@@ -1,14 +1,11 @@
 -- `found::arrays::place_of` meets its contract.
 -- Assumes nothing.
-use mathlib.Core.Path.{◌≡◌, refl, ◌∙◌}
+use mathlib.Core.Path.{◌≡◌}
 use Prim.Native.Nat.{◌-◌, ◌≤◌}
-use native.Mathlib.Omega.{arith}
-use lib.ListN.{length, take}
+use lib.ListN.{take}
 use Rattle.places.specs.Places.{decode}
 use mathlib.Core.Bool.{false}
-use Rattle.lists.specs.Lists.{any}
 use Rattle.opacity.specs.Justification.{placed}
-use Rattle.found.proofs.MarkLaws.{place_none, place_here, not_yet}
 use Rattle.found.proofs.arrays.place_of.Given as goal
 
 abbrev pub invariant-loop-i : goal.invariant-loop-i

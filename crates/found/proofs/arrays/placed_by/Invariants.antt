@@ -1,8 +1,5 @@
 -- `found::arrays::placed_by` meets its contract: the first k places stand in the arrays. Assumes nothing.
-use Prim.Native.Nat.{ℕ, ◌-◌, ◌≤◌}
-use mathlib.Core.Path.{◌≡◌, refl, subst}
-use native.Mathlib.Omega.{arith}
-use Rattle.lists.proofs.FilledLaws.{filled_none, filled_more}
+use Prim.Native.Nat.{◌-◌, ◌≤◌}
 use Rattle.found.specs.Arrays.{Arrayed}
 use Rattle.found.proofs.arrays.placed_by.Given as goal
 

@@ -1,10 +1,7 @@
 -- `found::arrays::readers_by` meets its contract: the transactions passed have their places. Assumes nothing.
-use Prim.Native.Nat.{ℕ, ◌-◌, ◌≤◌}
-use mathlib.Core.Path.{◌≡◌, subst}
-use native.Mathlib.Omega.{arith}
+use Prim.Native.Nat.{◌-◌, ◌≤◌}
 use lib.ListN.{take}
 use Rattle.lists.specs.Filled.{Filled}
-use Rattle.lists.proofs.FilledLaws.{filled_none, filled_more}
 use Rattle.opacity.specs.Marking.{place_of}
 use Rattle.places.specs.Places.{decode}
 use Rattle.found.proofs.arrays.readers_by.Given as goal

@@ -2,11 +2,8 @@
 -- Assumes nothing.
 use borrow.Author.Tests.{eq-eqb, ne_eqb}
 use Rattle.links.specs.Tables.{first_one}
-use Rattle.std.proofs.Common.{rules}
 use Rattle.links.proofs.tables.first_one.Goals as goal
 
--- `links::tables::first_one` meets its contract.
--- Assumes nothing.
 pub returns-then-x-ne0 : goal.returns-then-x-ne0
 unfolding first_one
 returns-then-x-ne0 c = rw (ne_eqb _ _ c.if-x-ne0.true)

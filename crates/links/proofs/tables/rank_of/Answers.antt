@@ -2,11 +2,8 @@
 -- Assumes nothing.
 use mathlib.Core.Path.{sym, ◌∙◌}
 use Rattle.links.specs.Tables.{rank, rank_of}
-use Rattle.std.proofs.Common.{rules}
 use Rattle.links.proofs.tables.rank_of.Goals as goal
 
--- `rank_of` meets its contract: by the tests, in their order.
--- Assumes nothing.
 pub returns-then-is_commit : goal.returns-then-is_commit
 unfolding rank_of rank
 returns-then-is_commit c = rw (sym c.is_commit.ensures ∙ c.if-is_commit.true)

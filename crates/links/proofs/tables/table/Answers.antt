@@ -1,6 +1,6 @@
 -- `table` meets its contract: after i events the slots are those of the first i.
 -- Assumes nothing.
-use Prim.Native.Nat.{ℕ, ◌-◌, ◌≤◌, ◌<◌}
+use Prim.Native.Nat.{ℕ, ◌<◌}
 use mathlib.Core.Path.{◌≡◌, subst}
 use native.Mathlib.Omega.{arith}
 use lib.ListN.{length}
@@ -29,7 +29,8 @@ note-requires c =
 
 pub loop-i-preserved : goal.loop-i-preserved
 loop-i-preserved c =
-    (search rules, slots-more c.args.fact (logged c.args.log.now) c.loop-i.i c.event_at-e.ensures (low (goal.at.loop-i-preserved c).After-event_at-e) c.note.ensures c.loop-i.invariant.1)
+    (search rules, slots-more c.args.fact (logged c.args.log.now) c.loop-i.i c.event_at-e.ensures
+        (low (goal.at.loop-i-preserved c).After-event_at-e) c.note.ensures c.loop-i.invariant.1)
 
 pub returns : goal.returns
 returns c =

@@ -1,14 +1,9 @@
 -- `table` meets its contract: after i events the slots are those of the first i.
 -- Assumes nothing.
-use Prim.Native.Nat.{ℕ, ◌-◌, ◌≤◌, ◌<◌}
-use mathlib.Core.Path.{◌≡◌, subst}
-use native.Mathlib.Omega.{arith}
+use Prim.Native.Nat.{◌-◌, ◌≤◌}
 use lib.ListN.{length}
 use Rattle.event_log.specs.Rows.{logged}
-use Rattle.event_log.proofs.RowLaws.{logged-length}
-use Rattle.links.proofs.LogLaws.{log-most, transaction-below}
 use Rattle.links.specs.Tables.{Slots}
-use Rattle.links.proofs.TableLaws.{slots-start, slots-more}
 use Rattle.links.proofs.tables.table.Given as goal
 
 abbrev pub invariant-loop-i : goal.invariant-loop-i

@@ -1,6 +1,6 @@
 -- `tables_of` meets its contract: after i events each table is that of the first i.
 -- Assumes nothing.
-use Prim.Native.Nat.{ℕ, ◌-◌, ◌≤◌, ◌<◌}
+use Prim.Native.Nat.{ℕ, ◌<◌}
 use mathlib.Core.Path.{◌≡◌, subst}
 use native.Mathlib.Omega.{arith}
 use lib.ListN.{length}
@@ -17,7 +17,8 @@ use Rattle.links.proofs.tables.tables_of.Goals.{After-event_at-e}
 
 -- the transaction of the event that was read has a slot, and its number fits
 fits : (c : After-event_at-e) → (c.event_at-e.result.transaction < 64) × (c.loop-i.i < 2048)
-fits c = (transaction-below c.args.log.now c.requires c.loop-i-test.true c.event_at-e.ensures, omega (arith, log-most c.args.log.now c.requires))
+fits c = (transaction-below c.args.log.now c.requires c.loop-i-test.true c.event_at-e.ensures,
+    omega (arith, log-most c.args.log.now c.requires))
 
 pub loop-i-init : goal.loop-i-init
 loop-i-init c =

@@ -1,16 +1,9 @@
 -- `tables_of` meets its contract: after i events each table is that of the first i.
 -- Assumes nothing.
-use Prim.Native.Nat.{ℕ, ◌-◌, ◌≤◌, ◌<◌}
-use mathlib.Core.Path.{◌≡◌, subst}
-use native.Mathlib.Omega.{arith}
+use Prim.Native.Nat.{◌-◌, ◌≤◌}
 use lib.ListN.{length}
 use Rattle.event_log.specs.Rows.{logged}
-use Rattle.event_log.proofs.RowLaws.{logged-length}
-use Rattle.links.proofs.LogLaws.{in-history, log-most, transaction-below, register-below}
-use Rattle.links.specs.declared.tables.Fact.TheVariants.{LastWrite, LastBegin, FirstEnd, Rank}
 use Rattle.links.specs.Registers.{Passed}
-use Rattle.links.proofs.TableLaws.{slots-start, slots-more}
-use Rattle.links.proofs.RegisterLaws.{sets-start, sets_more}
 use Rattle.links.proofs.tables.tables_of.Given as goal
 
 abbrev pub invariant-loop-i : goal.invariant-loop-i

@@ -1,6 +1,6 @@
 -- `links` meets its contract: after i events their links are written, and the slots hold the last write of each transaction.
 -- Assumes nothing.
-use Prim.Native.Nat.{ℕ, ◌-◌, ◌≤◌, ◌<◌}
+use Prim.Native.Nat.{ℕ, ◌<◌}
 use mathlib.Core.Path.{◌≡◌, refl, ap, ◌∙◌, subst}
 use native.Mathlib.Omega.{arith}
 use lib.ListN.{length, length-set}
@@ -10,7 +10,7 @@ use Rattle.event_log.specs.Rows.{logged}
 use Rattle.event_log.proofs.RowLaws.{logged-length}
 use Rattle.links.proofs.LogLaws.{log-most, transaction-below}
 use Rattle.links.specs.declared.tables.Fact.TheVariants.{LastWrite}
-use Rattle.links.specs.Tables.{slot, Slots}
+use Rattle.links.specs.Tables.{slot}
 use Rattle.links.specs.Writes.{Links}
 use Rattle.lists.proofs.FilledLaws.{front-none, front-more}
 use Rattle.links.proofs.TableLaws.{slots-start, slots-more}
@@ -23,7 +23,7 @@ low : (c : After-event_at-e) → c.event_at-e.result.transaction < 64
 low c = transaction-below c.args.log.now c.requires.log_value c.loop-i-test.true c.event_at-e.ensures
 
 its-slot : (c : After-index_of-t) → c.index_of-t.result < 64
-its-slot c = rw c.index_of-t.ensures ((let here : c.event_at-e.result.transaction < 64 = transaction-below c.args.log.now c.requires.log_value c.loop-i-test.true c.event_at-e.ensures in here))
+its-slot c = rw c.index_of-t.ensures ((transaction-below c.args.log.now c.requires.log_value c.loop-i-test.true c.event_at-e.ensures))
 
 -- and the event an entry
 few : (c : In-loop-i) → c.loop-i.i < 2048
@@ -53,7 +53,8 @@ loop-i-preserved c =
     ∙ ap (λ (x : ℕ). slot LastWrite h x c.loop-i.i) c.index_of-t.ensures
     ∙ ap (λ (x : Event). slot LastWrite h x.transaction c.loop-i.i) c.event_at-e.ensures in (
       search rules,
-      slots-more LastWrite h c.loop-i.i c.event_at-e.ensures (low (goal.at.loop-i-preserved c).After-event_at-e) c.note.ensures c.loop-i.invariant.1,
+      slots-more LastWrite h c.loop-i.i c.event_at-e.ensures (low (goal.at.loop-i-preserved c).After-event_at-e) c.note.ensures
+          c.loop-i.invariant.1,
       front-more _ (λ i. slot LastWrite h (event_at h i).transaction i) c.loop-i.i _ c.loop-i.link
           (has-entry (goal.at.loop-i-preserved c).In-loop-i) q c.loop-i.invariant.2,
       length-set c.loop-i.link _ _ ∙ c.loop-i.invariant.3,

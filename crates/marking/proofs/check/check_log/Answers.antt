@@ -6,14 +6,12 @@ use native.Mathlib.Omega.{arith}
 use lib.ListN.{length, replicate, length-replicate}
 use Rattle.links.proofs.LogLaws.{log-most}
 use Rattle.marking_reader.proofs.SoundLaws.{arrays-fresh}
-use Rattle.std.proofs.Common.{rules}
 use Rattle.marking.proofs.check.check_log.Goals as goal
 
--- `check_log` meets its contract: by tables of either size.
--- Assumes nothing.
 -- the tables are as long as the log, and hold no point
 room : (n : ℕ) (log : List (List ℕ)) → length log ≤ n
-    → (length log ≤ length (replicate {A = ℕ} n 0)) × (length log ≤ length (replicate {A = ℕ} n 65535)) × (length log ≤ length (replicate {A = ℕ} n 0))
+    → (length log ≤ length (replicate {A = ℕ} n 0)) × (length log ≤ length (replicate {A = ℕ} n 65535))
+        × (length log ≤ length (replicate {A = ℕ} n 0))
 room n log l =
     let o = length-replicate {A = ℕ} n 0 in
     let g = length-replicate {A = ℕ} n 65535 in

@@ -7,7 +7,6 @@ use lib.Dec.{eqb}
 use Rattle.lists.specs.Lists.{◌and◌}
 use Rattle.events.specs.Questions.{refusal}
 use Rattle.marking_reader.specs.File.{head_questions}
-use Rattle.std.proofs.Common.{rules}
 use Rattle.marking_reader.proofs.read.head_asked.Goals as goal
 use Rattle.marking_reader.proofs.read.head_asked.Goals.{Else-r-ne-HEAD_SIZE, Else-r-ne-MARKING_HEAD}
 
@@ -29,9 +28,11 @@ returns-then-r-ne-HEAD_SIZE c =
 pub returns-then-u16_at-ne-EDITION : goal.returns-then-u16_at-ne-EDITION
 unfolding head_questions refusal ◌and◌
 returns-then-u16_at-ne-EDITION c =
-    rw (of-kind (goal.at.returns-then-u16_at-ne-EDITION c).Else-r-ne-MARKING_HEAD, of_size (goal.at.returns-then-u16_at-ne-EDITION c).Else-r-ne-HEAD_SIZE, ← c.u16_at.ensures, ne_eqb _ _ c.if-u16_at-ne-EDITION.true)
+    rw (of-kind (goal.at.returns-then-u16_at-ne-EDITION c).Else-r-ne-MARKING_HEAD,
+        of_size (goal.at.returns-then-u16_at-ne-EDITION c).Else-r-ne-HEAD_SIZE, ← c.u16_at.ensures, ne_eqb _ _ c.if-u16_at-ne-EDITION.true)
 
 pub returns : goal.returns
 unfolding head_questions refusal ◌and◌
 returns c =
-    rw (of-kind (goal.at.returns c).Else-r-ne-MARKING_HEAD, of_size (goal.at.returns c).Else-r-ne-HEAD_SIZE, ← c.u16_at.ensures, eq-eqb _ _ c.if-u16_at-ne-EDITION.false)
+    rw (of-kind (goal.at.returns c).Else-r-ne-MARKING_HEAD, of_size (goal.at.returns c).Else-r-ne-HEAD_SIZE, ← c.u16_at.ensures,
+        eq-eqb _ _ c.if-u16_at-ne-EDITION.false)

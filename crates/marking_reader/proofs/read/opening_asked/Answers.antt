@@ -1,15 +1,11 @@
 -- `marking_reader::read::opening_asked` meets its contract: the file's size, and then its first record.
 -- Assumes nothing.
-use Prim.Native.Nat.{ℕ}
 use mathlib.Core.Path.{◌≡◌, sym, ◌∙◌}
 use mathlib.Core.Bool.{true}
-use mathlib.Core.List.{List}
 use borrow.Author.Tests.{le-leb, lt-leb}
 use lib.Dec.{leb}
 use lib.ListN.{length}
-use Rattle.records.proofs.RecordLaws.{whole_in}
 use Rattle.marking_reader.specs.File.{opening}
-use Rattle.std.proofs.Common.{rules}
 use Rattle.marking_reader.proofs.read.opening_asked.Goals as goal
 use Rattle.marking_reader.proofs.read.opening_asked.Goals.{After-record_at-found}
 

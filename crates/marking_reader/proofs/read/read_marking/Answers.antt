@@ -1,13 +1,10 @@
 -- `marking_reader::read::read_marking` meets its contract: what has been read stands in the arrays, and what is left gives the answer.
 -- Assumes nothing.
-use Prim.Native.Nat.{ℕ, ◌-◌, ◌<◌}
+use Prim.Native.Nat.{ℕ, ◌<◌}
 use mathlib.Core.Path.{◌≡◌, refl, sym, ap, ◌∙◌, subst}
-use mathlib.Core.Bool.{Bool}
-use mathlib.Core.List.{List}
 use native.Mathlib.Omega.{arith}
 use lib.ListN.{length, length-set}
 use Rattle.lists.specs.Lists.{every}
-use Rattle.events.specs.declared.event.Event.{Event}
 use Rattle.events.specs.Events.{begins}
 use Rattle.events.proofs.QuestionLaws.{numbered-some}
 use Rattle.events.proofs.ReadableLaws.{readable-most}
@@ -15,8 +12,8 @@ use Rattle.event_log.specs.Rows.{logged}
 use Rattle.event_log.proofs.RowLaws.{logged-length}
 use Rattle.opacity.proofs.Bounds.{at-most-64}
 use Rattle.marking_reader.specs.declared.step.MarkingStep.{MarkingStep}
-use Rattle.marking_reader.specs.File.{known, Asked, step_at, opening}
-use Rattle.marking_reader.specs.State.{point_by, asked_by, so_far, Sound}
+use Rattle.marking_reader.specs.File.{known, step_at}
+use Rattle.marking_reader.specs.State.{point_by, asked_by}
 use Rattle.marking_reader.proofs.StepLaws.{opening-none}
 use Rattle.marking_reader.proofs.SoundLaws.{sound-start, nothing-so}
 use Rattle.marking_reader.proofs.WalkLaws.{Reached, reached-first, opening-refused}
@@ -26,26 +23,42 @@ use Rattle.std.proofs.lemmas.Grind.{common_steps}
 use Rattle.marking_reader.proofs.read.read_marking.Goals as goal
 use Rattle.marking_reader.proofs.read.read_marking.Goals.{After-step_at-step, In-Placed, In-Pointed}
 
-answered : (c : After-step_at-step) (x : MarkingStep) → c.step_at-step.result ≡ x → (step_at (asked_by (logged c.args.log.now) (begins (logged c.args.log.now)) c.loop-t.used c.loop-t.filled c.loop-t.next) (every (point_by (logged c.args.log.now) c.loop-t.gaps) (length (logged c.args.log.now))) (c.args.file.now) c.loop-t.at) ≡ x
-answered c x e = ap (λ (b : ℕ). step_at (asked_by (logged c.args.log.now) b c.loop-t.used c.loop-t.filled c.loop-t.next) (every (point_by (logged c.args.log.now) c.loop-t.gaps) (length (logged c.args.log.now))) (c.args.file.now) c.loop-t.at) (sym c.requires.asking.count) ∙ (sym c.step_at-step.ensures ∙ e)
+answered : (c : After-step_at-step) (x : MarkingStep) → c.step_at-step.result ≡ x
+    → (step_at (asked_by (logged c.args.log.now) (begins (logged c.args.log.now)) c.loop-t.used c.loop-t.filled c.loop-t.next)
+        (every (point_by (logged c.args.log.now) c.loop-t.gaps) (length (logged c.args.log.now))) (c.args.file.now) c.loop-t.at) ≡ x
+answered c x e = ap (λ (b : ℕ). step_at (asked_by (logged c.args.log.now) b c.loop-t.used c.loop-t.filled c.loop-t.next)
+    (every (point_by (logged c.args.log.now) c.loop-t.gaps) (length (logged c.args.log.now))) (c.args.file.now) c.loop-t.at)
+        (sym c.requires.asking.count) ∙ (sym c.step_at-step.ensures ∙ e)
 
 placed : (c : In-Placed)
     → Placing c.loop-t.invariant.0 c.loop-t.invariant.1 c.in-Placed.t c.in-Placed.o c.in-Placed.end
-placed c = placing c.loop-t.invariant.0 c.loop-t.invariant.1 ((let here : (x : MarkingStep) → c.step_at-step.result ≡ x → (step_at (asked_by (logged c.args.log.now) (begins (logged c.args.log.now)) c.loop-t.used c.loop-t.filled c.loop-t.next) (every (point_by (logged c.args.log.now) c.loop-t.gaps) (length (logged c.args.log.now))) (c.args.file.now) c.loop-t.at) ≡ x = λ x e. ap (λ (b : ℕ). step_at (asked_by (logged c.args.log.now) b c.loop-t.used c.loop-t.filled c.loop-t.next) (every (point_by (logged c.args.log.now) c.loop-t.gaps) (length (logged c.args.log.now))) (c.args.file.now) c.loop-t.at) (sym c.requires.asking.count) ∙ (sym c.step_at-step.ensures ∙ e) in here) _ c.in-Placed.is)
+placed c = placing c.loop-t.invariant.0 c.loop-t.invariant.1 ((let here : (x : MarkingStep) → c.step_at-step.result ≡ x
+    → (step_at (asked_by (logged c.args.log.now) (begins (logged c.args.log.now)) c.loop-t.used c.loop-t.filled c.loop-t.next)
+        (every (point_by (logged c.args.log.now) c.loop-t.gaps) (length (logged c.args.log.now))) (c.args.file.now) c.loop-t.at) ≡ x = λ x
+            e. ap (λ (b : ℕ). step_at (asked_by (logged c.args.log.now) b c.loop-t.used c.loop-t.filled c.loop-t.next)
+                (every (point_by (logged c.args.log.now) c.loop-t.gaps) (length (logged c.args.log.now))) (c.args.file.now) c.loop-t.at)
+                    (sym c.requires.asking.count) ∙ (sym c.step_at-step.ensures ∙ e) in here) _ c.in-Placed.is)
 
 pointed : (c : In-Pointed)
     → Pointing c.loop-t.invariant.0 c.loop-t.invariant.1 c.in-Pointed.e c.in-Pointed.g c.in-Pointed.end
-pointed c = pointing c.loop-t.invariant.0 c.loop-t.invariant.1 ((let here : (x : MarkingStep) → c.step_at-step.result ≡ x → (step_at (asked_by (logged c.args.log.now) (begins (logged c.args.log.now)) c.loop-t.used c.loop-t.filled c.loop-t.next) (every (point_by (logged c.args.log.now) c.loop-t.gaps) (length (logged c.args.log.now))) (c.args.file.now) c.loop-t.at) ≡ x = λ x e. ap (λ (b : ℕ). step_at (asked_by (logged c.args.log.now) b c.loop-t.used c.loop-t.filled c.loop-t.next) (every (point_by (logged c.args.log.now) c.loop-t.gaps) (length (logged c.args.log.now))) (c.args.file.now) c.loop-t.at) (sym c.requires.asking.count) ∙ (sym c.step_at-step.ensures ∙ e) in here) _ c.in-Pointed.is)
+pointed c = pointing c.loop-t.invariant.0 c.loop-t.invariant.1 ((let here : (x : MarkingStep) → c.step_at-step.result ≡ x
+    → (step_at (asked_by (logged c.args.log.now) (begins (logged c.args.log.now)) c.loop-t.used c.loop-t.filled c.loop-t.next)
+        (every (point_by (logged c.args.log.now) c.loop-t.gaps) (length (logged c.args.log.now))) (c.args.file.now) c.loop-t.at) ≡ x = λ x
+            e. ap (λ (b : ℕ). step_at (asked_by (logged c.args.log.now) b c.loop-t.used c.loop-t.filled c.loop-t.next)
+                (every (point_by (logged c.args.log.now) c.loop-t.gaps) (length (logged c.args.log.now))) (c.args.file.now) c.loop-t.at)
+                    (sym c.requires.asking.count) ∙ (sym c.step_at-step.ensures ∙ e) in here) _ c.in-Pointed.is)
 
 pub returns-then-opens-ne0 : goal.returns-then-opens-ne0
-returns-then-opens-ne0 c = grind (arith, common_steps, numbered-some, readable-most, logged-length, at-most-64, opening-none, sound-start, nothing-so, reached-first, opening-refused, says-no, placing, pointing, refusing, unfinished, finished, rules)
+returns-then-opens-ne0 c = grind (arith, common_steps, numbered-some, readable-most, logged-length, at-most-64, opening-none, sound-start,
+    nothing-so, reached-first, opening-refused, says-no, placing, pointing, refusing, unfinished, finished, rules)
 
 pub loop-t-init : goal.loop-t-init
 loop-t-init c =
     let h = logged c.args.log.now in
     let o = opening-none c.args.file.now (sym c.opening_asked-opens.ensures ∙ c.if-opens-ne0.false) in (
       subst (Reached (known h) c.args.file.now 6) (sym (nothing-so _ _ _)) (reached-first (known h) c.args.file.now o),
-      sound-start h _ _ _ (readable-most h c.requires.asking.readable) (at-most-64 h c.requires.asking.readable) (omega (arith, logged-length c.args.log.now)) c.requires.fresh,
+      sound-start h _ _ _ (readable-most h c.requires.asking.readable) (at-most-64 h c.requires.asking.readable)
+          (omega (arith, logged-length c.args.log.now)) c.requires.fresh,
       refl,
     )
 
@@ -63,11 +76,13 @@ bounds-used-i c = omega (arith, (placed (goal.at.bounds-used-i c).In-Placed).beg
 
 pub loop-t-smaller-in-Placed : goal.loop-t-smaller-in-Placed
 loop-t-smaller-in-Placed c =
-    omega (arith, (placed (goal.at.loop-t-smaller-in-Placed c).In-Placed).onward, (placed (goal.at.loop-t-smaller-in-Placed c).In-Placed).within)
+    omega (arith, (placed (goal.at.loop-t-smaller-in-Placed c).In-Placed).onward,
+        (placed (goal.at.loop-t-smaller-in-Placed c).In-Placed).within)
 
 pub loop-t-preserved-in-Placed : goal.loop-t-preserved-in-Placed
 loop-t-preserved-in-Placed c =
-    ((placed (goal.at.loop-t-preserved-in-Placed c).In-Placed).comes, (placed (goal.at.loop-t-preserved-in-Placed c).In-Placed).holds, c.loop-t.invariant.2)
+    ((placed (goal.at.loop-t-preserved-in-Placed c).In-Placed).comes, (placed (goal.at.loop-t-preserved-in-Placed c).In-Placed).holds,
+        c.loop-t.invariant.2)
 
 pub offset_bounds-gaps-e : goal.offset_bounds-gaps-e
 offset_bounds-gaps-e c = let l : c.in-Pointed.e < 2048 = (pointed c).inside in search rules
@@ -102,7 +117,8 @@ returns-in-Unfinished c =
 
 pub returns-in-Finished : goal.returns-in-Finished
 returns-in-Finished c =
-    let all = finished c.loop-t.invariant.0 c.loop-t.invariant.1 (answered (goal.at.returns-in-Finished c).After-step_at-step _ c.in-Finished.is) in record {
+    let all = finished c.loop-t.invariant.0 c.loop-t.invariant.1 (answered (goal.at.returns-in-Finished c).After-step_at-step _
+        c.in-Finished.is) in record {
       result_after = all.0;
       kept = all.1;
     }

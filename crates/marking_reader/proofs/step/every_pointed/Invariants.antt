@@ -1,13 +1,9 @@
 -- `marking_reader::step::every_pointed` meets its contract: the events before i have a point, if they are store reads.
 -- Assumes nothing.
-use Prim.Native.Nat.{ℕ, ◌-◌, ◌<◌}
-use mathlib.Core.Bool.{Bool}
-use native.Mathlib.Omega.{arith}
+use Prim.Native.Nat.{◌-◌}
 use lib.ListN.{length}
-use borrow.Author.Tests.{not-true, not-false}
 use Rattle.event_log.specs.Rows.{logged}
-use Rattle.event_log.proofs.RowLaws.{logged-length}
-use Rattle.rules.proofs.Numbers.{Passing, passing-first, passing-more, not-every, every_one}
+use Rattle.rules.proofs.Numbers.{Passing}
 use Rattle.marking_reader.specs.State.{point_by}
 use Rattle.marking_reader.proofs.step.every_pointed.Given as goal
 

@@ -5,8 +5,6 @@ use mathlib.Core.Bool.{not}
 use borrow.Author.Tests.{eq-eqb, ne_eqb}
 use Rattle.event_log.specs.Rows.{logged}
 use Rattle.marking_reader.proofs.PointLaws.{with-gap, without-gap}
-use native.Mathlib.Omega.{arith}
-use Rattle.std.proofs.Common.{rules}
 use Rattle.marking_reader.proofs.step.is_pointed.Goals as goal
 
 pub returns-then-gaps-i : goal.returns-then-gaps-i

@@ -2,18 +2,14 @@
 -- Assumes nothing.
 use mathlib.Core.Path.{◌≡◌}
 use mathlib.Core.Bool.{true}
-use native.Mathlib.Omega.{arith}
 use borrow.Author.Tests.{eq-eqb, ne_eqb, lt-ltb, le-ltb}
 use lib.Dec.{eqb, ltb}
 use Rattle.lists.specs.Lists.{◌and◌}
 use Rattle.events.specs.Questions.{refusal}
 use Rattle.marking_reader.specs.State.{place_questions}
-use Rattle.std.proofs.Common.{rules}
 use Rattle.marking_reader.proofs.step.place_asked.Goals as goal
 use Rattle.marking_reader.proofs.step.place_asked.Goals.{Else-begun-i, Else-next-ne0}
 
--- `marking_reader::step::place_asked` meets its contract: the first of two questions that says no.
--- Assumes nothing.
 -- where no point is before the place, and where the transaction is in the history
 unpointed : (c : Else-next-ne0) → eqb c.args.next 0 ≡ true
 unpointed c = eq-eqb _ _ c.if-next-ne0.false
@@ -37,7 +33,8 @@ returns-then-used-i c =
 pub returns-then-o-ge2 : goal.returns-then-o-ge2
 unfolding place_questions refusal ◌and◌
 returns-then-o-ge2 c =
-    rw (unpointed (goal.at.returns-then-o-ge2 c).Else-next-ne0, known (goal.at.returns-then-o-ge2 c).Else-begun-i, c.if-used-i.false, le-ltb _ _ c.if-o-ge2.true)
+    rw (unpointed (goal.at.returns-then-o-ge2 c).Else-next-ne0, known (goal.at.returns-then-o-ge2 c).Else-begun-i, c.if-used-i.false,
+        le-ltb _ _ c.if-o-ge2.true)
 
 pub returns : goal.returns
 unfolding place_questions refusal ◌and◌

@@ -1,7 +1,7 @@
 -- `marking_reader::step::point_asked` meets its contract: the first of three questions that says no.
 -- Assumes nothing.
 use mathlib.Core.Path.{◌≡◌, sym, ◌∙◌}
-use mathlib.Core.Bool.{Bool, true, false}
+use mathlib.Core.Bool.{true, false}
 use borrow.Author.Tests.{le-leb, lt-leb, not-true, not-false}
 use lib.Dec.{eqb}
 use Rattle.lists.specs.Lists.{◌and◌, ◌implies◌}
@@ -9,8 +9,7 @@ use Rattle.events.specs.Questions.{refusal}
 use Rattle.event_log.specs.Rows.{logged}
 use Rattle.opacity.specs.Transactions.{is_store_read}
 use Rattle.marking_reader.specs.State.{point_questions}
-use Rattle.marking_reader.proofs.AskingLaws.{few-events, none-past}
-use Rattle.std.proofs.Common.{rules}
+use Rattle.marking_reader.proofs.AskingLaws.{none-past}
 use Rattle.marking_reader.proofs.step.point_asked.Goals as goal
 use Rattle.marking_reader.proofs.step.point_asked.Goals.{Else-is_early, Else-not-is_store_read}
 
@@ -24,7 +23,8 @@ read c = sym c.is_store_read.ensures ∙ c.if-not-is_store_read.false
 pub returns-then-is_early : goal.returns-then-is_early
 unfolding point_questions refusal ◌and◌
 returns-then-is_early c =
-    let q : (eqb c.args.progress.next 0 implies eqb c.args.progress.filled c.args.begun) ≡ false = not-true _ (sym c.is_early.ensures ∙ c.if-is_early.true) in
+    let q : (eqb c.args.progress.next 0 implies eqb c.args.progress.filled c.args.begun) ≡ false = not-true _ (sym c.is_early.ensures
+        ∙ c.if-is_early.true) in
     rw q
 
 pub returns-then-e-progress : goal.returns-then-e-progress
@@ -46,9 +46,11 @@ returns-then-not-is_store_read c =
 pub returns-then-begun-g : goal.returns-then-begun-g
 unfolding point_questions refusal ◌and◌
 returns-then-begun-g c =
-    rw (placed (goal.at.returns-then-begun-g c).Else-is_early, le-leb _ _ c.if-e-progress.false, read (goal.at.returns-then-begun-g c).Else-not-is_store_read, lt-leb _ _ c.if-begun-g.true)
+    rw (placed (goal.at.returns-then-begun-g c).Else-is_early, le-leb _ _ c.if-e-progress.false,
+        read (goal.at.returns-then-begun-g c).Else-not-is_store_read, lt-leb _ _ c.if-begun-g.true)
 
 pub returns : goal.returns
 unfolding point_questions refusal ◌and◌
 returns c =
-    rw (placed (goal.at.returns c).Else-is_early, le-leb _ _ c.if-e-progress.false, read (goal.at.returns c).Else-not-is_store_read, le-leb _ _ c.if-begun-g.false)
+    rw (placed (goal.at.returns c).Else-is_early, le-leb _ _ c.if-e-progress.false, read (goal.at.returns c).Else-not-is_store_read,
+        le-leb _ _ c.if-begun-g.false)

@@ -1,12 +1,9 @@
 -- `marking_reader::step::step_at` meets its contract: by what stands at the byte.
 -- Assumes nothing.
 use mathlib.Core.Path.{◌≡◌, sym, ◌∙◌}
-use Rattle.records.specs.declared.record.Found.{Found}
 use Rattle.records.specs.declared.record.Found.TheVariants.{Whole}
 use Rattle.records.specs.Records.{record_at}
-use Rattle.records.proofs.RecordLaws.{whole_in}
 use Rattle.marking_reader.specs.File.{step_at}
-use Rattle.std.proofs.Common.{rules}
 use Rattle.marking_reader.proofs.step.step_at.Goals as goal
 use Rattle.marking_reader.proofs.step.step_at.Goals.{In-Whole}
 

@@ -1,7 +1,7 @@
 -- `places::lookup::content` meets its contract: the places behind those that are left wrote nothing.
 -- Assumes nothing.
-use mathlib.Core.Path.{◌≡◌, refl, sym, ap, ◌∙◌}
-use mathlib.Core.List.{List, [], ◌∷◌, ◌++◌}
+use mathlib.Core.Path.{◌≡◌, sym, ap, ◌∙◌}
+use mathlib.Core.List.{[], ◌∷◌, ◌++◌}
 use native.Mathlib.Omega.{arith}
 use Prim.Native.Nat.{ℕ, ◌<◌, ◌-◌, ◌/◌, ◌%◌}
 use Rattle.event_log.specs.Starts.{start_of}
@@ -9,7 +9,6 @@ use Rattle.places.specs.Places.{codes_of}
 use Rattle.places.specs.State.{Coded}
 use Rattle.places.proofs.StateLaws.{codes-back, coded-back}
 use Rattle.places.proofs.LookupLaws.{held_after, before-any, passed_over, ends_at}
-use Rattle.std.proofs.Common.{rules}
 use Rattle.places.proofs.lookup.content.Goals as goal
 use Rattle.places.proofs.lookup.content.Goals.{After-write_of-w, In-loop-left}
 
@@ -37,7 +36,8 @@ pub returns-then-w-ne0 : goal.returns-then-w-ne0
 returns-then-w-ne0 c =
     let l = c.loop-left in
     let a = c.args in
-    ends_at (start_of a.starts.now) a.facts.now a.register (codes_of (l.left - 1) (l.rest / 32)) (l.rest % 32) c.write_of-w.result c.write_of-w.ensures c.if-w-ne0.true
+    ends_at (start_of a.starts.now) a.facts.now a.register (codes_of (l.left - 1) (l.rest / 32)) (l.rest % 32) c.write_of-w.result
+        c.write_of-w.ensures c.if-w-ne0.true
     ∙ sym (split (goal.at.returns-then-w-ne0 c).After-write_of-w)
 
 pub loop-left-preserved : goal.loop-left-preserved

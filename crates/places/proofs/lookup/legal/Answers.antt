@@ -1,26 +1,19 @@
 -- `places::lookup::legal` meets its contract: the reads of the registers passed are legal, so that those left decide.
 -- Assumes nothing.
-use borrow.Author.Tests.{not-true, not-false}
-use mathlib.Core.Path.{◌≡◌, sym, ap, ◌∙◌}
-use mathlib.Core.List.{List}
-use mathlib.Core.Bool.{Bool}
+use mathlib.Core.Path.{◌≡◌, sym, ◌∙◌}
 use native.Mathlib.Omega.{arith}
-use Prim.Native.Nat.{ℕ, ◌^◌, ◌<◌}
-use lib.Pow.{pow_pos}
-use Rattle.lists.specs.Lists.{all}
-use Rattle.lists.specs.Bits.{bit_at, members}
-use Rattle.places.specs.Places.{codes_of}
+use Rattle.lists.specs.Bits.{bit_at}
 use Rattle.places.specs.Tree.{legal_at}
 use Rattle.lists.proofs.BitLaws.{member-lt}
 use Rattle.places.proofs.SetLaws.{lowest-member, none_left, one_passes, one-fails}
-use Rattle.std.proofs.Common.{rules}
 use Rattle.places.proofs.lookup.legal.Goals as goal
 use Rattle.places.proofs.lookup.legal.Invariants.{test}
 
 pub legal_at-requires : goal.legal_at-requires
 legal_at-requires c =
     let at = c.loop-left in
-    let member : bit_at c.lowest-r.result at.left ≡ 1 = lowest-member c.lowest-r.result at.left (omega (arith, at.invariant.1)) c.loop-left-test.true c.lowest-r.ensures in
+    let member : bit_at c.lowest-r.result at.left ≡ 1 = lowest-member c.lowest-r.result at.left (omega (arith, at.invariant.1))
+        c.loop-left-test.true c.lowest-r.ensures in
     record {
       coded = c.requires.coded;
       t_bound = c.requires.t_bound;

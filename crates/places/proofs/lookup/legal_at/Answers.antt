@@ -2,11 +2,8 @@
 -- Assumes nothing.
 use borrow.Author.Tests.{eq-eqb, ne_eqb}
 use Rattle.places.specs.Tree.{legal_at}
-use Rattle.std.proofs.Common.{rules}
 use Rattle.places.proofs.lookup.legal_at.Goals as goal
 
--- `places::lookup::legal_at` meets its contract.
--- Assumes nothing.
 pub returns-then-w-eq0 : goal.returns-then-w-eq0
 unfolding legal_at
 returns-then-w-eq0 c = simp (eq-eqb _ _ c.if-w-eq0.true)

@@ -6,11 +6,8 @@ use Rattle.lists.specs.Lists.{all}
 use Rattle.lists.specs.Bits.{members}
 use Rattle.places.specs.State.{placed_of}
 use Rattle.places.specs.Tree.{legal_at, legal_reads}
-use Rattle.std.proofs.Common.{rules}
 use Rattle.places.proofs.lookup.legal_reads.Goals as goal
 
--- `places::lookup::legal_reads` meets its contract.
--- Assumes nothing.
 pub returns : goal.returns
 unfolding legal_reads
 returns c =

@@ -2,11 +2,8 @@
 -- Assumes nothing.
 use mathlib.Core.Path.{sym}
 use Rattle.places.proofs.LookupLaws.{aborted-wrote, committed-wrote}
-use Rattle.std.proofs.Common.{rules}
 use Rattle.places.proofs.lookup.write_of.Goals as goal
 
--- `places::lookup::write_of` meets its contract.
--- Assumes nothing.
 pub returns-then-code-eq0 : goal.returns-then-code-eq0
 returns-then-code-eq0 c = sym (aborted-wrote _ _ _ c.if-code-eq0.true)
 

@@ -2,11 +2,8 @@
 -- Assumes nothing.
 use native.Mathlib.Omega.{arith}
 use Rattle.lists.proofs.BitLaws.{member-le, member-lt}
-use Rattle.std.proofs.Common.{rules}
 use Rattle.places.proofs.sets.without.Goals as goal
 
--- `places::sets::without` meets its contract. A member t of a set below 2 ^ 64 is below 64, and its power is at most the set.
--- Assumes nothing.
 pub bit-requires : goal.bit-requires
 bit-requires c = member-lt c.args.t c.args.set 64 c.requires c.ranges.set.fits
 

@@ -1,13 +1,12 @@
 -- `places::state::codes_of` meets its contract.
 -- Assumes nothing.
-use mathlib.Core.Path.{◌≡◌, refl, sym, ap, ◌∙◌}
+use mathlib.Core.Path.{◌≡◌, sym, ap, ◌∙◌}
 use native.Mathlib.Omega.{arith}
-use Prim.Native.Nat.{ℕ, ◌≤◌, ◌-◌}
-use lib.ListN.{length, take, length-set, length-replicate}
+use Prim.Native.Nat.{ℕ, ◌-◌}
+use lib.ListN.{take, length-set}
 use lib.Seq.{take_all}
 use Rattle.places.specs.Places.{codes_of}
 use Rattle.places.proofs.StateLaws.{length-codes, code-at-place, take_more}
-use Rattle.std.proofs.Common.{rules}
 use Rattle.places.proofs.state.codes_of.Goals as goal
 
 pub loop-i-preserved : goal.loop-i-preserved

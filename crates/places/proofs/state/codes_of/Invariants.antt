@@ -1,12 +1,9 @@
 -- `places::state::codes_of` meets its contract.
 -- Assumes nothing.
-use mathlib.Core.Path.{◌≡◌, refl, sym, ap, ◌∙◌}
-use native.Mathlib.Omega.{arith}
-use Prim.Native.Nat.{ℕ, ◌≤◌, ◌-◌}
-use lib.ListN.{length, take, length-set, length-replicate}
-use lib.Seq.{take_all}
+use mathlib.Core.Path.{◌≡◌}
+use Prim.Native.Nat.{◌≤◌, ◌-◌}
+use lib.ListN.{length, take}
 use Rattle.places.specs.Places.{codes_of}
-use Rattle.places.proofs.StateLaws.{length-codes, code-at-place, take_more}
 use Rattle.places.proofs.state.codes_of.Given as goal
 
 abbrev pub invariant-loop-i : goal.invariant-loop-i

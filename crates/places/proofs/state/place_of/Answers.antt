@@ -1,8 +1,7 @@
 -- `places::state::place_of` meets its contract: the places behind those that are left are of others.
 -- Assumes nothing.
 use native.Mathlib.Omega.{arith}
-use Rattle.places.proofs.PlaceLaws.{Looking, looking-all, some_left, looking-on, place_found}
-use Rattle.std.proofs.Common.{rules}
+use Rattle.places.proofs.PlaceLaws.{looking-all, some_left, looking-on, place_found}
 use Rattle.places.proofs.state.place_of.Goals as goal
 
 pub loop-rest-init : goal.loop-rest-init

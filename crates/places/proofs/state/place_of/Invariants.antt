@@ -1,7 +1,6 @@
 -- `places::state::place_of` meets its contract: the places behind those that are left are of others.
 -- Assumes nothing.
-use native.Mathlib.Omega.{arith}
-use Rattle.places.proofs.PlaceLaws.{Looking, looking-all, some_left, looking-on, place_found}
+use Rattle.places.proofs.PlaceLaws.{Looking}
 use Rattle.places.proofs.state.place_of.Given as goal
 
 abbrev pub invariant-loop-rest : goal.invariant-loop-rest

@@ -1,22 +1,20 @@
 -- `pruning::effects::effect` meets its contract: if nothing is noted no read of the registers passed is touched, and if a register is one is spoilt.
 -- Assumes nothing.
 use mathlib.Core.Path.{◌≡◌, refl}
-use mathlib.Core.List.{List, [], ◌∷◌, ◌++◌}
+use mathlib.Core.List.{List}
 use mathlib.Core.Bool.{Bool, true, false}
-use Prim.Native.Nat.{ℕ, ◌+◌, ◌*◌, ◌%◌, ◌^◌, ◌<◌}
+use Prim.Native.Nat.{ℕ, ◌%◌}
 use native.Mathlib.Omega.{arith}
 use lib.Bits.{bit_and, bit_or, and_le_l}
 use lib.Dec.{eqb}
 use borrow.Author.Tests.{eqb-true, eqb-false}
 use lib.Pow.{pow_pos}
 use Rattle.lists.specs.Bits.{bit_at}
-use Rattle.places.specs.Tree.{legal_at}
 use Rattle.lists.proofs.BitLaws.{member-le, member-lt, member-off, no_member}
 use Rattle.places.proofs.SetLaws.{lowest-member, passed-one, member-passes}
 use Rattle.pruning.proofs.EffectLaws.{or-none, or-registers, all-members, effect-among}
-use Rattle.std.proofs.Common.{rules}
 use Rattle.pruning.proofs.effects.effect.Goals as goal
-use Rattle.pruning.proofs.effects.effect.Invariants.{Same, Never, Spoilt}
+use Rattle.pruning.proofs.effects.effect.Invariants.{Same, Spoilt}
 
 pub wide-left-requires : goal.wide-left-requires
 wide-left-requires c = tt
@@ -71,9 +69,11 @@ loop-left-preserved c =
       λ k h. at.invariant.1 k (member-off r k at.left is_in (rw c.without-left.ensures at h)),
       passed-one (λ (k : ℕ). bit_at k set ≡ 1 → bit_or at.done c.effect_at-done.result ≡ 0 → Same a.facts.now a.x a.t k)
           r at.left c.without-left.result is_in c.without-left.ensures
-          (λ h z. c.effect_at-done.ensures.untouched (or-none at.done c.effect_at-done.result z).1) (λ k out h z. at.invariant.2 k out h (or-none at.done c.effect_at-done.result z).0),
+          (λ h z. c.effect_at-done.ensures.untouched (or-none at.done c.effect_at-done.result z).1)
+              (λ k out h z. at.invariant.2 k out h (or-none at.done c.effect_at-done.result z).0),
       λ z. from_one a.facts.now a.x a.t set at.done c.effect_at-done.result z at.invariant.3
-          (λ f. record { register = r; low = member-lt r at.left 32 is_in at.invariant.0; is_in = at.invariant.1 r is_in; never = c.effect_at-done.ensures.spoilt f }),
+          (λ f. record { register = r; low = member-lt r at.left 32 is_in at.invariant.0; is_in = at.invariant.1 r is_in;
+              never = c.effect_at-done.ensures.spoilt f }),
     )
   where
     from_one : (F : List (List ℕ)) (x t set d e : ℕ) → (bit_or d e % 4294967296 ≡ 0 → ⊥) → ((d % 4294967296 ≡ 0 → ⊥) → Spoilt F x t set)

@@ -1,23 +1,14 @@
 -- `pruning::effects::effect` meets its contract: if nothing is noted no read of the registers passed is touched, and if a register is one is spoilt.
 -- Assumes nothing.
-use mathlib.Core.Path.{◌≡◌, refl}
+use mathlib.Core.Path.{◌≡◌}
 use mathlib.Core.List.{List, [], ◌∷◌, ◌++◌}
-use mathlib.Core.Bool.{Bool, true, false}
+use mathlib.Core.Bool.{true}
 use Prim.Native.Nat.{ℕ, ◌+◌, ◌*◌, ◌%◌, ◌^◌, ◌<◌}
-use native.Mathlib.Omega.{arith}
-use lib.Bits.{bit_and, bit_or, and_le_l}
-use lib.Dec.{eqb}
-use borrow.Author.Tests.{eqb-true, eqb-false}
-use lib.Pow.{pow_pos}
+use lib.Bits.{bit_and}
 use Rattle.lists.specs.Bits.{bit_at}
 use Rattle.places.specs.Tree.{legal_at}
-use Rattle.lists.proofs.BitLaws.{member-le, member-lt, member-off, no_member}
-use Rattle.places.proofs.SetLaws.{lowest-member, passed-one, member-passes}
-use Rattle.pruning.proofs.EffectLaws.{or-none, or-registers, all-members, effect-among}
 use Rattle.pruning.proofs.effects.effect.Given as goal
 
--- `pruning::effects::effect` meets its contract: if nothing is noted no read of the registers passed is touched, and if a register is one is spoilt.
--- Assumes nothing.
 -- the read of k was legal before, if it is
 abbrev pub Same : List (List ℕ) → ℕ → ℕ → ℕ → Type 0
 Same facts x t k =

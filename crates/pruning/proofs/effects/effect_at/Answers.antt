@@ -2,12 +2,9 @@
 -- Assumes nothing.
 use native.Mathlib.Omega.{arith}
 use lib.Pow.{pow_pos}
-use Rattle.pruning.proofs.EffectLaws.{writes_nothing, reads_nothing, helps, spoils}
-use Rattle.std.proofs.Common.{rules}
+use Rattle.pruning.proofs.EffectLaws.{writes_nothing, reads_nothing, spoils}
 use Rattle.pruning.proofs.effects.effect_at.Goals as goal
 
--- `pruning::effects::effect_at` meets its contract.
--- Assumes nothing.
 pub returns-then-w-eq0 : goal.returns-then-w-eq0
 returns-then-w-eq0 c = let a = c.args in writes_nothing a.facts.now a.x a.t a.register c.if-w-eq0.true
 

@@ -1,11 +1,9 @@
 -- `pruning::effects::effects_among` meets its contract: what the table says is right from the beginning, where it says nothing.
 -- Assumes nothing.
-use mathlib.Core.Path.{◌≡◌, ◌∙◌}
-use Prim.Native.Nat.{◌-◌, ◌/◌, ◌≤◌, ◌<◌}
+use mathlib.Core.Path.{◌∙◌}
 use native.Mathlib.Omega.{arith}
-use lib.ListN.{length, length-set}
+use lib.ListN.{length-set}
 use Rattle.places.specs.Tree.{legal_reads}
-use Rattle.pruning.specs.Runs.{Effects}
 use Rattle.pruning.proofs.EffectLaws.{nothing_known, known_on}
 use Rattle.std.proofs.Common.{rules}
 use Rattle.pruning.proofs.effects.effects_among.Goals as goal
@@ -21,5 +19,6 @@ loop-i-preserved c =
     let reads = c.reads_asked-registers.ensures in (
       omega arith,
       length-set at.effects at.i c.effect.result ∙ at.invariant.1,
-      known_on a.facts.now a.asked at.effects at.i c.effect.result at.invariant.1 (omega arith) at.invariant.2 (rw reads at c.effect.ensures),
+      known_on a.facts.now a.asked at.effects at.i c.effect.result at.invariant.1 (omega arith) at.invariant.2
+          (rw reads at c.effect.ensures),
     )

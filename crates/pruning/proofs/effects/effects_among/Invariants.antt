@@ -1,12 +1,9 @@
 -- `pruning::effects::effects_among` meets its contract: what the table says is right from the beginning, where it says nothing.
 -- Assumes nothing.
-use mathlib.Core.Path.{◌≡◌, ◌∙◌}
-use Prim.Native.Nat.{◌-◌, ◌/◌, ◌≤◌, ◌<◌}
-use native.Mathlib.Omega.{arith}
-use lib.ListN.{length, length-set}
-use Rattle.places.specs.Tree.{legal_reads}
+use mathlib.Core.Path.{◌≡◌}
+use Prim.Native.Nat.{◌-◌, ◌≤◌}
+use lib.ListN.{length}
 use Rattle.pruning.specs.Runs.{Effects}
-use Rattle.pruning.proofs.EffectLaws.{nothing_known, known_on}
 use Rattle.pruning.proofs.effects.effects_among.Given as goal
 
 abbrev pub invariant-loop-i : goal.invariant-loop-i

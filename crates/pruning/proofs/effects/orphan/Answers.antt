@@ -1,14 +1,8 @@
 -- `pruning::effects::orphan` meets its contract.
 -- Assumes nothing.
-use mathlib.Core.Path.{◌≡◌}
-use mathlib.Core.Bool.{false≢true}
-use Prim.Native.Nat.{ℕ, ◌^◌, ◌<◌}
 use native.Mathlib.Omega.{arith}
-use lib.Pow.{pow_pos}
-use Rattle.lists.specs.Bits.{bit_at}
-use Rattle.lists.proofs.BitLaws.{member-le, member-lt, member-off}
+use Rattle.lists.proofs.BitLaws.{member-lt, member-off}
 use Rattle.places.proofs.SetLaws.{lowest-member}
-use Rattle.std.proofs.Common.{rules}
 use Rattle.pruning.proofs.effects.orphan.Goals as goal
 
 pub orphan_at-requires : goal.orphan_at-requires
@@ -27,7 +21,8 @@ returns-then-orphan_at c =
     let at = c.loop-left in
     let r = c.lowest-r.result in
     let is_in = lowest-member r at.left (omega (arith, at.invariant.0)) c.loop-left-test.true c.lowest-r.ensures in
-    λ e. record { register = r; low = member-lt r at.left 32 is_in at.invariant.0; is_read = at.invariant.1 r is_in; lost = c.orphan_at.ensures c.if-orphan_at.true }
+    λ e. record { register = r; low = member-lt r at.left 32 is_in at.invariant.0; is_read = at.invariant.1 r is_in;
+        lost = c.orphan_at.ensures c.if-orphan_at.true }
 
 pub without-left-requires : goal.without-left-requires
 without-left-requires c =

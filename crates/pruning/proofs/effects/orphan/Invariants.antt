@@ -1,13 +1,8 @@
 -- `pruning::effects::orphan` meets its contract.
 -- Assumes nothing.
 use mathlib.Core.Path.{◌≡◌}
-use mathlib.Core.Bool.{false≢true}
 use Prim.Native.Nat.{ℕ, ◌^◌, ◌<◌}
-use native.Mathlib.Omega.{arith}
-use lib.Pow.{pow_pos}
 use Rattle.lists.specs.Bits.{bit_at}
-use Rattle.lists.proofs.BitLaws.{member-le, member-lt, member-off}
-use Rattle.places.proofs.SetLaws.{lowest-member}
 use Rattle.pruning.proofs.effects.orphan.Given as goal
 
 abbrev pub invariant-loop-left : goal.invariant-loop-left

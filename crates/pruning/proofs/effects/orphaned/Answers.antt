@@ -1,17 +1,12 @@
 -- `pruning::effects::orphaned` meets its contract.
 -- Assumes nothing.
 use mathlib.Core.Path.{◌≡◌}
-use mathlib.Core.Bool.{false≢true}
 use Prim.Native.Nat.{◌<◌}
 use native.Mathlib.Omega.{arith}
-use lib.Bits.{bit_and}
-use lib.Pow.{pow_pos}
 use Rattle.lists.specs.Bits.{bit_at}
 use Rattle.places.specs.Facts.{reads_of}
-use Rattle.places.specs.State.{Within}
-use Rattle.lists.proofs.BitLaws.{member-le, member-lt, and-member, member-and}
-use Rattle.places.proofs.SetLaws.{lowest-member, within-self, within-rest}
-use Rattle.std.proofs.Common.{rules}
+use Rattle.lists.proofs.BitLaws.{member-lt, and-member, member-and}
+use Rattle.places.proofs.SetLaws.{lowest-member, within-rest}
 use Rattle.pruning.proofs.effects.orphaned.Goals as goal
 use Rattle.pruning.proofs.effects.orphaned.Goals.{After-lowest-t}
 
@@ -46,7 +41,8 @@ returns-then-orphan c =
     λ e. record {
       t = t;
       needed = c.loop-left.invariant.is_in t (is_in (goal.at.returns-then-orphan c).After-lowest-t);
-      orphan = record { register = found.register; low = found.low; is_read = member-and found.register (reads_of a.facts.now t) a.asked read.0 known.0; lost = found.lost };
+      orphan = record { register = found.register; low = found.low; is_read = member-and found.register (reads_of a.facts.now t) a.asked
+          read.0 known.0; lost = found.lost };
     }
 
 pub without-left-requires : goal.without-left-requires
@@ -55,4 +51,5 @@ without-left-requires c = is_in (goal.at.without-left-requires c).After-lowest-t
 pub loop-left-preserved : goal.loop-left-preserved
 loop-left-preserved c =
     let at = c.loop-left in
-    within-rest c.args.need at.left c.lowest-t.result c.without-left.result at.invariant (is_in (goal.at.loop-left-preserved c).After-lowest-t) c.without-left.ensures
+    within-rest c.args.need at.left c.lowest-t.result c.without-left.result at.invariant
+        (is_in (goal.at.loop-left-preserved c).After-lowest-t) c.without-left.ensures

@@ -1,9 +1,7 @@
 -- `pruning::effects::registers_of` meets its contract.
 -- Assumes nothing.
 use native.Mathlib.Omega.{arith}
-use Prim.Native.Nat.{◌-◌, ◌≤◌}
-use Rattle.pruning.proofs.EffectLaws.{WritesBelow, writes-on}
-use Rattle.std.proofs.Common.{rules}
+use Rattle.pruning.proofs.EffectLaws.{writes-on}
 use Rattle.pruning.proofs.effects.registers_of.Goals as goal
 
 pub loop-r-preserved : goal.loop-r-preserved

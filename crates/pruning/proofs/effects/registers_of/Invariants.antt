@@ -1,8 +1,7 @@
 -- `pruning::effects::registers_of` meets its contract.
 -- Assumes nothing.
-use native.Mathlib.Omega.{arith}
 use Prim.Native.Nat.{◌-◌, ◌≤◌}
-use Rattle.pruning.proofs.EffectLaws.{WritesBelow, writes-on}
+use Rattle.pruning.proofs.EffectLaws.{WritesBelow}
 use Rattle.pruning.proofs.effects.registers_of.Given as goal
 
 abbrev pub invariant-loop-r : goal.invariant-loop-r

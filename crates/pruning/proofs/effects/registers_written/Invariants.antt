@@ -1,9 +1,7 @@
 -- `pruning::effects::registers_written` meets its contract.
 -- Assumes nothing.
-use mathlib.Core.Path.{◌≡◌}
 use Prim.Native.Nat.{◌-◌, ◌≤◌}
-use native.Mathlib.Omega.{arith}
-use Rattle.pruning.proofs.EffectLaws.{WrittenBelow, written_on}
+use Rattle.pruning.proofs.EffectLaws.{WrittenBelow}
 use Rattle.pruning.proofs.effects.registers_written.Given as goal
 
 abbrev pub invariant-loop-t : goal.invariant-loop-t

@@ -1,16 +1,12 @@
 -- `pruning::effects::sourced` meets its contract: those passed are no sources.
 -- Assumes nothing.
 use mathlib.Core.Path.{◌≡◌}
-use mathlib.Core.Bool.{true≢false}
 use Prim.Native.Nat.{ℕ}
 use native.Mathlib.Omega.{arith}
-use lib.Pow.{pow_pos}
 use Rattle.lists.specs.Bits.{bit_at}
-use Rattle.places.specs.State.{Within}
 use Rattle.pruning.specs.Runs.{NoSource}
-use Rattle.lists.proofs.BitLaws.{member-le, member-lt, no_member}
-use Rattle.places.proofs.SetLaws.{lowest-member, within-self, within-rest, passed-one}
-use Rattle.std.proofs.Common.{rules}
+use Rattle.lists.proofs.BitLaws.{member-lt, no_member}
+use Rattle.places.proofs.SetLaws.{lowest-member, within-rest, passed-one}
 use Rattle.pruning.proofs.effects.sourced.Goals as goal
 
 pub source-requires : goal.source-requires
@@ -37,7 +33,8 @@ loop-left-preserved c =
     let is_in = lowest-member w at.left (omega (arith, at.invariant.0.few)) c.loop-left-test.true c.lowest-w.ensures in
     let a = c.args in (
       within-rest a.set at.left w c.without-left.result at.invariant.0 is_in c.without-left.ensures,
-      passed-one (λ (k : ℕ). bit_at k a.set ≡ 1 → NoSource a.facts.now a.t a.register a.value k) w at.left c.without-left.result is_in c.without-left.ensures
+      passed-one (λ (k : ℕ). bit_at k a.set ≡ 1 → NoSource a.facts.now a.t a.register a.value k) w at.left c.without-left.result is_in
+          c.without-left.ensures
           (λ h. c.source.ensures c.if-source.false) at.invariant.1,
     )
 

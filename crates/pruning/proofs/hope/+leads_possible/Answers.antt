@@ -1,6 +1,5 @@
 -- The proof of the cycle of calls {leads, possible}. The measure: 2 for each unplaced transaction, and 1 before one is chosen.
 -- Assumes nothing.
-use borrow.Author.Tests.{not-true}
 use mathlib.Core.Path.{◌≡◌, refl, sym, subst, ◌∙◌}
 use native.Mathlib.Omega.{arith}
 use lib.Bits.{and_le_r}
@@ -8,7 +7,6 @@ use lib.Count.{ones}
 use lib.Pow.{pow_pos}
 use Rattle.lists.proofs.ListLaws.{clash}
 use Rattle.lists.specs.Bits.{bit_at}
-use Rattle.places.specs.State.{Within}
 use Rattle.places.specs.Tree.{asking}
 use Rattle.lists.proofs.BitLaws.{member-le, no_member}
 use Rattle.places.proofs.SetLaws.{lowest-member, within-rest, passed-one}
@@ -48,7 +46,8 @@ pub leads-returns-then-orphaned : goal.leads-returns-then-orphaned
 leads-returns-then-orphaned t c =
     let a = c.args in
     let D = asking a.starts.now a.facts.now a.asked in
-    λ u p l run. absurd (orphaned-run D c.place-next.result _ _ _ l (c.orphaned.ensures c.if-orphaned.true) (committed-next D a.s a.need u p l a.t c.place-next.result c.place-next.ensures run))
+    λ u p l run. absurd (orphaned-run D c.place-next.result _ _ _ l (c.orphaned.ensures c.if-orphaned.true)
+        (committed-next D a.s a.need u p l a.t c.place-next.result c.place-next.ensures run))
 
 pub leads-ready_after-after-requires : goal.leads-ready_after-after-requires
 leads-ready_after-after-requires t c =
@@ -107,7 +106,8 @@ possible-leads-requires t c =
     let at = c.loop-left in
     let t' = c.lowest-t.result in
     let is_in = asked t c in
-    (subst (λ (n : ℕ). ones c.args.s.unplaced * 2 < n) c.decreases (omega arith), (record { sound = c.requires.sound; is_in = at.invariant.0.is_in t' is_in }, (c.requires.ready, c.requires.effects)))
+    (subst (λ (n : ℕ). ones c.args.s.unplaced * 2 < n) c.decreases (omega arith),
+        (record { sound = c.requires.sound; is_in = at.invariant.0.is_in t' is_in }, (c.requires.ready, c.requires.effects)))
 
 pub possible-returns-then-leads : goal.possible-returns-then-leads
 possible-returns-then-leads t c = λ u p l a. refl

@@ -1,25 +1,17 @@
 -- The proof of the cycle of calls {leads, possible}. The measure: 2 for each unplaced transaction, and 1 before one is chosen.
 -- Assumes nothing.
-use borrow.Author.Tests.{not-true}
-use mathlib.Core.Path.{◌≡◌, refl, sym, subst, ◌∙◌}
-use native.Mathlib.Omega.{arith}
-use lib.Bits.{and_le_r}
+use mathlib.Core.Path.{◌≡◌}
 use lib.Count.{ones}
-use lib.Pow.{pow_pos}
-use Rattle.lists.proofs.ListLaws.{clash}
 use Rattle.lists.specs.Bits.{bit_at}
 use Rattle.places.specs.State.{Within}
 use Rattle.places.specs.Tree.{asking}
-use Rattle.lists.proofs.BitLaws.{member-le, no_member}
-use Rattle.places.proofs.SetLaws.{lowest-member, within-rest, passed-one}
-use Rattle.places.proofs.StateLaws.{room-lt, fewer}
-use Rattle.pruning.proofs.HopeLaws.{Missed, ready_on, next-ready, next-may, committed-next, awaited-less, no_run}
-use Rattle.pruning.proofs.OrphanLaws.{orphaned-run}
-use Prim.Native.Nat.{ℕ, ◌+◌, ◌*◌, ◌<◌}
+use Rattle.pruning.proofs.HopeLaws.{Missed}
+use Prim.Native.Nat.{ℕ, ◌+◌, ◌*◌}
 use Rattle.pruning.proofs.hope.+leads_possible.Given as goal
 
 abbrev pub invariant-possible-loop-left : goal.invariant-possible-loop-left
-invariant-possible-loop-left l = Within l.s.unplaced l.left × ((k : ℕ) → (bit_at k l.left ≡ 1 → ⊥) → Missed (asking l.starts l.facts l.asked) l.s l.rest k)
+invariant-possible-loop-left l = Within l.s.unplaced l.left
+    × ((k : ℕ) → (bit_at k l.left ≡ 1 → ⊥) → Missed (asking l.starts l.facts l.asked) l.s l.rest k)
 
 abbrev pub decreases-possible-loop-left : goal.decreases-possible-loop-left
 decreases-possible-loop-left l = l.left

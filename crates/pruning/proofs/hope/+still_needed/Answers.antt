@@ -2,16 +2,13 @@
 -- Assumes nothing.
 use mathlib.Core.Path.{◌≡◌, sym, subst, ◌∙◌}
 use mathlib.Core.Bool.{false}
-use mathlib.Core.List.{List}
 use Prim.Native.Nat.{ℕ, ◌<◌}
 use native.Mathlib.Omega.{arith}
 use lib.Pow.{pow_pos}
 use Rattle.lists.specs.Bits.{bit_at}
-use Rattle.places.specs.State.{Within}
 use Rattle.pruning.specs.Runs.{other_than}
 use Rattle.lists.proofs.BitLaws.{member-le, member-lt, no_member, member-and}
 use Rattle.places.proofs.SetLaws.{lowest-member, within-self, within-trans, within-rest, within-and-l, within-and-r, passed-one}
-use Rattle.std.proofs.Common.{rules}
 use Rattle.pruning.proofs.hope.+still_needed.Goals as goal
 use Rattle.pruning.proofs.hope.+still_needed.Goals.{After-lowest-t}
 use Rattle.pruning.proofs.hope.+still_needed.Invariants.{Stays}
@@ -61,7 +58,8 @@ returns-then-other_than t c =
     let is_in = asked t (goal.at.returns-then-other_than t c).After-lowest-t in
     let need = c.args.need in
     let one = within-rest need need t' c.without.result (within-self need) (at.invariant.0.is_in t' is_in) c.without.ensures in
-    record { within = within-trans need c.without.result c.still_needed.result one c.still_needed.ensures.within; stuck = c.still_needed.ensures.stuck }
+    record { within = within-trans need c.without.result c.still_needed.result one c.still_needed.ensures.within;
+        stuck = c.still_needed.ensures.stuck }
 
 pub without-left-requires : goal.without-left-requires
 without-left-requires t c =

@@ -1,16 +1,12 @@
 -- The proof of the cycle of calls {still_needed}. The measure is the set of what is needed: each call has one member less.
 -- Assumes nothing.
-use mathlib.Core.Path.{◌≡◌, sym, subst, ◌∙◌}
+use mathlib.Core.Path.{◌≡◌}
 use mathlib.Core.Bool.{false}
 use mathlib.Core.List.{List}
-use Prim.Native.Nat.{ℕ, ◌<◌}
-use native.Mathlib.Omega.{arith}
-use lib.Pow.{pow_pos}
+use Prim.Native.Nat.{ℕ}
 use Rattle.lists.specs.Bits.{bit_at}
 use Rattle.places.specs.State.{Within}
 use Rattle.pruning.specs.Runs.{other_than}
-use Rattle.lists.proofs.BitLaws.{member-le, member-lt, no_member, member-and}
-use Rattle.places.proofs.SetLaws.{lowest-member, within-self, within-trans, within-rest, within-and-l, within-and-r, passed-one}
 use Rattle.pruning.proofs.hope.+still_needed.Given as goal
 
 -- k may not be passed over
@@ -18,7 +14,8 @@ abbrev pub Stays : List (List ℕ) → ℕ → ℕ → ℕ → Type 0
 Stays facts need ready k = bit_at k need ≡ 1 → bit_at k ready ≡ 1 → other_than facts need k 1 ≡ false
 
 abbrev pub invariant-loop-left : goal.invariant-loop-left
-invariant-loop-left l = Within l.need l.left × Within l.ready l.left × ((k : ℕ) → (bit_at k l.left ≡ 1 → ⊥) → Stays l.facts l.need l.ready k)
+invariant-loop-left l = Within l.need l.left × Within l.ready l.left
+    × ((k : ℕ) → (bit_at k l.left ≡ 1 → ⊥) → Stays l.facts l.need l.ready k)
 
 abbrev pub decreases-loop-left : goal.decreases-loop-left
 decreases-loop-left l = l.left

@@ -1,16 +1,12 @@
 -- `pruning::hope::bereft` meets its contract.
 -- Assumes nothing.
 use mathlib.Core.Path.{sym, ◌∙◌}
-use mathlib.Core.Bool.{false≢true}
 use Prim.Native.Nat.{◌-◌, ◌/◌, ◌<◌}
 use native.Mathlib.Omega.{arith}
 use Rattle.places.proofs.StateLaws.{code-at-place}
-use Rattle.std.proofs.Common.{rules}
 use Rattle.pruning.proofs.hope.bereft.Goals as goal
 use Rattle.pruning.proofs.hope.bereft.Goals.{After-code_at-last}
 
--- `pruning::hope::bereft` meets its contract.
--- Assumes nothing.
 -- the last place is one of ten transactions
 last-low : (a : After-code_at-last) → a.code_at-last.result / 2 < 10
 last-low a =

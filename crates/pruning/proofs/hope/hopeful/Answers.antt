@@ -5,11 +5,10 @@ use mathlib.Core.Bool.{true≢false}
 use native.Mathlib.Omega.{arith}
 use lib.Bits.{bit_xor, and_le_l, xor_lt}
 use Rattle.places.specs.Facts.{end_row, after_of}
-use Rattle.places.specs.Tree.{Constraints, asking}
+use Rattle.places.specs.Tree.{asking}
 use Rattle.lists.proofs.BitLaws.{xor-member}
 use Rattle.pruning.proofs.HopeLaws.{needs-of, hopeless}
 use Rattle.pruning.proofs.OrphanLaws.{orphaned-none}
-use Rattle.std.proofs.Common.{rules}
 use Rattle.pruning.proofs.hope.hopeful.Goals as goal
 use Rattle.pruning.proofs.hope.hopeful.Goals.{After-ready_among-ready}
 
@@ -38,13 +37,17 @@ bereft-requires c =
 pub returns-then-bereft : goal.returns-then-bereft
 returns-then-bereft c =
     let a = c.args in
-    λ e. orphaned-none (let a = c.args in asking a.starts.now a.facts.now a.asked) a.s a.candidates _ c.requires.sound (all (goal.at.returns-then-bereft c).After-ready_among-ready)
-    (needs-of (let a = c.args in asking a.starts.now a.facts.now a.asked) a.s _ _ c.before_end-unready.ensures (λ k h. xor-member k a.s.unplaced c.ready_among-ready.result (c.ready_among-ready.ensures.within.is_in k) h))
+    λ e. orphaned-none (let a = c.args in asking a.starts.now a.facts.now a.asked) a.s a.candidates _ c.requires.sound
+        (all (goal.at.returns-then-bereft c).After-ready_among-ready)
+    (needs-of (let a = c.args in asking a.starts.now a.facts.now a.asked) a.s _ _ c.before_end-unready.ensures
+        (λ k h. xor-member k a.s.unplaced c.ready_among-ready.result (c.ready_among-ready.ensures.within.is_in k) h))
     (c.bereft.ensures c.if-bereft.true)
 
 pub returns : goal.returns
 returns c =
     let a = c.args in
-    hopeless (let a = c.args in asking a.starts.now a.facts.now a.asked) a.s a.candidates _ c.possible.result c.requires.sound (all (goal.at.returns c).After-ready_among-ready)
-    (needs-of (let a = c.args in asking a.starts.now a.facts.now a.asked) a.s a.candidates _ c.before_end-need.ensures (λ k h. rw (all (goal.at.returns c).After-ready_among-ready) at h))
+    hopeless (let a = c.args in asking a.starts.now a.facts.now a.asked) a.s a.candidates _ c.possible.result c.requires.sound
+        (all (goal.at.returns c).After-ready_among-ready)
+    (needs-of (let a = c.args in asking a.starts.now a.facts.now a.asked) a.s a.candidates _ c.before_end-need.ensures
+        (λ k h. rw (all (goal.at.returns c).After-ready_among-ready) at h))
     c.possible.ensures

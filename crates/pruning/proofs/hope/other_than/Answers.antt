@@ -8,21 +8,20 @@ use Rattle.places.specs.Facts.{after_of}
 use Rattle.places.specs.Tree.{none_in}
 use Rattle.pruning.specs.Runs.{other_than}
 use Rattle.places.proofs.MemberLaws.{none-in-members}
-use Rattle.std.proofs.Common.{rules}
 use Rattle.pruning.proofs.hope.other_than.Goals as goal
 
--- `pruning::hope::other_than` meets its contract.
--- Assumes nothing.
 pub returns-then-facts-t-ne0 : goal.returns-then-facts-t-ne0
 unfolding other_than
 returns-then-facts-t-ne0 c =
     let set = after_of c.args.facts.now c.args.t in
-    let some : none_in set (members c.args.need) ≡ false = none-in-members set c.args.need c.ranges.need.fits ∙ ne_eqb _ _ c.if-facts-t-ne0.true in
+    let some : none_in set (members c.args.need) ≡ false = none-in-members set c.args.need c.ranges.need.fits
+        ∙ ne_eqb _ _ c.if-facts-t-ne0.true in
     simp some
 
 pub returns : goal.returns
 unfolding other_than
 returns c =
     let set = after_of c.args.facts.now c.args.t in
-    let none : none_in set (members c.args.need) ≡ true = none-in-members set c.args.need c.ranges.need.fits ∙ eq-eqb _ _ c.if-facts-t-ne0.false in
+    let none : none_in set (members c.args.need) ≡ true = none-in-members set c.args.need c.ranges.need.fits
+        ∙ eq-eqb _ _ c.if-facts-t-ne0.false in
     simp none

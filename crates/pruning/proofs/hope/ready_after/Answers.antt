@@ -3,15 +3,13 @@
 use mathlib.Core.Path.{◌≡◌}
 use Prim.Native.Nat.{◌<◌}
 use native.Mathlib.Omega.{arith}
-use lib.Pow.{pow_pos}
 use Rattle.lists.specs.Bits.{bit_at}
-use Rattle.places.specs.State.{placed_of, Within, Keeps}
+use Rattle.places.specs.State.{placed_of}
 use Rattle.pruning.specs.Runs.{Renewed}
 use Rattle.places.specs.Tree.{asking, legal_reads}
-use Rattle.lists.proofs.BitLaws.{member-le, member-lt}
-use Rattle.places.proofs.SetLaws.{lowest-member, keeps-all, keeps_on}
+use Rattle.lists.proofs.BitLaws.{member-lt}
+use Rattle.places.proofs.SetLaws.{lowest-member, keeps_on}
 use Rattle.pruning.proofs.EffectLaws.{stays}
-use Rattle.std.proofs.Common.{rules}
 use Rattle.pruning.proofs.hope.ready_after.Goals as goal
 use Rattle.pruning.proofs.hope.ready_after.Goals.{After-lowest-t}
 
@@ -49,6 +47,7 @@ loop-left-preserved c =
     let a = c.args in
     let effect = c.requires.effects.at a.x t c.requires.x_bound (low (goal.at.loop-left-preserved c).After-lowest-t) in
     keeps_on (Renewed (legal_reads (asking a.starts.now a.facts.now a.asked)) (placed_of a.s) a.x a.ready) a.s.unplaced at.after at.left t
-    c.still_ready-passes.result c.kept-after.result c.without-left.result at.invariant.0 at.invariant.1 (is_in (goal.at.loop-left-preserved c).After-lowest-t)
+    c.still_ready-passes.result c.kept-after.result c.without-left.result at.invariant.0 at.invariant.1
+        (is_in (goal.at.loop-left-preserved c).After-lowest-t)
     (λ h. c.still_ready-passes.ensures (stays a.starts.now a.facts.now a.asked (placed_of a.s) a.x a.ready t _ effect h))
     c.kept-after.ensures c.without-left.ensures

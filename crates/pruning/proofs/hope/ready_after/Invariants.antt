@@ -1,20 +1,13 @@
 -- `pruning::hope::ready_after` meets its contract, as `ready_among` does.
 -- Assumes nothing.
-use mathlib.Core.Path.{◌≡◌}
-use Prim.Native.Nat.{◌<◌}
-use native.Mathlib.Omega.{arith}
-use lib.Pow.{pow_pos}
-use Rattle.lists.specs.Bits.{bit_at}
 use Rattle.places.specs.State.{placed_of, Within, Keeps}
 use Rattle.pruning.specs.Runs.{Renewed}
 use Rattle.places.specs.Tree.{asking, legal_reads}
-use Rattle.lists.proofs.BitLaws.{member-le, member-lt}
-use Rattle.places.proofs.SetLaws.{lowest-member, keeps-all, keeps_on}
-use Rattle.pruning.proofs.EffectLaws.{stays}
 use Rattle.pruning.proofs.hope.ready_after.Given as goal
 
 abbrev pub invariant-loop-left : goal.invariant-loop-left
-invariant-loop-left l = Keeps (Renewed (legal_reads (asking l.starts l.facts l.asked)) (placed_of l.s) l.x l.ready) l.s.unplaced l.after × Within l.after l.left
+invariant-loop-left l = Keeps (Renewed (legal_reads (asking l.starts l.facts l.asked)) (placed_of l.s) l.x l.ready) l.s.unplaced l.after
+    × Within l.after l.left
 
 abbrev pub decreases-loop-left : goal.decreases-loop-left
 decreases-loop-left l = l.left

@@ -4,14 +4,11 @@ use mathlib.Core.Path.{◌≡◌, ◌∙◌}
 use mathlib.Core.Bool.{true}
 use Prim.Native.Nat.{ℕ, ◌<◌}
 use native.Mathlib.Omega.{arith}
-use lib.Pow.{pow_pos}
 use Rattle.lists.specs.Bits.{bit_at}
-use Rattle.places.specs.State.{placed_of, Within}
+use Rattle.places.specs.State.{placed_of}
 use Rattle.places.specs.Tree.{asking, legal_reads}
-use Rattle.pruning.specs.Runs.{Ready}
-use Rattle.lists.proofs.BitLaws.{member-le, member-lt}
-use Rattle.places.proofs.SetLaws.{lowest-member, keeps-all, keeps_on}
-use Rattle.std.proofs.Common.{rules}
+use Rattle.lists.proofs.BitLaws.{member-lt}
+use Rattle.places.proofs.SetLaws.{lowest-member, keeps_on}
 use Rattle.pruning.proofs.hope.ready_among.Goals as goal
 use Rattle.pruning.proofs.hope.ready_among.Goals.{After-lowest-t}
 
@@ -43,6 +40,8 @@ pub loop-left-preserved : goal.loop-left-preserved
 loop-left-preserved c =
     let at = c.loop-left in
     let a = c.args in
-    keeps_on (λ (k : ℕ). legal_reads (asking a.starts.now a.facts.now a.asked) (placed_of a.s) k ≡ true) a.s.unplaced at.ready at.left c.lowest-t.result
-    c.legal_reads.result c.kept-ready.result c.without-left.result at.invariant.0 at.invariant.1 (is_in (goal.at.loop-left-preserved c).After-lowest-t)
+    keeps_on (λ (k : ℕ). legal_reads (asking a.starts.now a.facts.now a.asked) (placed_of a.s) k ≡ true) a.s.unplaced at.ready at.left
+        c.lowest-t.result
+    c.legal_reads.result c.kept-ready.result c.without-left.result at.invariant.0 at.invariant.1
+        (is_in (goal.at.loop-left-preserved c).After-lowest-t)
     (λ h. c.legal_reads.ensures ∙ h) c.kept-ready.ensures c.without-left.ensures

@@ -1,12 +1,7 @@
 -- `pruning::unwritten::registers_asked` meets its contract: of those passed, reads of registers that nobody writes are right before any writer.
 -- Assumes nothing.
-use borrow.Author.Count.{below_more}
-use borrow.Author.Tests.{not-false}
-use mathlib.Core.Path.{◌≡◌, refl, sym, ◌∙◌}
 use Prim.Native.Nat.{ℕ, ◌-◌, ◌≤◌, ◌<◌}
-use native.Mathlib.Omega.{arith}
-use Rattle.places.specs.Places.{codes_of}
-use Rattle.pruning.proofs.UnwrittenLaws.{SameReads, no_other, asked-same}
+use Rattle.pruning.proofs.UnwrittenLaws.{SameReads}
 use Rattle.pruning.proofs.unwritten.registers_asked.Given as goal
 
 abbrev pub invariant-loop-t : goal.invariant-loop-t

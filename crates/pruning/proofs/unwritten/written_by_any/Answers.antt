@@ -3,7 +3,7 @@
 use borrow.Author.Tests.{eqb-true, eqb-false}
 use mathlib.Core.Path.{◌≡◌, refl}
 use mathlib.Core.Bool.{Bool, true, false}
-use Prim.Native.Nat.{ℕ, ◌+◌, ◌-◌, ◌≤◌, ◌<◌}
+use Prim.Native.Nat.{ℕ, ◌+◌}
 use native.Mathlib.Omega.{arith}
 use mathlib.Core.List.{List}
 use lib.ListN.{get_or}
@@ -11,7 +11,6 @@ use lib.Bits.{bit_or}
 use lib.Dec.{eqb}
 use Rattle.lists.specs.Bits.{bit_at}
 use Rattle.lists.proofs.BitLaws.{member-or-l, member-or-r}
-use Rattle.std.proofs.Common.{rules}
 use Rattle.pruning.proofs.unwritten.written_by_any.Goals as goal
 use Rattle.pruning.proofs.unwritten.written_by_any.Invariants.{Has}
 

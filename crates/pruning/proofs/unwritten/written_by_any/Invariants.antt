@@ -1,20 +1,12 @@
 -- `pruning::unwritten::written_by_any` meets its contract.
 -- Assumes nothing.
-use borrow.Author.Tests.{eqb-true, eqb-false}
-use mathlib.Core.Path.{◌≡◌, refl}
-use mathlib.Core.Bool.{Bool, true, false}
-use Prim.Native.Nat.{ℕ, ◌+◌, ◌-◌, ◌≤◌, ◌<◌}
-use native.Mathlib.Omega.{arith}
+use mathlib.Core.Path.{◌≡◌}
+use Prim.Native.Nat.{ℕ, ◌-◌, ◌≤◌, ◌<◌}
 use mathlib.Core.List.{List}
 use lib.ListN.{get_or}
-use lib.Bits.{bit_or}
-use lib.Dec.{eqb}
 use Rattle.lists.specs.Bits.{bit_at}
-use Rattle.lists.proofs.BitLaws.{member-or-l, member-or-r}
 use Rattle.pruning.proofs.unwritten.written_by_any.Given as goal
 
--- `pruning::unwritten::written_by_any` meets its contract.
--- Assumes nothing.
 -- any has what those below t write
 abbrev pub Has : List ℕ → ℕ → ℕ → Type 0
 Has writes any t = (k r : ℕ) → k < t → bit_at r (get_or writes k 0) ≡ 1 → bit_at r any ≡ 1

@@ -1,17 +1,15 @@
 -- `first_not_own` meets its contract: the rule holds at the events before i.
 -- Assumes nothing.
-use Prim.Native.Nat.{ℕ, ◌-◌, ◌<◌}
+use Prim.Native.Nat.{ℕ, ◌<◌}
 use mathlib.Core.Path.{sym, ◌∙◌}
 use mathlib.Core.Bool.{Bool}
 use native.Mathlib.Omega.{arith}
-use borrow.Author.Tests.{not-true, not-false}
 use lib.ListN.{length}
 use Rattle.event_log.specs.Rows.{logged}
 use Rattle.event_log.proofs.RowLaws.{logged-length}
 use Rattle.opacity.specs.Transactions.{own_right}
-use Rattle.links.proofs.LogLaws.{in-history, log-most}
-use Rattle.rules.proofs.Numbers.{Passing, passing-first, passing-more, fails-here, none-fails}
-use Rattle.std.proofs.Common.{rules}
+use Rattle.links.proofs.LogLaws.{in-history}
+use Rattle.rules.proofs.Numbers.{passing-more, fails-here, none-fails}
 use Rattle.rules.proofs.judge.first_not_own.Goals as goal
 use Rattle.rules.proofs.judge.first_not_own.Goals.{In-loop-i, Start}
 
@@ -24,11 +22,13 @@ inside t = in-history t.args.log.now t.loop-i-test.true
 
 pub returns-then-not-own_right : goal.returns-then-not-own_right
 returns-then-not-own_right c =
-    fails-here (holds (goal.at.returns-then-not-own_right c).Start) c.loop-i.invariant (inside (goal.at.returns-then-not-own_right c).In-loop-i) c.own_right.ensures (c.if-not-own_right.true)
+    fails-here (holds (goal.at.returns-then-not-own_right c).Start) c.loop-i.invariant
+        (inside (goal.at.returns-then-not-own_right c).In-loop-i) c.own_right.ensures (c.if-not-own_right.true)
 
 pub loop-i-preserved : goal.loop-i-preserved
 loop-i-preserved c =
-    passing-more (holds (goal.at.loop-i-preserved c).Start) c.loop-i.invariant (inside (goal.at.loop-i-preserved c).In-loop-i) c.own_right.ensures (c.if-not-own_right.false)
+    passing-more (holds (goal.at.loop-i-preserved c).Start) c.loop-i.invariant (inside (goal.at.loop-i-preserved c).In-loop-i)
+        c.own_right.ensures (c.if-not-own_right.false)
 
 pub returns : goal.returns
 returns c =

@@ -1,16 +1,10 @@
 -- `first_not_own` meets its contract: the rule holds at the events before i.
 -- Assumes nothing.
-use Prim.Native.Nat.{ℕ, ◌-◌, ◌<◌}
-use mathlib.Core.Path.{sym, ◌∙◌}
-use mathlib.Core.Bool.{Bool}
-use native.Mathlib.Omega.{arith}
-use borrow.Author.Tests.{not-true, not-false}
+use Prim.Native.Nat.{◌-◌}
 use lib.ListN.{length}
 use Rattle.event_log.specs.Rows.{logged}
-use Rattle.event_log.proofs.RowLaws.{logged-length}
 use Rattle.opacity.specs.Transactions.{own_right}
-use Rattle.links.proofs.LogLaws.{in-history, log-most}
-use Rattle.rules.proofs.Numbers.{Passing, passing-first, passing-more, fails-here, none-fails}
+use Rattle.rules.proofs.Numbers.{Passing}
 use Rattle.rules.proofs.judge.first_not_own.Given as goal
 
 abbrev pub invariant-loop-i : goal.invariant-loop-i

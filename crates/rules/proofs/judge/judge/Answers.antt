@@ -1,13 +1,11 @@
 -- `judge` meets its contract: A and B, and then the rules of reads, by the tables.
 -- Assumes nothing.
 use mathlib.Core.Path.{ap, ◌∙◌}
-use native.Mathlib.Omega.{arith}
 use Rattle.event_log.specs.Rows.{logged}
 use Rattle.event_log.specs.Starts.{start_of}
 use Rattle.opacity.specs.declared.verdict.Verdict.{Verdict}
 use Rattle.rules.specs.Judge.{and_then, reads_verdict}
-use Rattle.rules.proofs.JudgeLaws.{few-begun, all_apart, all-pointable, verdict-parts}
-use Rattle.std.proofs.Common.{rules}
+use Rattle.rules.proofs.JudgeLaws.{all_apart, all-pointable, verdict-parts}
 use Rattle.rules.proofs.judge.judge.Goals as goal
 
 pub places_of-place-requires : goal.places_of-place-requires
@@ -21,7 +19,8 @@ judge_after-requires c =
     let t = c.tables_of-tables.ensures in
     record {
       own_writes = c.requires.own_writes;
-      pointable = all-pointable c.requires.judgeable c.transactions_begun-begun.ensures c.places_of-place.ensures t.writes t.sets c.writers_of-writers.ensures;
+      pointable = all-pointable c.requires.judgeable c.transactions_begun-begun.ensures c.places_of-place.ensures t.writes t.sets
+          c.writers_of-writers.ensures;
     }
 
 pub returns : goal.returns
@@ -30,5 +29,6 @@ returns c =
     c.judge_after.ensures
     ∙ (ap (λ (v : Verdict). and_then v (reads_verdict (start_of a.starts.now) (logged a.log.now) a.link.now
     c.writers_of-writers.result c.places_of-place.result a.gaps.now)) c.judge_places-placed.ensures
-    ∙ verdict-parts c.requires.judgeable c.transactions_begun-begun.ensures c.places_of-place.ensures (start_of a.starts.now) c.tables_of-tables.ensures
+    ∙ verdict-parts c.requires.judgeable c.transactions_begun-begun.ensures c.places_of-place.ensures (start_of a.starts.now)
+        c.tables_of-tables.ensures
     c.writers_of-writers.ensures)

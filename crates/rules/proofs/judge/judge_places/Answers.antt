@@ -1,16 +1,15 @@
 -- `judge_places` meets its contract: each rule in turn, with what the search for its first breach said.
 -- Assumes nothing.
 use mathlib.Core.Path.{sym, ◌∙◌}
-use native.Mathlib.Omega.{arith}
 use Rattle.event_log.specs.Rows.{logged}
 use Rattle.rules.proofs.JudgeLaws.{breaks-a, breaks-b, breaks-neither}
-use Rattle.std.proofs.Common.{rules}
 use Rattle.rules.proofs.judge.judge_places.Goals as goal
 
 pub returns-then-t-begun : goal.returns-then-t-begun
 returns-then-t-begun c =
     c.broken_by.ensures
-    ∙ sym (breaks-a (logged c.args.log.now) c.args.tables c.args.place.now c.args.outcomes.now c.args.begun c.rule_a-t.ensures c.if-t-begun.true)
+    ∙ sym (breaks-a (logged c.args.log.now) c.args.tables c.args.place.now c.args.outcomes.now c.args.begun c.rule_a-t.ensures
+        c.if-t-begun.true)
 
 pub returns-then-u-begun : goal.returns-then-u-begun
 returns-then-u-begun c =

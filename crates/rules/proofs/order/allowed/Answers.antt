@@ -2,11 +2,8 @@
 -- Assumes nothing.
 use borrow.Author.Tests.{eq-eqb, ne_eqb}
 use Rattle.rules.specs.Orders.{allows_by}
-use Rattle.std.proofs.Common.{rules}
 use Rattle.rules.proofs.order.allowed.Goals as goal
 
--- `rules::order::allowed` meets its contract.
--- Assumes nothing.
 pub returns-then-rank-eq3 : goal.returns-then-rank-eq3
 unfolding allows_by
 returns-then-rank-eq3 c = rw (eq-eqb _ _ c.if-rank-eq3.true)

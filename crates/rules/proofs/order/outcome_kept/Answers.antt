@@ -1,9 +1,7 @@
 -- `rules::order::outcome_kept` meets its contract.
 -- Assumes nothing.
 use mathlib.Core.Path.{◌∙◌}
-use native.Mathlib.Omega.{arith}
 use Rattle.rules.specs.Orders.{outcome_by}
-use Rattle.std.proofs.Common.{rules}
 use Rattle.rules.proofs.order.outcome_kept.Goals as goal
 
 pub returns : goal.returns

@@ -4,11 +4,8 @@ use borrow.Author.Tests.{eq-eqb, ne_eqb, lt-ltb, le-ltb}
 use Rattle.lists.specs.Lists.{◌implies◌}
 use Rattle.links.specs.Tables.{earlier}
 use Rattle.rules.specs.Orders.{pair_by}
-use Rattle.std.proofs.Common.{rules}
 use Rattle.rules.proofs.order.pair_kept.Goals as goal
 
--- `rules::order::pair_kept` meets its contract.
--- Assumes nothing.
 pub returns-then-ended-t-eq0 : goal.returns-then-ended-t-eq0
 unfolding pair_by earlier ◌implies◌
 returns-then-ended-t-eq0 c = rw (eq-eqb _ _ c.if-ended-t-eq0.true)

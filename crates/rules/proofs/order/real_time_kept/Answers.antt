@@ -1,12 +1,9 @@
 -- `real_time_kept` meets its contract: the transactions below t are placed before u, if they ended before it began.
 -- Assumes nothing.
-use Prim.Native.Nat.{ℕ, ◌-◌}
+use Prim.Native.Nat.{ℕ}
 use mathlib.Core.Bool.{Bool}
-use native.Mathlib.Omega.{arith}
-use borrow.Author.Tests.{not-true, not-false}
 use Rattle.rules.specs.Orders.{pair_by, real_time_by}
-use Rattle.rules.proofs.Numbers.{Passing, passing-first, passing-more, not-every, every_one}
-use Rattle.std.proofs.Common.{rules}
+use Rattle.rules.proofs.Numbers.{not-every, every_one}
 use Rattle.rules.proofs.order.real_time_kept.Goals as goal
 use Rattle.rules.proofs.order.real_time_kept.Goals.{Start}
 
@@ -17,7 +14,8 @@ holds s = pair_by s.args.ended.now s.args.began.now s.args.place.now s.args.u
 pub returns-then-not-pair_kept : goal.returns-then-not-pair_kept
 unfolding real_time_by
 returns-then-not-pair_kept c =
-    not-every (holds (goal.at.returns-then-not-pair_kept c).Start) c.loop-t.invariant c.loop-t-test.true c.pair_kept.ensures (c.if-not-pair_kept.true)
+    not-every (holds (goal.at.returns-then-not-pair_kept c).Start) c.loop-t.invariant c.loop-t-test.true c.pair_kept.ensures
+        (c.if-not-pair_kept.true)
 
 pub returns : goal.returns
 unfolding real_time_by

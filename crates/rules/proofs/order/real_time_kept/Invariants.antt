@@ -1,11 +1,8 @@
 -- `real_time_kept` meets its contract: the transactions below t are placed before u, if they ended before it began.
 -- Assumes nothing.
-use Prim.Native.Nat.{ℕ, ◌-◌}
-use mathlib.Core.Bool.{Bool}
-use native.Mathlib.Omega.{arith}
-use borrow.Author.Tests.{not-true, not-false}
-use Rattle.rules.specs.Orders.{pair_by, real_time_by}
-use Rattle.rules.proofs.Numbers.{Passing, passing-first, passing-more, not-every, every_one}
+use Prim.Native.Nat.{◌-◌}
+use Rattle.rules.specs.Orders.{pair_by}
+use Rattle.rules.proofs.Numbers.{Passing}
 use Rattle.rules.proofs.order.real_time_kept.Given as goal
 
 abbrev pub invariant-loop-t : goal.invariant-loop-t

@@ -1,11 +1,8 @@
 -- `rule_a` meets its contract: the outcomes of the transactions below t are allowed.
 -- Assumes nothing.
-use Prim.Native.Nat.{ℕ, ◌-◌}
-use mathlib.Core.Bool.{Bool}
-use native.Mathlib.Omega.{arith}
-use borrow.Author.Tests.{not-true, not-false}
+use Prim.Native.Nat.{◌-◌}
 use Rattle.rules.specs.Orders.{outcome_by}
-use Rattle.rules.proofs.Numbers.{Passing, passing-first, passing-more, fails-here, none-fails}
+use Rattle.rules.proofs.Numbers.{Passing}
 use Rattle.rules.proofs.order.rule_a.Given as goal
 
 abbrev pub invariant-loop-t : goal.invariant-loop-t

@@ -1,11 +1,8 @@
 -- `rule_b` meets its contract: real time is kept at the transactions below u.
 -- Assumes nothing.
-use Prim.Native.Nat.{ℕ, ◌-◌}
-use mathlib.Core.Bool.{Bool}
-use native.Mathlib.Omega.{arith}
-use borrow.Author.Tests.{not-true, not-false}
+use Prim.Native.Nat.{◌-◌}
 use Rattle.rules.specs.Orders.{real_time_by}
-use Rattle.rules.proofs.Numbers.{Passing, passing-first, passing-more, fails-here, none-fails}
+use Rattle.rules.proofs.Numbers.{Passing}
 use Rattle.rules.proofs.order.rule_b.Given as goal
 
 abbrev pub invariant-loop-u : goal.invariant-loop-u

@@ -1,10 +1,7 @@
 -- `rules::places::places_of` meets its contract.
 -- Assumes nothing.
-use Prim.Native.Nat.{ℕ, ◌-◌, ◌≤◌, ◌<◌}
-use mathlib.Core.Path.{◌≡◌, refl, subst}
-use native.Mathlib.Omega.{arith}
+use Prim.Native.Nat.{◌-◌, ◌≤◌}
 use Rattle.rules.specs.Orders.{Inverse}
-use Rattle.rules.proofs.OrderLaws.{inverse-start, inverse-more}
 use Rattle.rules.proofs.places.places_of.Given as goal
 
 abbrev pub invariant-loop-k : goal.invariant-loop-k

@@ -1,10 +1,7 @@
 -- `writers_of` meets its contract: after k places the rows are those of the first k.
 -- Assumes nothing.
-use Prim.Native.Nat.{ℕ, ◌-◌, ◌≤◌, ◌<◌}
-use mathlib.Core.Path.{◌≡◌, subst}
-use native.Mathlib.Omega.{arith}
+use Prim.Native.Nat.{◌-◌, ◌≤◌}
 use Rattle.rules.specs.Orders.{Writers}
-use Rattle.lists.proofs.FilledLaws.{filled_none, filled_more}
 use Rattle.rules.proofs.places.writers_of.Given as goal
 
 abbrev pub invariant-loop-k : goal.invariant-loop-k

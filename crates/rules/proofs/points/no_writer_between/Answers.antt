@@ -6,11 +6,8 @@ use Rattle.event_log.specs.Rows.{logged}
 use Rattle.links.specs.Writes.{plus_one}
 use Rattle.links.proofs.WriteLaws.{none-zero}
 use Rattle.rules.specs.Walks.{last_in, no_writer}
-use Rattle.std.proofs.Common.{rules}
 use Rattle.rules.proofs.points.no_writer_between.Goals as goal
 
--- `no_writer_between` meets its contract: nothing is found between the two places.
--- Assumes nothing.
 pub returns : goal.returns
 unfolding no_writer
 returns c =

@@ -8,11 +8,8 @@ use Rattle.event_log.specs.Rows.{logged}
 use Rattle.event_log.specs.Starts.{start_of}
 use Rattle.links.proofs.WriteLaws.{value_none, value-some}
 use Rattle.rules.specs.Walks.{last_in, right_value}
-use Rattle.std.proofs.Common.{rules}
 use Rattle.rules.proofs.points.value_at_gap.Goals as goal
 
--- `value_at_gap` meets its contract: the start value where nothing is found, or else what is found.
--- Assumes nothing.
 pub returns-then-w-eq0 : goal.returns-then-w-eq0
 unfolding right_value start_of
 returns-then-w-eq0 c =

@@ -2,14 +2,11 @@
 -- Assumes nothing.
 use Prim.Native.Nat.{◌-◌, ◌<◌}
 use native.Mathlib.Omega.{arith}
-use mathlib.Core.Path.{refl}
 use lib.ListN.{length}
 use Rattle.event_log.specs.Rows.{logged}
-use Rattle.event_log.proofs.RowLaws.{logged-length}
-use Rattle.links.proofs.LogLaws.{in-log, log-most}
+use Rattle.links.proofs.LogLaws.{in-log}
 use Rattle.links.proofs.WriteLaws.{links-back}
-use Rattle.rules.proofs.WalkLaws.{Walking, Inside, walk_ends, walk-enters, walk-leaves, walk-finds, walk-follows}
-use Rattle.std.proofs.Common.{rules}
+use Rattle.rules.proofs.WalkLaws.{walk_ends, walk-leaves, walk-finds, walk-follows}
 use Rattle.rules.proofs.walk.last_writer.Goals as goal
 use Rattle.rules.proofs.walk.last_writer.Goals.{In-loop-j}
 

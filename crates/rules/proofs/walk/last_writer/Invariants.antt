@@ -1,14 +1,7 @@
 -- `last_writer` meets its contract: what is found from the place and the write reached is what is found from the start.
 -- Assumes nothing.
-use Prim.Native.Nat.{◌-◌, ◌<◌}
-use native.Mathlib.Omega.{arith}
-use mathlib.Core.Path.{refl}
-use lib.ListN.{length}
 use Rattle.event_log.specs.Rows.{logged}
-use Rattle.event_log.proofs.RowLaws.{logged-length}
-use Rattle.links.proofs.LogLaws.{in-log, log-most}
-use Rattle.links.proofs.WriteLaws.{links-back}
-use Rattle.rules.proofs.WalkLaws.{Walking, Inside, walk_ends, walk-enters, walk-leaves, walk-finds, walk-follows}
+use Rattle.rules.proofs.WalkLaws.{Walking, Inside}
 use Rattle.rules.proofs.walk.last_writer.Given as goal
 
 abbrev pub invariant-loop-j : goal.invariant-loop-j

@@ -1,13 +1,8 @@
 -- `list_moved` meets its contract: the moved events below i are listed.
 -- Assumes nothing.
 use Prim.Native.Nat.{◌-◌, ◌≤◌}
-use mathlib.Core.Path.{◌≡◌, ◌∙◌}
-use mathlib.Core.Bool.{Bool}
-use mathlib.Core.List.{List}
-use native.Mathlib.Omega.{arith}
-use Rattle.marking_writer.proofs.RunLaws.{placed_first, Put, put-none, put-room, put-more}
+use Rattle.marking_writer.proofs.RunLaws.{Put}
 use Rattle.straighten.specs.Tables.{listed}
-use Rattle.straighten.proofs.TableLaws.{moved_here, listed-none, listed_more}
 use Rattle.straighten.proofs.list.list_moved.Given as goal
 
 abbrev pub invariant-loop-i : goal.invariant-loop-i

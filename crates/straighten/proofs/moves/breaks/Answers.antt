@@ -1,12 +1,8 @@
 -- `breaks` meets its contract: by the two rules, one after the other.
 -- Assumes nothing.
-use Rattle.lists.proofs.ListLaws.{not-true, not-false}
 use Rattle.straighten.proofs.TableLaws.{first-fails, second-tells}
-use Rattle.std.proofs.Common.{rules}
 use Rattle.straighten.proofs.moves.breaks.Goals as goal
 
--- `breaks` meets its contract: by the two rules, one after the other.
--- Assumes nothing.
 pub returns-then-not-holds_at : goal.returns-then-not-holds_at
 returns-then-not-holds_at c = first-fails _ _ _ c.holds_at.ensures (c.if-not-holds_at.true)
 

@@ -1,22 +1,19 @@
 -- `moves_of` meets its contract: the first i events are told.
 -- Assumes nothing.
-use Prim.Native.Nat.{ℕ, ◌-◌, ◌≤◌, ◌<◌}
-use mathlib.Core.Path.{◌≡◌, refl, subst, ◌∙◌}
+use Prim.Native.Nat.{ℕ}
+use mathlib.Core.Path.{◌≡◌, subst}
 use native.Mathlib.Omega.{arith}
-use lib.ListN.{length, length-set}
+use lib.ListN.{length}
 use Rattle.lists.specs.Filled.{Front}
-use Rattle.lists.proofs.FilledLaws.{front-none, front-more}
 use Rattle.event_log.specs.Rows.{logged}
 use Rattle.event_log.proofs.RowLaws.{logged-length}
-use Rattle.links.proofs.LogLaws.{log-most}
 use mathlib.Core.Bool.{Bool, false}
 use Rattle.event_log.specs.Starts.{start_of}
 use Rattle.opacity.specs.declared.verdict.Rule.{Rule}
 use Rattle.rules.specs.Walks.{point_rule}
 use Rattle.straighten.specs.Tables.{breaks_by}
-use Rattle.std.proofs.Common.{rules}
 use Rattle.straighten.proofs.moves.moves_of.Goals as goal
-use Rattle.straighten.proofs.moves.moves_of.Goals.{In-loop-i, Start}
+use Rattle.straighten.proofs.moves.moves_of.Goals.{Start}
 
 -- the rules of points, by what the function is given
 abbrev holds : (s : Start) → Rule → ℕ → Bool

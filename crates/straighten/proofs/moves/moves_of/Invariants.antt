@@ -1,17 +1,12 @@
 -- `moves_of` meets its contract: the first i events are told.
 -- Assumes nothing.
-use Prim.Native.Nat.{ℕ, ◌-◌, ◌≤◌, ◌<◌}
-use mathlib.Core.Path.{◌≡◌, refl, subst, ◌∙◌}
-use native.Mathlib.Omega.{arith}
-use lib.ListN.{length, length-set}
+use Prim.Native.Nat.{◌-◌, ◌≤◌}
+use mathlib.Core.Path.{◌≡◌}
+use lib.ListN.{length}
 use Rattle.lists.specs.Filled.{Front}
-use Rattle.lists.proofs.FilledLaws.{front-none, front-more}
 use Rattle.event_log.specs.Rows.{logged}
-use Rattle.event_log.proofs.RowLaws.{logged-length}
-use Rattle.links.proofs.LogLaws.{log-most}
-use mathlib.Core.Bool.{Bool, false}
+use mathlib.Core.Bool.{false}
 use Rattle.event_log.specs.Starts.{start_of}
-use Rattle.opacity.specs.declared.verdict.Rule.{Rule}
 use Rattle.rules.specs.Walks.{point_rule}
 use Rattle.straighten.specs.Tables.{breaks_by}
 use Rattle.straighten.proofs.moves.moves_of.Given as goal

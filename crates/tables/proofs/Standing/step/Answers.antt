@@ -1,9 +1,7 @@
 -- `tables::Standing::step` meets its contract: a quiet event leaves the tables. Assumes nothing.
 use mathlib.Core.Path.{sym, ◌∙◌}
 use Rattle.tables.proofs.TableLaws.{quiet-stays}
-use Rattle.std.proofs.Common.{rules}
 use Rattle.tables.proofs.Standing.step.Goals as goal
 
--- `tables::Standing::step` meets its contract: a quiet event leaves the tables. Assumes nothing.
 pub returns-then-is_quiet : goal.returns-then-is_quiet
 returns-then-is_quiet c = sym (quiet-stays _ c.args.e (sym c.is_quiet.ensures ∙ c.if-is_quiet.true))

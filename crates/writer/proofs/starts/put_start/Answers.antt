@@ -2,14 +2,12 @@
 use Rattle.records.specs.Bytes.{u16_bytes, u32_bytes, placed}
 use Rattle.records.proofs.BufferLaws.{placed-more}
 use Rattle.writer.specs.Writing.{start_record}
-use Rattle.writer.proofs.FileLaws.{placed-none}
-use Rattle.writer.proofs.StartLaws.{no_record, whole-record}
+use Rattle.writer.proofs.StartLaws.{whole-record}
 use mathlib.Core.Path.{◌≡◌, refl, sym, ap, ◌∙◌}
 use Prim.Native.Nat.{ℕ, ◌+◌, ◌≤◌}
 use native.Mathlib.Omega.{arith}
 use lib.ListN.{length}
 use mathlib.Core.List.{List, ◌++◌}
-use Rattle.std.proofs.Common.{rules}
 use Rattle.writer.proofs.starts.put_start.Goals as goal
 use Rattle.writer.proofs.starts.put_start.Goals.{Else-value-eq0}
 
@@ -17,7 +15,8 @@ use Rattle.writer.proofs.starts.put_start.Goals.{Else-value-eq0}
 room : (c : Else-value-eq0) → c.args.at + 10 ≤ length c.args.out.now
 room c =
     let a = c.args in
-    let e : length (start_record a.register a.value) ≡ 10 = ap (λ (l : List ℕ). length l) (whole-record a.register a.value c.if-value-eq0.false) in
+    let e : length (start_record a.register a.value) ≡ 10 = ap (λ (l : List ℕ). length l)
+        (whole-record a.register a.value c.if-value-eq0.false) in
     rw e at c.requires
 
 pub returns : goal.returns

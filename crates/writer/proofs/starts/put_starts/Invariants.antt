@@ -1,15 +1,9 @@
 -- `put_starts` meets its contract: the loop's invariant says what stands in the output so far. Assumes nothing.
-use Prim.Native.Nat.{ℕ, ◌+◌, ◌-◌, ◌≤◌, ◌<◌}
-use mathlib.Core.Path.{◌≡◌, refl, sym, ap, ◌∙◌}
-use mathlib.Core.List.{List}
-use native.Mathlib.Omega.{arith}
-use lib.ListN.{length, length-append}
+use Prim.Native.Nat.{◌+◌, ◌-◌, ◌≤◌}
+use mathlib.Core.Path.{◌≡◌}
+use lib.ListN.{length}
 use Rattle.records.specs.Bytes.{placed}
-use Rattle.event_log.specs.Starts.{start_of}
-use Rattle.records.proofs.BufferLaws.{placed-more, length-placed}
-use Rattle.writer.specs.Writing.{start_record, starts_to}
-use Rattle.writer.proofs.FileLaws.{placed-none}
-use Rattle.writer.proofs.StartLaws.{starts_more, starts-longer, starts-grow}
+use Rattle.writer.specs.Writing.{starts_to}
 use Rattle.writer.proofs.starts.put_starts.Given as goal
 
 abbrev pub invariant-loop-r : goal.invariant-loop-r

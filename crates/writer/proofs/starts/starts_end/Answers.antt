@@ -1,13 +1,10 @@
 -- `starts_end` meets its contract: the loop's invariant is the length so far. Assumes nothing.
-use Prim.Native.Nat.{◌+◌, ◌-◌, ◌≤◌}
-use mathlib.Core.Path.{◌≡◌, refl}
+use mathlib.Core.Path.{refl}
 use native.Mathlib.Omega.{arith}
 use native.Mathlib.Numerals.{add-one}
-use lib.ListN.{length}
 use Rattle.event_log.specs.Starts.{start_of}
 use Rattle.writer.specs.Writing.{starts_to}
 use Rattle.writer.proofs.StartLaws.{starts-most, starts-longer}
-use Rattle.std.proofs.Common.{rules}
 use Rattle.writer.proofs.starts.starts_end.Goals as goal
 
 pub loop-r-init : goal.loop-r-init

@@ -1,12 +1,8 @@
 -- `starts_end` meets its contract: the loop's invariant is the length so far. Assumes nothing.
 use Prim.Native.Nat.{◌+◌, ◌-◌, ◌≤◌}
-use mathlib.Core.Path.{◌≡◌, refl}
-use native.Mathlib.Omega.{arith}
-use native.Mathlib.Numerals.{add-one}
+use mathlib.Core.Path.{◌≡◌}
 use lib.ListN.{length}
-use Rattle.event_log.specs.Starts.{start_of}
 use Rattle.writer.specs.Writing.{starts_to}
-use Rattle.writer.proofs.StartLaws.{starts-most, starts-longer}
 use Rattle.writer.proofs.starts.starts_end.Given as goal
 
 abbrev pub invariant-loop-r : goal.invariant-loop-r

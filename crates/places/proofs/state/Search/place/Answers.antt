@@ -2,11 +2,8 @@
 -- Assumes nothing.
 use native.Mathlib.Omega.{arith}
 use Rattle.places.proofs.StateLaws.{room-lt, room_at, room-bits, extends}
-use Rattle.std.proofs.Common.{rules}
 use Rattle.places.proofs.state.Search.place.Goals as goal
 
--- `places::state::Search::place` meets its contract: the places filled so far take at most 46 bits.
--- Assumes nothing.
 pub overflow_mul-result : goal.overflow_mul-result
 overflow_mul-result c = omega (arith, room-bits c.args.self c.requires.placeable.sound (room_at c.requires.placeable))
 
