@@ -16,8 +16,8 @@ ghost use Rattle.rules.specs.Judge.{content, Judgeable, places_verdict, and_then
 use crate::order::{rule_a, rule_b};
 use crate::places::{Writer, places_of, writers_of};
 use crate::points::first_broken;
-use links::tables::{Fact, Tables, index_of, table, tables_of};
 use event_log::rows::{Row, event_at, transactions_begun};
+use links::tables::{Fact, Tables, index_of, table, tables_of};
 use opacity::verdict::{Rule, Verdict};
 use reads::own_right;
 

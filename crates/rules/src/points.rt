@@ -8,10 +8,10 @@ ghost use Rattle.rules.specs.Walks.{Walkable, Pointable, no_writer, right_value,
 
 use crate::places::Writer;
 use crate::walk::last_writer;
+use event_log::rows::{Row, event_at};
 use events::event::Event;
 use links::tables::index_of;
 use lists::numbers::stored;
-use event_log::rows::{Row, event_at};
 use opacity::verdict::Rule;
 use reads::NO_POINT;
 

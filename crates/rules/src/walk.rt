@@ -5,10 +5,10 @@ ghost use Rattle.links.specs.Writes.{plus_one};
 ghost use Rattle.rules.specs.Walks.{start_at, last_in, Walkable};
 
 use crate::places::{LAST, WRITES, Writer, from_field};
+use event_log::rows::{Row, event_at};
 use links::tables::index_of;
 use lists::numbers::stored;
 use lists::sets::has_register;
-use event_log::rows::{Row, event_at};
 
 // Where the walk over the writes at place k starts: nowhere, where that is the reader's own place or
 // its transaction does not write r.

@@ -53,7 +53,15 @@ pub extern "C" fn sendoshi_read(
         (columns kinds.old transactions.old registers.old values.old
         threads.old)).result }
 {
-    sendoshi::sendoshi_read(file, starts, kinds, transactions, registers, values, threads)
+    sendoshi::sendoshi_read(
+        file,
+        starts,
+        kinds,
+        transactions,
+        registers,
+        values,
+        threads,
+    )
 }
 
 // Writes the first `count` events as a file: its length, or the question and the event.
@@ -78,7 +86,17 @@ pub extern "C" fn sendoshi_write(
         threads.now) count
         output.old).result }
 {
-    sendoshi::sendoshi_write(edition, starts, kinds, transactions, registers, values, threads, count, output)
+    sendoshi::sendoshi_write(
+        edition,
+        starts,
+        kinds,
+        transactions,
+        registers,
+        values,
+        threads,
+        count,
+        output,
+    )
 }
 
 // Writes the lowest marking of the first `prefix` of the first `count` events: its length, or none, or
@@ -105,7 +123,18 @@ pub extern "C" fn sendoshi_find(
         threads.now) count prefix
         output.old).result }
 {
-    sendoshi::sendoshi_find(edition, starts, kinds, transactions, registers, values, threads, count, prefix, output)
+    sendoshi::sendoshi_find(
+        edition,
+        starts,
+        kinds,
+        transactions,
+        registers,
+        values,
+        threads,
+        count,
+        prefix,
+        output,
+    )
 }
 
 // Judges the prefixes of the first `count` events: opaque, or the cause and the event, or the question
@@ -127,7 +156,16 @@ pub extern "C" fn sendoshi_scan(
         (columns kinds.now transactions.now registers.now values.now
         threads.now) count) }
 {
-    sendoshi::sendoshi_scan(edition, starts, kinds, transactions, registers, values, threads, count)
+    sendoshi::sendoshi_scan(
+        edition,
+        starts,
+        kinds,
+        transactions,
+        registers,
+        values,
+        threads,
+        count,
+    )
 }
 
 // Checks a marking file against the first `count` events: accepted, or the rule with its event and
@@ -151,7 +189,17 @@ pub extern "C" fn sendoshi_check(
         threads.now) count
         file.now) }
 {
-    sendoshi::sendoshi_check(edition, starts, kinds, transactions, registers, values, threads, count, file)
+    sendoshi::sendoshi_check(
+        edition,
+        starts,
+        kinds,
+        transactions,
+        registers,
+        values,
+        threads,
+        count,
+        file,
+    )
 }
 
 // Straightens the read points of a marking file of the first `count` events, into output and list: how
@@ -180,7 +228,19 @@ pub extern "C" fn sendoshi_straighten(
         threads.now) count
         file.now output.old moved.old).result }
 {
-    sendoshi::sendoshi_straighten(edition, starts, kinds, transactions, registers, values, threads, count, file, output, moved)
+    sendoshi::sendoshi_straighten(
+        edition,
+        starts,
+        kinds,
+        transactions,
+        registers,
+        values,
+        threads,
+        count,
+        file,
+        output,
+        moved,
+    )
 }
 
 // Counts the transactions that begin in the first `count` events, or gives the question and the event.
@@ -201,7 +261,16 @@ pub extern "C" fn sendoshi_transactions(
         (columns kinds.now transactions.now registers.now values.now
         threads.now) count) }
 {
-    sendoshi::sendoshi_transactions(edition, starts, kinds, transactions, registers, values, threads, count)
+    sendoshi::sendoshi_transactions(
+        edition,
+        starts,
+        kinds,
+        transactions,
+        registers,
+        values,
+        threads,
+        count,
+    )
 }
 
 // Counts the store reads of the first `count` events, or gives the question and the event.
@@ -222,7 +291,16 @@ pub extern "C" fn sendoshi_store_reads(
         (columns kinds.now transactions.now registers.now values.now
         threads.now) count) }
 {
-    sendoshi::sendoshi_store_reads(edition, starts, kinds, transactions, registers, values, threads, count)
+    sendoshi::sendoshi_store_reads(
+        edition,
+        starts,
+        kinds,
+        transactions,
+        registers,
+        values,
+        threads,
+        count,
+    )
 }
 
 // Counts the committed, aborted, pending and live transactions of the first `count` events, or gives
@@ -244,7 +322,16 @@ pub extern "C" fn sendoshi_tally(
         (columns kinds.now transactions.now registers.now values.now
         threads.now) count) }
 {
-    sendoshi::sendoshi_tally(edition, starts, kinds, transactions, registers, values, threads, count)
+    sendoshi::sendoshi_tally(
+        edition,
+        starts,
+        kinds,
+        transactions,
+        registers,
+        values,
+        threads,
+        count,
+    )
 }
 
 // Finds the first note of a history's file whose record begins at the byte `from` or behind it, and tells how

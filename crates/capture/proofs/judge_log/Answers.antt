@@ -8,4 +8,4 @@ pub returns : goal.returns
 unfolding judged marking_of opacity_of scan_of
 returns c =
     λ i. Report.Judged (c.counts_of-counts.ensures i) (c.tally_of-tally.ensures i) (c.check_log-marking.ensures i)
-        (c.scan_log-opacity.ensures i)
+    (c.scan_log-opacity.ensures i)

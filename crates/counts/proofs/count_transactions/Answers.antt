@@ -11,18 +11,18 @@ unfolding transactions_answer
 returns-then-count-le-SHORT c =
     c.count_begun.ensures
     ∙ behind _ _ (columns c.args.kinds.now c.args.transactions.now c.args.registers.now c.args.values.now c.args.threads.now) c.args.count
-        c.admit-checked.result _ _ c.admit-checked.ensures.value c.admit-checked.ensures.taken
+    c.admit-checked.result _ _ c.admit-checked.ensures.value c.admit-checked.ensures.taken
     (λ m. omega arith) transactions_of (λ r g h. refl)
 
 pub count_begun-requires-2 : goal.count_begun-requires-2
 count_begun-requires-2 c =
     entered _ _ (columns c.args.kinds.now c.args.transactions.now c.args.registers.now c.args.values.now c.args.threads.now) c.args.count
-        c.admit-checked-2.result _ _ c.admit-checked-2.ensures.value c.admit-checked-2.ensures.taken (λ m. m)
+    c.admit-checked-2.result _ _ c.admit-checked-2.ensures.value c.admit-checked-2.ensures.taken (λ m. m)
 
 pub returns : goal.returns
 unfolding transactions_answer
 returns c =
     c.count_begun-2.ensures
     ∙ behind _ _ (columns c.args.kinds.now c.args.transactions.now c.args.registers.now c.args.values.now c.args.threads.now) c.args.count
-        c.admit-checked-2.result _ _ c.admit-checked-2.ensures.value c.admit-checked-2.ensures.taken
+    c.admit-checked-2.result _ _ c.admit-checked-2.ensures.value c.admit-checked-2.ensures.taken
     (λ m. m) transactions_of (λ r g h. refl)

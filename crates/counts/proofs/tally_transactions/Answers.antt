@@ -11,18 +11,18 @@ unfolding tally_answer
 returns-then-count-le-SHORT c =
     c.tally_rows.ensures
     ∙ behind _ _ (columns c.args.kinds.now c.args.transactions.now c.args.registers.now c.args.values.now c.args.threads.now) c.args.count
-        c.admit-checked.result _ _ c.admit-checked.ensures.value c.admit-checked.ensures.taken
+    c.admit-checked.result _ _ c.admit-checked.ensures.value c.admit-checked.ensures.taken
     (λ m. omega arith) tally_of (λ r g h. refl)
 
 pub tally_rows-requires-2 : goal.tally_rows-requires-2
 tally_rows-requires-2 c =
     entered _ _ (columns c.args.kinds.now c.args.transactions.now c.args.registers.now c.args.values.now c.args.threads.now) c.args.count
-        c.admit-checked-2.result _ _ c.admit-checked-2.ensures.value c.admit-checked-2.ensures.taken (λ m. m)
+    c.admit-checked-2.result _ _ c.admit-checked-2.ensures.value c.admit-checked-2.ensures.taken (λ m. m)
 
 pub returns : goal.returns
 unfolding tally_answer
 returns c =
     c.tally_rows-2.ensures
     ∙ behind _ _ (columns c.args.kinds.now c.args.transactions.now c.args.registers.now c.args.values.now c.args.threads.now) c.args.count
-        c.admit-checked-2.result _ _ c.admit-checked-2.ensures.value c.admit-checked-2.ensures.taken
+    c.admit-checked-2.result _ _ c.admit-checked-2.ensures.value c.admit-checked-2.ensures.taken
     (λ m. m) tally_of (λ r g h. refl)

@@ -31,7 +31,7 @@ returns-then-begun-gt-SEARCHED c =
     let d = c.args.output.now in
     let begun = c.transactions_begun-begun.ensures in
     decided-refused (lowest_marking (start_of c.args.starts.now) (logged c.args.log.now)) d (refused-31 (logged c.args.log.now) c.args.count
-        (length d) (omega (arith, begun)))
+    (length d) (omega (arith, begun)))
 
 pub returns-then-not-has_room : goal.returns-then-not-has_room
 unfolding find_of
@@ -39,7 +39,7 @@ returns-then-not-has_room c =
     let d = c.args.output.now in
     let short = leb-false _ _ (sym c.has_room.ensures ∙ c.if-not-has_room.true) in
     decided-refused (lowest_marking (start_of c.args.starts.now) (logged c.args.log.now)) d (refused-32 (logged c.args.log.now) c.args.count
-        (length d) (few (goal.at.returns-then-not-has_room c).Else-begun-gt-SEARCHED) short)
+    (length d) (few (goal.at.returns-then-not-has_room c).Else-begun-gt-SEARCHED) short)
 
 pub returns : goal.returns
 unfolding find_of
@@ -49,4 +49,4 @@ returns c =
     c.find_lowest.ensures
     ∙ ap (λ (x : Checked). decided x (lowest_marking (start_of c.args.starts.now) h) d)
     (sym (passes-31-32 h c.args.count (length d) (few (goal.at.returns c).Else-begun-gt-SEARCHED)
-        (fits (goal.at.returns c).Else-not-has_room)))
+    (fits (goal.at.returns c).Else-not-has_room)))

@@ -21,7 +21,7 @@ pub returns-then-order-eq0 : goal.returns-then-order-eq0
 returns-then-order-eq0 c =
     let o = start_of c.args.starts.now in
     decided-none c.args.output.now refl (marking-none o (logged c.args.log.now) c.requires.judged
-        (answer-none o (logged c.args.log.now) c.requires.judged c.find_order-order.result c.if-order-eq0.true c.find_order-order.ensures))
+    (answer-none o (logged c.args.log.now) c.requires.judged c.find_order-order.result c.if-order-eq0.true c.find_order-order.ensures))
 
 -- there is room for its marking
 pub write_order-requires : goal.write_order-requires
@@ -36,5 +36,5 @@ write_order-requires c =
 pub returns : goal.returns
 returns c =
     decided-marking _ c.args.output.now _ refl (marking-found (start_of c.args.starts.now) (logged c.args.log.now) c.requires.judged
-        (lowest (goal.at.returns c).Else-order-eq0))
+    (lowest (goal.at.returns c).Else-order-eq0))
     c.write_order.ensures.value c.write_order.ensures.output_after

@@ -22,8 +22,13 @@ short s =
 pub returns-then-places-log : goal.returns-then-places-log
 returns-then-places-log c =
     let n = logged-length c.args.log.now in
-    sym (le-leb (marking_size (logged c.args.log.now)) c.args.room (omega (arith, c.if-places-log.true, reads-most (logged c.args.log.now),
-        c.requires.begun_value, n)))
+    sym (le-leb (marking_size (logged c.args.log.now)) c.args.room (omega (
+      arith,
+      c.if-places-log.true,
+      reads-most (logged c.args.log.now),
+      c.requires.begun_value,
+      n,
+    )))
 
 pub count_by-reads-requires : goal.count_by-reads-requires
 count_by-reads-requires c =
@@ -37,5 +42,9 @@ overflow_mul-result c = omega (arith, c.count_by-reads.ensures, reads-low (logge
 
 pub overflow_add-result : goal.overflow_add-result
 overflow_add-result c =
-    omega (arith, c.count_by-reads.ensures, reads-low (logged c.args.log.now) c.requires.judged.readable,
-        (short (goal.at.overflow_add-result c).Start).1)
+    omega (
+      arith,
+      c.count_by-reads.ensures,
+      reads-low (logged c.args.log.now) c.requires.judged.readable,
+      (short (goal.at.overflow_add-result c).Start).1,
+    )

@@ -43,9 +43,9 @@ marks g =
     let outcomes = g.placed_by-placed.result.outcomes in
     subst (λ (k : ℕ). bytes_in order outcomes g.args.begun (take k gaps) ≡ found_bytes h (take g.args.begun g.args.codes)) n
     (arrays-mark h g.requires.judged.readable g.args.codes g.placed_by-placed.result.order g.placed_by-placed.result.outcomes g.args.begun
-        g.requires.begun_value.0 ((let here : g.args.begun ≤ 10 = omega arith in here))
+    g.requires.begun_value.0 ((let here : g.args.begun ≤ 10 = omega arith in here))
     (omega (arith, (let here : g.args.begun ≤ 10 = omega arith in here))) g.placed_by-placed.ensures g.readers_by-place.result
-        g.readers_by-place.ensures g.put_gaps.new.gaps front)
+    g.readers_by-place.ensures g.put_gaps.new.gaps front)
 
 pub put_gaps-requires : goal.put_gaps-requires
 put_gaps-requires c =

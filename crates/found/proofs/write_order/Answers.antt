@@ -15,7 +15,7 @@ use Rattle.found.proofs.write_order.Goals.{After-codes_of-codes}
 -- the codes are those of the order
 same : (a : After-codes_of-codes)
     → found_bytes (logged a.args.log.now) (take a.args.begun a.codes_of-codes.result) ≡ found_bytes (logged a.args.log.now)
-        (codes_of a.args.begun a.args.order)
+    (codes_of a.args.begun a.args.order)
 same a = ap (found_bytes (logged a.args.log.now)) a.codes_of-codes.ensures
 
 -- there is room for their marking
@@ -25,8 +25,11 @@ fits a = subst (λ (b : List ℕ). length b ≤ length a.args.output.now) (sym (
 
 pub write_found-requires-2 : goal.write_found-requires-2
 write_found-requires-2 c =
-    let short : length c.args.log.now ≤ 2048 = omega (arith, readable-most (logged c.args.log.now) c.requires.judged.readable,
-        logged-length c.args.log.now) in
+    let short : length c.args.log.now ≤ 2048 = omega (
+      arith,
+      readable-most (logged c.args.log.now) c.requires.judged.readable,
+      logged-length c.args.log.now,
+    ) in
     record {
       judged = c.requires.judged;
       begun_value = (c.requires.begun_value, short);

@@ -31,13 +31,15 @@ loop-i-init c = (omega arith, c.no_events-s.ensures)
 pub step-s-requires : goal.step-s-requires
 step-s-requires c =
     tabled (logged c.args.log.now) c.requires.judged c.loop-i.i (inside (goal.at.step-s-requires c).After-event_at-e) c.event_at-e.result
-        c.event_at-e.ensures
+    c.event_at-e.ensures
 
 pub loop-i-preserved : goal.loop-i-preserved
 loop-i-preserved c =
-    let h = (logged c.args.log.now) in
-    (omega arith, tables_more h c.loop-i.i (inside (goal.at.loop-i-preserved c).After-event_at-e) (tables_by c.loop-i.s c.loop-i.facts) _
-        c.event_at-e.result c.loop-i.invariant.1 c.event_at-e.ensures c.step-s.ensures)
+    let h = (logged c.args.log.now) in (
+      omega arith,
+      tables_more h c.loop-i.i (inside (goal.at.loop-i-preserved c).After-event_at-e) (tables_by c.loop-i.s c.loop-i.facts) _
+          c.event_at-e.result c.loop-i.invariant.1 c.event_at-e.ensures c.step-s.ensures,
+    )
 
 pub complete-requires : goal.complete-requires
 complete-requires c =
@@ -52,4 +54,4 @@ returns c =
     let count = c.requires.begun_value in
     ap (λ (k : ℕ). decoded (read_answer k c.complete.result)) (sym count)
     ∙ found-by c.args.starts.now (logged c.args.log.now) _ _ _ c.requires.judged (whole (goal.at.returns c).After-facts-2-1) count
-        c.complete.ensures.completion
+    c.complete.ensures.completion

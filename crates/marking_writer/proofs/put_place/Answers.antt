@@ -15,6 +15,6 @@ returns c =
     let room = c.requires in
     let both = placed-then out _ _ at (u16_bytes 6) (u16_bytes 32) (at + 2) c.put_u16.ensures c.put_u16-2.ensures refl (omega arith) in
     let all = placed-then out _ _ at (u16_bytes 6 ++ u16_bytes 32) (u16_bytes c.args.transaction) (at + 4) both c.put_u16-3.ensures refl
-        (omega arith) in
+    (omega arith) in
     placed-then out _ _ at (u16_bytes 6 ++ u16_bytes 32 ++ u16_bytes c.args.transaction) (u16_bytes c.args.outcome) (at + 6) all
-        c.put_u16-4.ensures refl (omega arith)
+    c.put_u16-4.ensures refl (omega arith)

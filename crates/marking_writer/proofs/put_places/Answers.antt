@@ -27,6 +27,6 @@ loop-k-preserved c =
           c.loop-k.k (omega arith) c.loop-k.out (6 + 8 * c.loop-k.k) c.loop-k.invariant.1 c.put_place.new.out _ c.put_place.auto.out
           (c.put_place.ensures
           ∙ ap (λ (o : ℕ). placed c.loop-k.out (6 + 8 * c.loop-k.k) (u16_bytes 6 ++ u16_bytes 32 ++ u16_bytes (get_or order c.loop-k.k 0) ++
-              u16_bytes o)) c.outcome_number-outcome.ensures)
+          u16_bytes o)) c.outcome_number-outcome.ensures)
           (omega arith),
     )

@@ -15,6 +15,6 @@ returns c =
     let room = c.requires in
     let both = placed-then out _ _ at (u16_bytes 8) (u16_bytes 33) (at + 2) c.put_u16.ensures c.put_u16-2.ensures refl (omega arith) in
     let all = placed-then out _ _ at (u16_bytes 8 ++ u16_bytes 33) (u32_bytes c.args.event) (at + 4) both c.put_u32.ensures refl
-        (omega arith) in
+    (omega arith) in
     placed-then out _ _ at (u16_bytes 8 ++ u16_bytes 33 ++ u32_bytes c.args.event) (u16_bytes c.args.gap) (at + 8) all c.put_u16-3.ensures
-        refl (omega arith)
+    refl (omega arith)

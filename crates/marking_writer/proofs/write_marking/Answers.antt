@@ -36,6 +36,6 @@ returns c =
       out_after = marking-put (places_to order outcomes c.args.begun) (points_in c.args.gaps.now (length c.args.gaps.now)) c.args.out.now _
           _ _ (6 + 8 * c.args.begun)
           (omega (arith, places-bytes order outcomes c.args.begun)) c.requires.gaps_in_bounds c.put_head.ensures c.put_places.ensures
-              c.put_points.ensures.out_after;
+          c.put_points.ensures.out_after;
       value = c.put_points.ensures.value ∙ sym (size (goal.at.returns c).Start);
     }

@@ -34,9 +34,9 @@ adds c =
     c.one_if-reads.ensures
     ∙ ap one (c.reads_store.ensures ∙ (ap (λ (x : Event). reads_store x c.note-own.result) c.event_at-e.ensures
     ∙ sym (its-read (logged c.args.log.now) _ c.loop-i.last c.loop-i.i c.loop-i.invariant.1
-        ((low _ c.requires.log_value c.loop-i.i
-            ((let here : c.loop-i.i < length (logged c.args.log.now) = omega (arith, logged-length c.args.log.now) in here))))
-                c.note-own.result found)))
+    ((low _ c.requires.log_value c.loop-i.i
+    ((let here : c.loop-i.i < length (logged c.args.log.now) = omega (arith, logged-length c.args.log.now) in here))))
+    c.note-own.result found)))
 
 pub loop-i-init : goal.loop-i-init
 unfolding keep range
@@ -45,8 +45,11 @@ loop-i-init c = (refl, lasts-first _ _ _ c.requires.blank, refl)
 pub note-own-requires : goal.note-own-requires
 note-own-requires c =
     let same = sym c.event_at-e.ensures in record {
-      i_bound = (few (goal.at.note-own-requires c).In-loop-i, subst (λ (x : Event). slot_of x < length c.loop-i.last) same
-          (slot-room _ (low-here (goal.at.note-own-requires c).In-loop-i) c.loop-i.invariant.1.room));
+      i_bound = (
+        few (goal.at.note-own-requires c).In-loop-i,
+        subst (λ (x : Event). slot_of x < length c.loop-i.last) same
+            (slot-room _ (low-here (goal.at.note-own-requires c).In-loop-i) c.loop-i.invariant.1.room),
+      );
       low = subst (Low 64) same (low-64 _ c.requires.log_value c.loop-i.i (inside (goal.at.note-own-requires c).In-loop-i));
     }
 
@@ -58,15 +61,14 @@ overflow_add-reads c =
     search (rules, most, less, added)
 
 pub loop-i-preserved : goal.loop-i-preserved
-loop-i-preserved c =
-    (
-      c.note-own.auto.last ∙ c.loop-i.invariant.0,
-      rw c.note-own.ensures.last_after
-          (lasts-more (logged c.args.log.now) _ c.loop-i.last c.loop-i.i c.loop-i.invariant.1
-              (inside (goal.at.loop-i-preserved c).In-loop-i) (low-here (goal.at.loop-i-preserved c).In-loop-i) c.event_at-e.result
-                  c.event_at-e.ensures),
-      omega (arith, c.loop-i.invariant.2, adds c, reads_more (logged c.args.log.now) c.loop-i.i),
-    )
+loop-i-preserved c = (
+  c.note-own.auto.last ∙ c.loop-i.invariant.0,
+  rw c.note-own.ensures.last_after
+      (lasts-more (logged c.args.log.now) _ c.loop-i.last c.loop-i.i c.loop-i.invariant.1
+      (inside (goal.at.loop-i-preserved c).In-loop-i) (low-here (goal.at.loop-i-preserved c).In-loop-i) c.event_at-e.result
+      c.event_at-e.ensures),
+  omega (arith, c.loop-i.invariant.2, adds c, reads_more (logged c.args.log.now) c.loop-i.i),
+)
 
 pub returns : goal.returns
 returns c =

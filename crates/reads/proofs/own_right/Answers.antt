@@ -16,7 +16,7 @@ bounds-own-i c = omega (arith, logged-length c.args.log.now)
 pub returns-then-w-eq0 : goal.returns-then-w-eq0
 returns-then-w-eq0 c =
     sym (right-none (logged c.args.log.now) c.args.own.now c.requires.own_writes c.args.i (omega (arith, logged-length c.args.log.now))
-        c.if-w-eq0.true)
+    c.if-w-eq0.true)
 
 pub returns-then-not-is_read : goal.returns-then-not-is_read
 returns-then-not-is_read c =

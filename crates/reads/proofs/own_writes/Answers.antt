@@ -36,8 +36,11 @@ pub note-requires : goal.note-requires
 note-requires c =
     let same = sym c.event_at.ensures in
     record {
-      i_bound = (few (goal.at.note-requires c).In-loop-i, subst (λ (e : Event). slot_of e < length c.loop-i.last) same
-          (slot-room _ (low-here (goal.at.note-requires c).In-loop-i) c.loop-i.invariant.2.room));
+      i_bound = (
+        few (goal.at.note-requires c).In-loop-i,
+        subst (λ (e : Event). slot_of e < length c.loop-i.last) same
+            (slot-room _ (low-here (goal.at.note-requires c).In-loop-i) c.loop-i.invariant.2.room),
+      );
       low = subst (Low 64) same (low-here (goal.at.note-requires c).In-loop-i);
     }
 
@@ -49,7 +52,7 @@ loop-i-preserved c =
       c.note.auto.last ∙ c.loop-i.invariant.1,
       rw c.note.ensures.last_after (lasts-more h 64 c.loop-i.last c.loop-i.i c.loop-i.invariant.2
           (inside (goal.at.loop-i-preserved c).In-loop-i) (low-here (goal.at.loop-i-preserved c).In-loop-i) c.event_at.result
-              c.event_at.ensures),
+          c.event_at.ensures),
       owned-more h 64 c.loop-i.last c.loop-i.i c.loop-i.invariant.2 (low-here (goal.at.loop-i-preserved c).In-loop-i) c.note.result found
           c.loop-i.own
           (has-entry (goal.at.loop-i-preserved c).In-loop-i) c.loop-i.invariant.3,

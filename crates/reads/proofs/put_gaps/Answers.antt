@@ -40,9 +40,9 @@ gap c =
     let place = c.args.place.now in
     let found = c.note-own.ensures.value ∙ ap (λ (x : Event). get_or c.loop-i.last (slot_of x) 0) c.event_at-e.ensures in
     let store = its-read (logged c.args.log.now) _ c.loop-i.last c.loop-i.i c.loop-i.invariant.2
-        ((low _ c.requires.log_value c.loop-i.i
-            ((let here : c.loop-i.i < length (logged c.args.log.now) = omega (arith, logged-length c.args.log.now) in here))))
-                c.note-own.result found in
+    ((low _ c.requires.log_value c.loop-i.i
+    ((let here : c.loop-i.i < length (logged c.args.log.now) = omega (arith, logged-length c.args.log.now) in here))))
+    c.note-own.result found in
     c.gap_of.ensures
     ∙ (ap (λ (x : Event). gap_of (reads_store x c.note-own.result) x place) c.event_at-e.ensures
     ∙ ap (λ (b : Bool). gap_of b (event_at (logged c.args.log.now) c.loop-i.i) place) (sym store))
@@ -54,8 +54,11 @@ pub note-own-requires : goal.note-own-requires
 note-own-requires c =
     let slot = slot-room _ (low-here (goal.at.note-own-requires c).In-loop-i) c.loop-i.invariant.2.room in
     record {
-      i_bound = (few (goal.at.note-own-requires c).In-loop-i, subst (λ (x : Event). slot_of x < length c.loop-i.last)
-          (sym c.event_at-e.ensures) slot);
+      i_bound = (
+        few (goal.at.note-own-requires c).In-loop-i,
+        subst (λ (x : Event). slot_of x < length c.loop-i.last)
+            (sym c.event_at-e.ensures) slot,
+      );
       low = low-taken (goal.at.note-own-requires c).After-event_at-e;
     }
 
@@ -63,13 +66,12 @@ pub gap_of-requires : goal.gap_of-requires
 gap_of-requires c = low-taken (goal.at.gap_of-requires c).After-event_at-e
 
 pub loop-i-preserved : goal.loop-i-preserved
-loop-i-preserved c =
-    (
-      c.note-own.auto.last ∙ c.loop-i.invariant.0,
-      length-set c.loop-i.gaps c.loop-i.i c.gap_of.result ∙ c.loop-i.invariant.1,
-      rw c.note-own.ensures.last_after
-          (lasts-more (logged c.args.log.now) _ c.loop-i.last c.loop-i.i c.loop-i.invariant.2
-              (inside (goal.at.loop-i-preserved c).In-loop-i) (low-here (goal.at.loop-i-preserved c).In-loop-i) c.event_at-e.result
-                  c.event_at-e.ensures),
-      front-more 0 _ c.loop-i.i c.gap_of.result c.loop-i.gaps (room c) (gap c) c.loop-i.invariant.3,
-    )
+loop-i-preserved c = (
+  c.note-own.auto.last ∙ c.loop-i.invariant.0,
+  length-set c.loop-i.gaps c.loop-i.i c.gap_of.result ∙ c.loop-i.invariant.1,
+  rw c.note-own.ensures.last_after
+      (lasts-more (logged c.args.log.now) _ c.loop-i.last c.loop-i.i c.loop-i.invariant.2
+      (inside (goal.at.loop-i-preserved c).In-loop-i) (low-here (goal.at.loop-i-preserved c).In-loop-i) c.event_at-e.result
+      c.event_at-e.ensures),
+  front-more 0 _ c.loop-i.i c.gap_of.result c.loop-i.gaps (room c) (gap c) c.loop-i.invariant.3,
+)

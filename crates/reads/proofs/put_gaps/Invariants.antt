@@ -12,7 +12,7 @@ use Rattle.reads.proofs.put_gaps.Given as goal
 abbrev pub invariant-loop-i : goal.invariant-loop-i
 invariant-loop-i l =
     (length l.last ≡ length l.initial.last) × (length l.gaps ≡ length l.initial.gaps)
-        × Lasts (logged l.log) (begins (logged l.log)) l.last l.i
+    × Lasts (logged l.log) (begins (logged l.log)) l.last l.i
     × Front 0 (placed_at (logged l.log) l.place) l.i l.gaps
 
 abbrev pub decreases-loop-i : goal.decreases-loop-i

@@ -26,17 +26,28 @@ returns-then-is_begin c = rw (not-read (goal.at.returns-then-is_begin c).Else-is
 pub returns-then-is_commit : goal.returns-then-is_commit
 unfolding cause
 returns-then-is_commit c =
-    rw (not-read (goal.at.returns-then-is_commit c).Else-is_read, not-begin (goal.at.returns-then-is_commit c).Else-is_begin,
-        sym c.is_commit.ensures ∙ c.if-is_commit.true)
+    rw (
+      not-read (goal.at.returns-then-is_commit c).Else-is_read,
+      not-begin (goal.at.returns-then-is_commit c).Else-is_begin,
+      sym c.is_commit.ensures ∙ c.if-is_commit.true,
+    )
 
 pub returns-then-is_abort : goal.returns-then-is_abort
 unfolding cause
 returns-then-is_abort c =
-    rw (not-read (goal.at.returns-then-is_abort c).Else-is_read, not-begin (goal.at.returns-then-is_abort c).Else-is_begin,
-        not-commit (goal.at.returns-then-is_abort c).Else-is_commit, sym c.is_abort.ensures ∙ c.if-is_abort.true)
+    rw (
+      not-read (goal.at.returns-then-is_abort c).Else-is_read,
+      not-begin (goal.at.returns-then-is_abort c).Else-is_begin,
+      not-commit (goal.at.returns-then-is_abort c).Else-is_commit,
+      sym c.is_abort.ensures ∙ c.if-is_abort.true,
+    )
 
 pub returns : goal.returns
 unfolding cause
 returns c =
-    rw (not-read (goal.at.returns c).Else-is_read, not-begin (goal.at.returns c).Else-is_begin,
-        not-commit (goal.at.returns c).Else-is_commit, sym c.is_abort.ensures ∙ c.if-is_abort.false)
+    rw (
+      not-read (goal.at.returns c).Else-is_read,
+      not-begin (goal.at.returns c).Else-is_begin,
+      not-commit (goal.at.returns c).Else-is_commit,
+      sym c.is_abort.ensures ∙ c.if-is_abort.false,
+    )

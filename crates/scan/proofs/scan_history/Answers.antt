@@ -16,14 +16,14 @@ unfolding scan_after scan_answer scan_refusal
 returns-then-count-le-SHORT c =
     c.scan_admitted.ensures
     ∙ behind c.args.edition c.args.starts.now (columns c.args.kinds.now c.args.transactions.now c.args.registers.now c.args.values.now
-        c.args.threads.now) c.args.count c.admit-checked.result _ _ c.admit-checked.ensures.value c.admit-checked.ensures.taken
+    c.args.threads.now) c.args.count c.admit-checked.result _ _ c.admit-checked.ensures.value c.admit-checked.ensures.taken
     (λ m. omega arith) (λ (x : Checked). λ (h : List Event). scan_after x c.args.starts.now h c.args.count)
-        (λ r g h. after-alike r c.args.starts.now c.args.count g h)
+    (λ r g h. after-alike r c.args.starts.now c.args.count g h)
 
 pub scan_admitted-requires-2 : goal.scan_admitted-requires-2
 scan_admitted-requires-2 c =
     let-in c.args.edition c.args.starts.now (columns c.args.kinds.now c.args.transactions.now c.args.registers.now c.args.values.now
-        c.args.threads.now) c.args.count c.admit-checked-2.result _ _ c.admit-checked-2.ensures.value c.admit-checked-2.ensures.taken
+    c.args.threads.now) c.args.count c.admit-checked-2.result _ _ c.admit-checked-2.ensures.value c.admit-checked-2.ensures.taken
     (λ m. m)
 
 pub returns : goal.returns
@@ -31,6 +31,6 @@ unfolding scan_after scan_answer scan_refusal
 returns c =
     c.scan_admitted-2.ensures
     ∙ behind c.args.edition c.args.starts.now (columns c.args.kinds.now c.args.transactions.now c.args.registers.now c.args.values.now
-        c.args.threads.now) c.args.count c.admit-checked-2.result _ _ c.admit-checked-2.ensures.value c.admit-checked-2.ensures.taken
+    c.args.threads.now) c.args.count c.admit-checked-2.result _ _ c.admit-checked-2.ensures.value c.admit-checked-2.ensures.taken
     (λ m. m) (λ (x : Checked). λ (h : List Event). scan_after x c.args.starts.now h c.args.count) (λ r g h. after-alike r c.args.starts.now
-        c.args.count g h)
+    c.args.count g h)

@@ -31,13 +31,13 @@ pub returns-then-count-ne0 : goal.returns-then-count-ne0
 unfolding ends_at
 returns-then-count-ne0 c =
     let some : (bit_and (after_of c.args.facts.now end_row) c.args.s.unplaced) ≡ 0 → ⊥ = λ z. c.if-count-ne0.true (c.count.ensures
-        ∙ (ap ones z ∙ none-ones)) in
+    ∙ (ap ones z ∙ none-ones)) in
     simp (unplaced-before (goal.at.returns-then-count-ne0 c).Start ∙ ne_eqb _ _ some)
 
 pub returns : goal.returns
 unfolding ends_at
 returns c =
     let none : (bit_and (after_of c.args.facts.now end_row) c.args.s.unplaced) ≡ 0 = none-counted 10
-        (bit_and (after_of c.args.facts.now end_row) c.args.s.unplaced) (still-few (goal.at.returns c).Start) (sym c.count.ensures
-            ∙ c.if-count-ne0.false) in
+    (bit_and (after_of c.args.facts.now end_row) c.args.s.unplaced) (still-few (goal.at.returns c).Start) (sym c.count.ensures
+    ∙ c.if-count-ne0.false) in
     simp (unplaced-before (goal.at.returns c).Start ∙ eq-eqb _ _ none) c.legal_reads.ensures

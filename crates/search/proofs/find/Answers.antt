@@ -42,14 +42,17 @@ unfolding codes_of
 returns-then-n-lt-FEW c =
     let a = c.args in
     start-answers (constraints a.starts.now a.facts.now) a.n _ c.choose_transaction.result c.requires
-        (all (goal.at.returns-then-n-lt-FEW c).After-bit) c.choose_transaction.ensures
+    (all (goal.at.returns-then-n-lt-FEW c).After-bit) c.choose_transaction.ensures
 
 pub stranded-requires : goal.stranded-requires
 stranded-requires c =
     record {
       sound = sound (goal.at.stranded-requires c).After-bit;
-      need_bound = omega (arith, (sound (goal.at.stranded-requires c).After-bit).few,
-          and_le_l (c.bit.result - 1) (after_of c.args.facts.now end_row));
+      need_bound = omega (
+        arith,
+        (sound (goal.at.stranded-requires c).After-bit).few,
+        and_le_l (c.bit.result - 1) (after_of c.args.facts.now end_row),
+      );
     }
 
 pub returns-then-stranded : goal.returns-then-stranded
@@ -61,7 +64,7 @@ returns-then-stranded c =
     let s : Search = record { unplaced = u; filled = 0; placed = 1 } in
     start-answers D a.n u 0 c.requires (all (goal.at.returns-then-stranded c).After-bit)
     (answered-none _ (sym (orphaned-none D s u _ (sound (goal.at.returns-then-stranded c).After-bit) refl
-        (needs-of D s u _ c.before_end.ensures (λ k h. h)) (c.stranded.ensures c.if-stranded.true))))
+    (needs-of D s u _ c.before_end.ensures (λ k h. h)) (c.stranded.ensures c.if-stranded.true))))
 
 pub choose_transaction-requires-2 : goal.choose_transaction-requires-2
 choose_transaction-requires-2 c =
@@ -79,5 +82,5 @@ returns c =
     let m = c.registers_asked-asked.result in
     answered-as a.n c.choose_transaction-2.result
     (start-answers (asking a.starts.now a.facts.now m) a.n _ c.choose_transaction-2.result c.requires (all (goal.at.returns c).After-bit)
-        c.choose_transaction-2.ensures)
+    c.choose_transaction-2.ensures)
     (asked-completion a.starts.now a.facts.now m c.registers_asked-asked.ensures a.n c.requires)

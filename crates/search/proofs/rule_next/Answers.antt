@@ -25,13 +25,16 @@ returns-then-facts-t-ne0 c = simp (unplaced-before (goal.at.returns-then-facts-t
 pub returns-then-not-legal_reads : goal.returns-then-not-legal_reads
 unfolding rule_next
 returns-then-not-legal_reads c =
-    simp (unplaced-before (goal.at.returns-then-not-legal_reads c).Start ∙ eq-eqb _ _ c.if-facts-t-ne0.false, sym c.legal_reads.ensures
-        ∙ c.if-not-legal_reads.true)
+    simp (
+      unplaced-before (goal.at.returns-then-not-legal_reads c).Start ∙ eq-eqb _ _ c.if-facts-t-ne0.false,
+      sym c.legal_reads.ensures
+          ∙ c.if-not-legal_reads.true,
+    )
 
 pub returns : goal.returns
 unfolding rule_next
 returns c =
     simp (
-  unplaced-before (goal.at.returns c).Start ∙ eq-eqb _ _ c.if-facts-t-ne0.false,
-  sym c.legal_reads.ensures ∙ c.if-not-legal_reads.false,
-)
+      unplaced-before (goal.at.returns c).Start ∙ eq-eqb _ _ c.if-facts-t-ne0.false,
+      sym c.legal_reads.ensures ∙ c.if-not-legal_reads.false,
+    )

@@ -21,12 +21,12 @@ room : (c : After-event_at-e) → Held (columns c.loop-i.kinds c.loop-i.transact
     (length c.args.log.now)
 room c = spilling-room c.args.log.now (columns c.args.kinds.now c.args.transactions.now c.args.registers.now c.args.values.now
     c.args.threads.now) (columns c.loop-i.kinds c.loop-i.transactions c.loop-i.registers c.loop-i.values c.loop-i.threads) c.loop-i.i
-        ((hold-e _ _ ((sym c.columns_hold.ensures ∙ c.if-not-columns_hold.false)))) c.loop-i.invariant
+    ((hold-e _ _ ((sym c.columns_hold.ensures ∙ c.if-not-columns_hold.false)))) c.loop-i.invariant
 
 pub loop-i-init : goal.loop-i-init
 loop-i-init c =
     spilling-first c.args.log.now (columns c.args.kinds.now c.args.transactions.now c.args.registers.now c.args.values.now
-        c.args.threads.now)
+    c.args.threads.now)
 
 pub bounds-kinds-i : goal.bounds-kinds-i
 bounds-kinds-i c = omega (arith, (room c).kinds)
@@ -46,8 +46,8 @@ bounds-threads-i c = omega (arith, (room c).threads)
 pub loop-i-preserved : goal.loop-i-preserved
 loop-i-preserved c =
     spilling-more c.args.log.now (columns c.args.kinds.now c.args.transactions.now c.args.registers.now c.args.values.now
-        c.args.threads.now) (columns c.loop-i.kinds c.loop-i.transactions c.loop-i.registers c.loop-i.values c.loop-i.threads) c.loop-i.i
-            (given (goal.at.loop-i-preserved c).At-loop-i) c.loop-i.invariant c.loop-i-test.true c.event_at-e.result c.event_at-e.ensures
+    c.args.threads.now) (columns c.loop-i.kinds c.loop-i.transactions c.loop-i.registers c.loop-i.values c.loop-i.threads) c.loop-i.i
+    (given (goal.at.loop-i-preserved c).At-loop-i) c.loop-i.invariant c.loop-i-test.true c.event_at-e.result c.event_at-e.ensures
 
 pub returns-then-not-columns_hold : goal.returns-then-not-columns_hold
 returns-then-not-columns_hold c =
@@ -64,5 +64,5 @@ returns c =
       value = sym (held (goal.at.returns c).At-loop-i);
       threads_after = spilling-done c.args.log.now (columns c.args.kinds.now c.args.transactions.now c.args.registers.now c.args.values.now
           c.args.threads.now) (columns c.loop-i.kinds c.loop-i.transactions c.loop-i.registers c.loop-i.values c.loop-i.threads) c.loop-i.i
-              (given (goal.at.returns c).At-loop-i) c.loop-i.invariant c.loop-i-test.false;
+          (given (goal.at.returns c).At-loop-i) c.loop-i.invariant c.loop-i-test.false;
     }

@@ -22,12 +22,11 @@ given l = judgeable l.requires.asking.readable l.links.ensures l.requires.kept
 
 moved : (p : After-move_points) → let a = p.args in
     Moved (start_of a.starts.now) (logged p.args.log.now) a.order.now a.outcomes.now a.gaps.now (p.move_points.new.gaps)
-        p.moves_of.new.moves
+    p.moves_of.new.moves
 moved p =
     let facts = p.tables_of-tables.ensures in
-    moved-points ((p.args in Judgeable (logged p.args.log.now) (p.links.new.link) a.order.now a.outcomes.now a.gaps.now = judgeable
-        p.requires.asking.readable p.links.ensures p.requires.kept)) p.requires.asking.count p.places_of-place.ensures facts.writes
-            facts.sets p.writers_of-writers.ensures
+    moved-points (judgeable p.requires.asking.readable p.links.ensures p.requires.kept) p.requires.asking.count p.places_of-place.ensures facts.writes
+    facts.sets p.writers_of-writers.ensures
     (start_of p.args.starts.now) p.moves_of.ensures p.move_points.ensures
 
 -- and what is judged then
@@ -76,10 +75,10 @@ pub returns : goal.returns
 returns c =
     let start = start_of c.args.starts.now in
     let rest = reads_verdict start (logged c.args.log.now) (c.links.new.link) c.writers_of-writers.result c.places_of-place.result
-        (c.move_points.new.gaps) in record {
+    (c.move_points.new.gaps) in record {
       value = c.judge_after.ensures
           ∙ (ap (λ (v : Verdict). and_then v rest) c.judge_places-placed.ensures
           ∙ verdict-parts (given-then (goal.at.returns c).After-move_points) c.requires.asking.count c.places_of-place.ensures start
-              c.tables_of-tables.ensures c.writers_of-writers.ensures);
+          c.tables_of-tables.ensures c.writers_of-writers.ensures);
       moved = moved (goal.at.returns c).After-move_points;
     }

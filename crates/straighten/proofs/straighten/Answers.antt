@@ -16,14 +16,14 @@ unfolding straightened_answer
 returns-then-count-le-SHORT c =
     c.straighten_admitted.ensures
     ∙ behind c.args.edition c.args.starts.now (columns c.args.kinds.now c.args.transactions.now c.args.registers.now c.args.values.now
-        c.args.threads.now) c.args.count c.admit-checked.result _ _
+    c.args.threads.now) c.args.count c.admit-checked.result _ _
     c.admit-checked.ensures.value c.admit-checked.ensures.taken (λ m. omega arith) (λ (x : Checked). λ (h : List Event). let a = c.args in
     after_columns (start_of a.starts.now) h a.count a.file.now a.output.now a.moved.now x) (λ r g h. refl)
 
 pub straighten_admitted-requires-2 : goal.straighten_admitted-requires-2
 straighten_admitted-requires-2 c =
     let-in c.args.edition c.args.starts.now (columns c.args.kinds.now c.args.transactions.now c.args.registers.now c.args.values.now
-        c.args.threads.now) c.args.count c.admit-checked-2.result _ _
+    c.args.threads.now) c.args.count c.admit-checked-2.result _ _
     c.admit-checked-2.ensures.value c.admit-checked-2.ensures.taken (λ m. m)
 
 pub returns : goal.returns
@@ -31,6 +31,6 @@ unfolding straightened_answer
 returns c =
     c.straighten_admitted-2.ensures
     ∙ behind c.args.edition c.args.starts.now (columns c.args.kinds.now c.args.transactions.now c.args.registers.now c.args.values.now
-        c.args.threads.now) c.args.count c.admit-checked-2.result _ _
+    c.args.threads.now) c.args.count c.admit-checked-2.result _ _
     c.admit-checked-2.ensures.value c.admit-checked-2.ensures.taken (λ m. m) (λ (x : Checked). λ (h : List Event). let a = c.args in
     after_columns (start_of a.starts.now) h a.count a.file.now a.output.now a.moved.now x) (λ r g h. refl)

@@ -38,29 +38,32 @@ holds : (e : In_default) → file_read (known (logged e.args.log.now)) e.args.fi
 holds e =
     sym e.read_marking-read.ensures.result_after
     ∙ ap (read_as (logged e.args.log.now) (e.read_marking-read.new.order) (e.read_marking-read.new.outcomes) (e.read_marking-read.new.gaps))
-        e.in_default.is
+    e.in_default.is
 
 -- how long it is
 size : (e : In_default)
     → length e.args.file.now ≡ 6 + 8 * begins (logged e.args.log.now) + 10 * length (store_reads (logged e.args.log.now))
 size e =
     file-size (logged e.args.log.now) e.args.file.now (in_arrays (logged e.args.log.now) (e.read_marking-read.new.order)
-        (e.read_marking-read.new.outcomes) (e.read_marking-read.new.gaps)) (holds e)
+    (e.read_marking-read.new.outcomes) (e.read_marking-read.new.gaps)) (holds e)
     (λ i. (e.shared_slice_known-1.given i).fits) (arrays-readable (kept e))
 
 asked : (r : After-has_room)
     → r.has_room.result ≡ (leb (length r.args.file.now) (length r.args.output.now) and leb (length (store_reads (logged r.args.log.now)))
-        (length r.args.moved.now))
+    (length r.args.moved.now))
 asked r =
     let points : (length r.args.file.now - (6 + 8 * r.transactions_begun-begun.result)) / 10 ≡ length
-        (store_reads (logged r.args.log.now)) =
-    omega (arith, (file-size (logged r.args.log.now) r.args.file.now (in_arrays (logged r.args.log.now) (r.read_marking-read.new.order)
-        (r.read_marking-read.new.outcomes) (r.read_marking-read.new.gaps)) ((sym r.read_marking-read.ensures.result_after
-    ∙ ap (read_as (logged r.args.log.now) (r.read_marking-read.new.order) (r.read_marking-read.new.outcomes) (r.read_marking-read.new.gaps))
-        r.in_default.is))
-    (λ i. (r.shared_slice_known-1.given i).fits) (arrays-readable ((r.read_marking-read.ensures.kept r.in_default.is))))) in
+    (store_reads (logged r.args.log.now)) =
+    omega (
+      arith,
+      (file-size (logged r.args.log.now) r.args.file.now (in_arrays (logged r.args.log.now) (r.read_marking-read.new.order)
+          (r.read_marking-read.new.outcomes) (r.read_marking-read.new.gaps)) ((sym r.read_marking-read.ensures.result_after
+          ∙ ap (read_as (logged r.args.log.now) (r.read_marking-read.new.order) (r.read_marking-read.new.outcomes) (r.read_marking-read.new.gaps))
+          r.in_default.is))
+          (λ i. (r.shared_slice_known-1.given i).fits) (arrays-readable ((r.read_marking-read.ensures.kept r.in_default.is)))),
+    ) in
     r.has_room.ensures ∙ ap (λ (points : ℕ). leb (length r.args.file.now) (length r.args.output.now) and leb points
-        (length r.args.moved.now)) points
+    (length r.args.moved.now)) points
 
 long : (j : After-judge_moved-verdict) → length j.args.log.now ≤ length (j.judge_moved-verdict.new.gaps)
 long j = omega (arith, logged-length j.args.log.now)
@@ -94,8 +97,8 @@ returns-then-not-has_room c =
     ap (λ x. gives x a.output.now a.moved.now) c.refused.ensures
     ∙ after-short (start_of a.starts.now) (logged c.args.log.now) (length a.log.now) a.file.now a.output.now a.moved.now
     (in_arrays (logged c.args.log.now) (c.read_marking-read.new.order) (c.read_marking-read.new.outcomes) (c.read_marking-read.new.gaps))
-        (holds (goal.at.returns-then-not-has_room c).In_default) c.has_room.result
-            (asked (goal.at.returns-then-not-has_room c).After-has_room) (c.if-not-has_room.true)
+    (holds (goal.at.returns-then-not-has_room c).In_default) c.has_room.result
+    (asked (goal.at.returns-then-not-has_room c).After-has_room) (c.if-not-has_room.true)
 
 pub judge_moved-verdict-requires : goal.judge_moved-verdict-requires
 judge_moved-verdict-requires c =
@@ -120,19 +123,22 @@ write_moved-requires c =
     let y = c.judge_moved-verdict.ensures.moved in
     let room =
     room-there (start_of a.starts.now) h (length a.log.now) a.file.now a.output.now a.moved.now
-        (in_arrays (logged c.args.log.now) (c.read_marking-read.new.order) (c.read_marking-read.new.outcomes)
-            (c.read_marking-read.new.gaps))
+    (in_arrays (logged c.args.log.now) (c.read_marking-read.new.order) (c.read_marking-read.new.outcomes)
+    (c.read_marking-read.new.gaps))
     (holds (goal.at.write_moved-requires c).In_default) c.has_room.result (asked (goal.at.write_moved-requires c).After-has_room)
-        (c.if-not-has_room.false) (size (goal.at.write_moved-requires c).In_default) in
+    (c.if-not-has_room.false) (size (goal.at.write_moved-requires c).In_default) in
     let few = moved-few (start_of a.starts.now) h (in_arrays (logged c.args.log.now) (c.read_marking-read.new.order)
-        (c.read_marking-read.new.outcomes) (c.read_marking-read.new.gaps))
-            (arrays-readable (kept (goal.at.write_moved-requires c).In_default)) in
+    (c.read_marking-read.new.outcomes) (c.read_marking-read.new.gaps))
+    (arrays-readable (kept (goal.at.write_moved-requires c).In_default)) in
     let list = ap length (listed-counted a.log.now (c.judge_moved-verdict.new.gaps) (c.judge_moved-verdict.new.moves)
-        (long (goal.at.write_moved-requires c).After-judge_moved-verdict) ∙ y.moved) in
+    (long (goal.at.write_moved-requires c).After-judge_moved-verdict) ∙ y.moved) in
     let part = length-take-le (length a.log.now) (c.judge_moved-verdict.new.gaps)
-        (long (goal.at.write_moved-requires c).After-judge_moved-verdict) in record {
-      begun_bound = (omega (arith, b, at-most-64 h c.requires), omega (arith, part, log-most a.log.now c.requires),
-          omega (arith, part, log-most a.log.now c.requires, table-length (goal.at.write_moved-requires c).After-judge_moved-verdict));
+    (long (goal.at.write_moved-requires c).After-judge_moved-verdict) in record {
+      begun_bound = (
+        omega (arith, b, at-most-64 h c.requires),
+        omega (arith, part, log-most a.log.now c.requires),
+        omega (arith, part, log-most a.log.now c.requires, table-length (goal.at.write_moved-requires c).After-judge_moved-verdict),
+      );
       gaps_in_bounds = bytes_fit a.log.now b y.kept (long (goal.at.write_moved-requires c).After-judge_moved-verdict) room;
       gaps_in_bounds_2 = omega (arith, list, few, room.entries);
     }
@@ -145,11 +151,11 @@ returns c =
     let y = c.judge_moved-verdict.ensures.moved in
     c.write_moved.ensures
     ∙ (after-judged (start_of a.starts.now) h (in_arrays (logged c.args.log.now) (c.read_marking-read.new.order)
-        (c.read_marking-read.new.outcomes) (c.read_marking-read.new.gaps)) _ a.output.now a.moved.now _ _ _
+    (c.read_marking-read.new.outcomes) (c.read_marking-read.new.gaps)) _ a.output.now a.moved.now _ _ _
     y.points c.judge_moved-verdict.ensures.value (bytes_same a.log.now b y.kept (long (goal.at.returns c).After-judge_moved-verdict))
     (listed-counted a.log.now (c.judge_moved-verdict.new.gaps) (c.judge_moved-verdict.new.moves)
-        (long (goal.at.returns c).After-judge_moved-verdict) ∙ y.moved)
+    (long (goal.at.returns c).After-judge_moved-verdict) ∙ y.moved)
     ∙ after-room (start_of a.starts.now) h (length a.log.now) a.file.now a.output.now a.moved.now
-        (in_arrays (logged c.args.log.now) (c.read_marking-read.new.order) (c.read_marking-read.new.outcomes)
-            (c.read_marking-read.new.gaps))
+    (in_arrays (logged c.args.log.now) (c.read_marking-read.new.order) (c.read_marking-read.new.outcomes)
+    (c.read_marking-read.new.gaps))
     (holds (goal.at.returns c).In_default) c.has_room.result (asked (goal.at.returns c).After-has_room) (c.if-not-has_room.false))

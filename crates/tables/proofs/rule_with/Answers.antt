@@ -24,11 +24,18 @@ returns-then-is_abort c = rw (no-commit (goal.at.returns-then-is_abort c).Else-i
 pub returns-then-asks_commit : goal.returns-then-asks_commit
 unfolding rule_with
 returns-then-asks_commit c =
-    rw (no-commit (goal.at.returns-then-asks_commit c).Else-is_commit, no_abort (goal.at.returns-then-asks_commit c).Else-is_abort,
-        sym c.asks_commit.ensures ∙ c.if-asks_commit.true)
+    rw (
+      no-commit (goal.at.returns-then-asks_commit c).Else-is_commit,
+      no_abort (goal.at.returns-then-asks_commit c).Else-is_abort,
+      sym c.asks_commit.ensures ∙ c.if-asks_commit.true,
+    )
 
 pub returns : goal.returns
 unfolding rule_with
 returns c =
-    rw (no-commit (goal.at.returns c).Else-is_commit, no_abort (goal.at.returns c).Else-is_abort, sym c.asks_commit.ensures
-        ∙ c.if-asks_commit.false)
+    rw (
+      no-commit (goal.at.returns c).Else-is_commit,
+      no_abort (goal.at.returns c).Else-is_abort,
+      sym c.asks_commit.ensures
+          ∙ c.if-asks_commit.false,
+    )

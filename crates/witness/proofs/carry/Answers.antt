@@ -19,17 +19,17 @@ returns-then-is_read c =
     let a = c.args in
     c.order_if.ensures ∙ ap₂ (λ (x y : ℕ). cond (eqb x y) a.order 0) c.seen_by-v.ensures c.wide.ensures
     ∙ kept_read a.starts.now a.facts.now a.count a.order a.e (not-begin (goal.at.returns-then-is_read c).Else-is_begin)
-        (sym c.is_read.ensures ∙ c.if-is_read.true)
+    (sym c.is_read.ensures ∙ c.if-is_read.true)
 
 pub returns-then-is_end : goal.returns-then-is_end
 returns-then-is_end c =
     let a = c.args in
     c.order_if-then-is_end.ensures ∙ ap (λ (x : Bool). cond x a.order 0) c.ends_so.ensures
     ∙ kept-end a.starts.now a.facts.now a.count a.order a.e (not-begin (goal.at.returns-then-is_end c).Else-is_begin)
-        (not-read (goal.at.returns-then-is_end c).Else-is_read) (sym c.is_end.ensures ∙ c.if-is_end.true)
+    (not-read (goal.at.returns-then-is_end c).Else-is_read) (sym c.is_end.ensures ∙ c.if-is_end.true)
 
 pub returns : goal.returns
 returns c =
     let a = c.args in
     kept-other a.starts.now a.facts.now a.count a.order a.e (not-begin (goal.at.returns c).Else-is_begin)
-        (not-read (goal.at.returns c).Else-is_read) (sym c.is_end.ensures ∙ c.if-is_end.false)
+    (not-read (goal.at.returns c).Else-is_read) (sym c.is_end.ensures ∙ c.if-is_end.false)

@@ -22,8 +22,11 @@ low c = omega (arith, below c, at-most-64 _ c.requires)
 stood : (c : After-index_of-s) → c.index_of-s.result ≡ status_number (status (logged c.args.log.now) c.loop-t.t)
 stood c = c.index_of-s.ensures
     ∙ (c.table-ranks.ensures.holds c.loop-t.t
-        ((let here : c.loop-t.t < 64 = omega (arith, (let here : c.loop-t.t < begins (logged c.args.log.now) = omega arith in here),
-            at-most-64 _ c.requires) in here)) ∙ status-table _ c.loop-t.t)
+    ((let here : c.loop-t.t < 64 = omega (
+      arith,
+      (let here : c.loop-t.t < begins (logged c.args.log.now) = omega arith in here),
+      at-most-64 _ c.requires,
+    ) in here)) ∙ status-table _ c.loop-t.t)
 
 its-number : (c : After-index_of-s) → c.index_of-s.result < 4
 its-number c = number-low _ c.loop-t.many c.loop-t.t c.index_of-s.result
@@ -33,12 +36,32 @@ pub loop-t-init : goal.loop-t-init
 loop-t-init c = counted-first (logged c.args.log.now)
 
 pub offset_bounds-ranks-t : goal.offset_bounds-ranks-t
-offset_bounds-ranks-t c = grind (arith, common_steps, at-most-64, status-table, counted-first, number-low, counts-few, counted-more,
-    counted-all, rules)
+offset_bounds-ranks-t c = grind (
+  arith,
+  common_steps,
+  at-most-64,
+  status-table,
+  counted-first,
+  number-low,
+  counts-few,
+  counted-more,
+  counted-all,
+  rules,
+)
 
 pub bounds-ranks-t : goal.bounds-ranks-t
-bounds-ranks-t c = grind (arith, common_steps, at-most-64, status-table, counted-first, number-low, counts-few, counted-more, counted-all,
-    rules)
+bounds-ranks-t c = grind (
+  arith,
+  common_steps,
+  at-most-64,
+  status-table,
+  counted-first,
+  number-low,
+  counts-few,
+  counted-more,
+  counted-all,
+  rules,
+)
 
 pub bounds-many-s : goal.bounds-many-s
 bounds-many-s c = its-number c
@@ -46,7 +69,7 @@ bounds-many-s c = its-number c
 pub overflow_add-many : goal.overflow_add-many
 overflow_add-many c =
     let few = counts-few _ c.loop-t.many c.loop-t.t c.index_of-s.result (below (goal.at.overflow_add-many c).In-loop-t) c.loop-t.invariant
-        (stood c) in
+    (stood c) in
     omega (arith, few, low (goal.at.overflow_add-many c).In-loop-t)
 
 pub bounds-many-s-in-loop-t : goal.bounds-many-s-in-loop-t

@@ -28,9 +28,11 @@ note-requires c =
     }
 
 pub loop-i-preserved : goal.loop-i-preserved
-loop-i-preserved c =
-    (search rules, slots-more c.args.fact (logged c.args.log.now) c.loop-i.i c.event_at-e.ensures
-        (low (goal.at.loop-i-preserved c).After-event_at-e) c.note.ensures c.loop-i.invariant.1)
+loop-i-preserved c = (
+  search rules,
+  slots-more c.args.fact (logged c.args.log.now) c.loop-i.i c.event_at-e.ensures
+      (low (goal.at.loop-i-preserved c).After-event_at-e) c.note.ensures c.loop-i.invariant.1,
+)
 
 pub returns : goal.returns
 returns c =

@@ -17,12 +17,13 @@ use Rattle.links.proofs.tables.tables_of.Goals.{After-event_at-e}
 
 -- the transaction of the event that was read has a slot, and its number fits
 fits : (c : After-event_at-e) → (c.event_at-e.result.transaction < 64) × (c.loop-i.i < 2048)
-fits c = (transaction-below c.args.log.now c.requires c.loop-i-test.true c.event_at-e.ensures,
-    omega (arith, log-most c.args.log.now c.requires))
+fits c = (
+  transaction-below c.args.log.now c.requires c.loop-i-test.true c.event_at-e.ensures,
+  omega (arith, log-most c.args.log.now c.requires),
+)
 
 pub loop-i-init : goal.loop-i-init
-loop-i-init c =
-    (
+loop-i-init c = (
   omega arith,
   record { ranked = slots-start _ _; ends = slots-start _ _; begins = slots-start _ _; writes = slots-start _ _; sets = sets-start _ },
 )

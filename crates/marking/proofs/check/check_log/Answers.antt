@@ -11,7 +11,7 @@ use Rattle.marking.proofs.check.check_log.Goals as goal
 -- the tables are as long as the log, and hold no point
 room : (n : ℕ) (log : List (List ℕ)) → length log ≤ n
     → (length log ≤ length (replicate {A = ℕ} n 0)) × (length log ≤ length (replicate {A = ℕ} n 65535))
-        × (length log ≤ length (replicate {A = ℕ} n 0))
+    × (length log ≤ length (replicate {A = ℕ} n 0))
 room n log l =
     let o = length-replicate {A = ℕ} n 0 in
     let g = length-replicate {A = ℕ} n 65535 in

@@ -16,14 +16,14 @@ unfolding verdict_answer
 returns-then-count-le-SHORT c =
     c.check_admitted.ensures
     ∙ behind c.args.edition c.args.starts.now (columns c.args.kinds.now c.args.transactions.now c.args.registers.now c.args.values.now
-        c.args.threads.now) c.args.count c.admit-checked.result _ _
+    c.args.threads.now) c.args.count c.admit-checked.result _ _
     c.admit-checked.ensures.value c.admit-checked.ensures.taken (λ m. omega arith) (λ (x : Checked). λ (h : List Event). after_columns
-        (start_of c.args.starts.now) h c.args.file.now x) (λ r g h. refl)
+    (start_of c.args.starts.now) h c.args.file.now x) (λ r g h. refl)
 
 pub check_admitted-requires-2 : goal.check_admitted-requires-2
 check_admitted-requires-2 c =
     entered c.args.edition c.args.starts.now (columns c.args.kinds.now c.args.transactions.now c.args.registers.now c.args.values.now
-        c.args.threads.now) c.args.count c.admit-checked-2.result _ _
+    c.args.threads.now) c.args.count c.admit-checked-2.result _ _
     c.admit-checked-2.ensures.value c.admit-checked-2.ensures.taken (λ m. m)
 
 pub returns : goal.returns
@@ -31,6 +31,6 @@ unfolding verdict_answer
 returns c =
     c.check_admitted-2.ensures
     ∙ behind c.args.edition c.args.starts.now (columns c.args.kinds.now c.args.transactions.now c.args.registers.now c.args.values.now
-        c.args.threads.now) c.args.count c.admit-checked-2.result _ _
+    c.args.threads.now) c.args.count c.admit-checked-2.result _ _
     c.admit-checked-2.ensures.value c.admit-checked-2.ensures.taken (λ m. m) (λ (x : Checked). λ (h : List Event). after_columns
-        (start_of c.args.starts.now) h c.args.file.now x) (λ r g h. refl)
+    (start_of c.args.starts.now) h c.args.file.now x) (λ r g h. refl)

@@ -28,11 +28,19 @@ returns-then-r-ne-HEAD_SIZE c =
 pub returns-then-u16_at-ne-EDITION : goal.returns-then-u16_at-ne-EDITION
 unfolding head_questions refusal ◌and◌
 returns-then-u16_at-ne-EDITION c =
-    rw (of-kind (goal.at.returns-then-u16_at-ne-EDITION c).Else-r-ne-MARKING_HEAD,
-        of_size (goal.at.returns-then-u16_at-ne-EDITION c).Else-r-ne-HEAD_SIZE, ← c.u16_at.ensures, ne_eqb _ _ c.if-u16_at-ne-EDITION.true)
+    rw (
+      of-kind (goal.at.returns-then-u16_at-ne-EDITION c).Else-r-ne-MARKING_HEAD,
+      of_size (goal.at.returns-then-u16_at-ne-EDITION c).Else-r-ne-HEAD_SIZE,
+      ← c.u16_at.ensures,
+      ne_eqb _ _ c.if-u16_at-ne-EDITION.true,
+    )
 
 pub returns : goal.returns
 unfolding head_questions refusal ◌and◌
 returns c =
-    rw (of-kind (goal.at.returns c).Else-r-ne-MARKING_HEAD, of_size (goal.at.returns c).Else-r-ne-HEAD_SIZE, ← c.u16_at.ensures,
-        eq-eqb _ _ c.if-u16_at-ne-EDITION.false)
+    rw (
+      of-kind (goal.at.returns c).Else-r-ne-MARKING_HEAD,
+      of_size (goal.at.returns c).Else-r-ne-HEAD_SIZE,
+      ← c.u16_at.ensures,
+      eq-eqb _ _ c.if-u16_at-ne-EDITION.false,
+    )

@@ -25,32 +25,50 @@ use Rattle.marking_reader.proofs.read.read_marking.Goals.{After-step_at-step, In
 
 answered : (c : After-step_at-step) (x : MarkingStep) → c.step_at-step.result ≡ x
     → (step_at (asked_by (logged c.args.log.now) (begins (logged c.args.log.now)) c.loop-t.used c.loop-t.filled c.loop-t.next)
-        (every (point_by (logged c.args.log.now) c.loop-t.gaps) (length (logged c.args.log.now))) (c.args.file.now) c.loop-t.at) ≡ x
+    (every (point_by (logged c.args.log.now) c.loop-t.gaps) (length (logged c.args.log.now))) (c.args.file.now) c.loop-t.at) ≡ x
 answered c x e = ap (λ (b : ℕ). step_at (asked_by (logged c.args.log.now) b c.loop-t.used c.loop-t.filled c.loop-t.next)
     (every (point_by (logged c.args.log.now) c.loop-t.gaps) (length (logged c.args.log.now))) (c.args.file.now) c.loop-t.at)
-        (sym c.requires.asking.count) ∙ (sym c.step_at-step.ensures ∙ e)
+    (sym c.requires.asking.count) ∙ (sym c.step_at-step.ensures ∙ e)
 
 placed : (c : In-Placed)
     → Placing c.loop-t.invariant.0 c.loop-t.invariant.1 c.in-Placed.t c.in-Placed.o c.in-Placed.end
 placed c = placing c.loop-t.invariant.0 c.loop-t.invariant.1 ((let here : (x : MarkingStep) → c.step_at-step.result ≡ x
     → (step_at (asked_by (logged c.args.log.now) (begins (logged c.args.log.now)) c.loop-t.used c.loop-t.filled c.loop-t.next)
-        (every (point_by (logged c.args.log.now) c.loop-t.gaps) (length (logged c.args.log.now))) (c.args.file.now) c.loop-t.at) ≡ x = λ x
-            e. ap (λ (b : ℕ). step_at (asked_by (logged c.args.log.now) b c.loop-t.used c.loop-t.filled c.loop-t.next)
-                (every (point_by (logged c.args.log.now) c.loop-t.gaps) (length (logged c.args.log.now))) (c.args.file.now) c.loop-t.at)
-                    (sym c.requires.asking.count) ∙ (sym c.step_at-step.ensures ∙ e) in here) _ c.in-Placed.is)
+    (every (point_by (logged c.args.log.now) c.loop-t.gaps) (length (logged c.args.log.now))) (c.args.file.now) c.loop-t.at) ≡ x = λ x
+    e. ap (λ (b : ℕ). step_at (asked_by (logged c.args.log.now) b c.loop-t.used c.loop-t.filled c.loop-t.next)
+    (every (point_by (logged c.args.log.now) c.loop-t.gaps) (length (logged c.args.log.now))) (c.args.file.now) c.loop-t.at)
+    (sym c.requires.asking.count) ∙ (sym c.step_at-step.ensures ∙ e) in here) _ c.in-Placed.is)
 
 pointed : (c : In-Pointed)
     → Pointing c.loop-t.invariant.0 c.loop-t.invariant.1 c.in-Pointed.e c.in-Pointed.g c.in-Pointed.end
 pointed c = pointing c.loop-t.invariant.0 c.loop-t.invariant.1 ((let here : (x : MarkingStep) → c.step_at-step.result ≡ x
     → (step_at (asked_by (logged c.args.log.now) (begins (logged c.args.log.now)) c.loop-t.used c.loop-t.filled c.loop-t.next)
-        (every (point_by (logged c.args.log.now) c.loop-t.gaps) (length (logged c.args.log.now))) (c.args.file.now) c.loop-t.at) ≡ x = λ x
-            e. ap (λ (b : ℕ). step_at (asked_by (logged c.args.log.now) b c.loop-t.used c.loop-t.filled c.loop-t.next)
-                (every (point_by (logged c.args.log.now) c.loop-t.gaps) (length (logged c.args.log.now))) (c.args.file.now) c.loop-t.at)
-                    (sym c.requires.asking.count) ∙ (sym c.step_at-step.ensures ∙ e) in here) _ c.in-Pointed.is)
+    (every (point_by (logged c.args.log.now) c.loop-t.gaps) (length (logged c.args.log.now))) (c.args.file.now) c.loop-t.at) ≡ x = λ x
+    e. ap (λ (b : ℕ). step_at (asked_by (logged c.args.log.now) b c.loop-t.used c.loop-t.filled c.loop-t.next)
+    (every (point_by (logged c.args.log.now) c.loop-t.gaps) (length (logged c.args.log.now))) (c.args.file.now) c.loop-t.at)
+    (sym c.requires.asking.count) ∙ (sym c.step_at-step.ensures ∙ e) in here) _ c.in-Pointed.is)
 
 pub returns-then-opens-ne0 : goal.returns-then-opens-ne0
-returns-then-opens-ne0 c = grind (arith, common_steps, numbered-some, readable-most, logged-length, at-most-64, opening-none, sound-start,
-    nothing-so, reached-first, opening-refused, says-no, placing, pointing, refusing, unfinished, finished, rules)
+returns-then-opens-ne0 c = grind (
+  arith,
+  common_steps,
+  numbered-some,
+  readable-most,
+  logged-length,
+  at-most-64,
+  opening-none,
+  sound-start,
+  nothing-so,
+  reached-first,
+  opening-refused,
+  says-no,
+  placing,
+  pointing,
+  refusing,
+  unfinished,
+  finished,
+  rules,
+)
 
 pub loop-t-init : goal.loop-t-init
 loop-t-init c =
@@ -76,13 +94,18 @@ bounds-used-i c = omega (arith, (placed (goal.at.bounds-used-i c).In-Placed).beg
 
 pub loop-t-smaller-in-Placed : goal.loop-t-smaller-in-Placed
 loop-t-smaller-in-Placed c =
-    omega (arith, (placed (goal.at.loop-t-smaller-in-Placed c).In-Placed).onward,
-        (placed (goal.at.loop-t-smaller-in-Placed c).In-Placed).within)
+    omega (
+      arith,
+      (placed (goal.at.loop-t-smaller-in-Placed c).In-Placed).onward,
+      (placed (goal.at.loop-t-smaller-in-Placed c).In-Placed).within,
+    )
 
 pub loop-t-preserved-in-Placed : goal.loop-t-preserved-in-Placed
-loop-t-preserved-in-Placed c =
-    ((placed (goal.at.loop-t-preserved-in-Placed c).In-Placed).comes, (placed (goal.at.loop-t-preserved-in-Placed c).In-Placed).holds,
-        c.loop-t.invariant.2)
+loop-t-preserved-in-Placed c = (
+  (placed (goal.at.loop-t-preserved-in-Placed c).In-Placed).comes,
+  (placed (goal.at.loop-t-preserved-in-Placed c).In-Placed).holds,
+  c.loop-t.invariant.2,
+)
 
 pub offset_bounds-gaps-e : goal.offset_bounds-gaps-e
 offset_bounds-gaps-e c = let l : c.in-Pointed.e < 2048 = (pointed c).inside in search rules
@@ -118,7 +141,7 @@ returns-in-Unfinished c =
 pub returns-in-Finished : goal.returns-in-Finished
 returns-in-Finished c =
     let all = finished c.loop-t.invariant.0 c.loop-t.invariant.1 (answered (goal.at.returns-in-Finished c).After-step_at-step _
-        c.in-Finished.is) in record {
+    c.in-Finished.is) in record {
       result_after = all.0;
       kept = all.1;
     }

@@ -16,18 +16,18 @@ returns-then-kind-eq-PLACE c =
     let a = c.args in
     c.place_step.ensures ∙ sym (body-place (let a = c.args in
     asked_by (logged a.log.now) a.begun a.used.now a.progress.filled a.progress.next) a.kind a.body.now a.end
-        (eq-eqb _ _ c.if-kind-eq-PLACE.true))
+    (eq-eqb _ _ c.if-kind-eq-PLACE.true))
 
 pub returns-then-kind-eq-POINT : goal.returns-then-kind-eq-POINT
 returns-then-kind-eq-POINT c =
     let a = c.args in
     c.point_step.ensures ∙ sym (body-point (let a = c.args in
     asked_by (logged a.log.now) a.begun a.used.now a.progress.filled a.progress.next) a.kind a.body.now a.end
-        (eq-eqb _ _ c.if-kind-eq-POINT.true))
+    (eq-eqb _ _ c.if-kind-eq-POINT.true))
 
 pub returns : goal.returns
 returns c =
     let a = c.args in
     sym (body-other (let a = c.args in
     asked_by (logged a.log.now) a.begun a.used.now a.progress.filled a.progress.next) a.kind a.body.now a.end
-        (ne_eqb _ _ c.if-kind-eq-PLACE.false) (ne_eqb _ _ c.if-kind-eq-POINT.false))
+    (ne_eqb _ _ c.if-kind-eq-PLACE.false) (ne_eqb _ _ c.if-kind-eq-POINT.false))

@@ -19,12 +19,12 @@ pub returns-then-not-every_pointed : goal.returns-then-not-every_pointed
 unfolding end_step end_questions refusal
 returns-then-not-every_pointed c =
     let q : (let h = logged c.args.log.now in every (point_by h c.args.gaps.now) (length h)) ≡ false = sym c.every_pointed.ensures
-        ∙ c.if-not-every_pointed.true in
+    ∙ c.if-not-every_pointed.true in
     rw (eq-eqb _ _ c.if-filled-begun.false, q)
 
 pub returns : goal.returns
 unfolding end_step end_questions refusal
 returns c =
     let q : (let h = logged c.args.log.now in every (point_by h c.args.gaps.now) (length h)) ≡ true = sym c.every_pointed.ensures
-        ∙ c.if-not-every_pointed.false in
+    ∙ c.if-not-every_pointed.false in
     rw (eq-eqb _ _ c.if-filled-begun.false, q)

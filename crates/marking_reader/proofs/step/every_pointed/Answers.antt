@@ -21,12 +21,12 @@ inside c = omega (arith, logged-length c.args.log.now)
 pub returns-then-not-is_pointed : goal.returns-then-not-is_pointed
 returns-then-not-is_pointed c =
     not-every (holds (goal.at.returns-then-not-is_pointed c).Start) c.loop-i.invariant
-        (inside (goal.at.returns-then-not-is_pointed c).In-loop-i) c.is_pointed.ensures (c.if-not-is_pointed.true)
+    (inside (goal.at.returns-then-not-is_pointed c).In-loop-i) c.is_pointed.ensures (c.if-not-is_pointed.true)
 
 pub loop-i-preserved : goal.loop-i-preserved
 loop-i-preserved c =
     passing-more (holds (goal.at.loop-i-preserved c).Start) c.loop-i.invariant (inside (goal.at.loop-i-preserved c).In-loop-i)
-        c.is_pointed.ensures (c.if-not-is_pointed.false)
+    c.is_pointed.ensures (c.if-not-is_pointed.false)
 
 pub returns : goal.returns
 returns c = every_one (holds (goal.at.returns c).Start) c.loop-i.invariant (omega (arith, logged-length c.args.log.now))

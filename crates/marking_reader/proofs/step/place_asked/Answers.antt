@@ -33,8 +33,12 @@ returns-then-used-i c =
 pub returns-then-o-ge2 : goal.returns-then-o-ge2
 unfolding place_questions refusal ◌and◌
 returns-then-o-ge2 c =
-    rw (unpointed (goal.at.returns-then-o-ge2 c).Else-next-ne0, known (goal.at.returns-then-o-ge2 c).Else-begun-i, c.if-used-i.false,
-        le-ltb _ _ c.if-o-ge2.true)
+    rw (
+      unpointed (goal.at.returns-then-o-ge2 c).Else-next-ne0,
+      known (goal.at.returns-then-o-ge2 c).Else-begun-i,
+      c.if-used-i.false,
+      le-ltb _ _ c.if-o-ge2.true,
+    )
 
 pub returns : goal.returns
 unfolding place_questions refusal ◌and◌

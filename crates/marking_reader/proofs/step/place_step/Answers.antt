@@ -20,7 +20,7 @@ returns-then-q-eq0 c =
     rw (eq-eqb _ _ c.if-body-ne-PLACE_SIZE.false, ← c.u16_at-t.ensures, ← c.u16_at-o.ensures)
     (unless-none (let a = c.args in
     refusal (place_questions a.begun a.next (get_or a.used.now (c.u16_at-t.result) false) (c.u16_at-t.result) (c.u16_at-o.result))) Refused
-        _ (place_none _ _ _ _ _ (sym c.if-q-eq0.true ∙ c.place_asked-q.ensures)))
+    _ (place_none _ _ _ _ _ (sym c.if-q-eq0.true ∙ c.place_asked-q.ensures)))
 
 pub returns : goal.returns
 unfolding place_step
@@ -28,4 +28,4 @@ returns c =
     rw (eq-eqb _ _ c.if-body-ne-PLACE_SIZE.false, ← c.u16_at-t.ensures, ← c.u16_at-o.ensures)
     (unless-some (let a = c.args in
     refusal (place_questions a.begun a.next (get_or a.used.now (c.u16_at-t.result) false) (c.u16_at-t.result) (c.u16_at-o.result))) Refused
-        (Placed (c.u16_at-t.result) (c.u16_at-o.result) c.args.end) _ c.if-q-eq0.false c.place_asked-q.ensures)
+    (Placed (c.u16_at-t.result) (c.u16_at-o.result) c.args.end) _ c.if-q-eq0.false c.place_asked-q.ensures)

@@ -24,7 +24,7 @@ pub returns-then-is_early : goal.returns-then-is_early
 unfolding point_questions refusal ◌and◌
 returns-then-is_early c =
     let q : (eqb c.args.progress.next 0 implies eqb c.args.progress.filled c.args.begun) ≡ false = not-true _ (sym c.is_early.ensures
-        ∙ c.if-is_early.true) in
+    ∙ c.if-is_early.true) in
     rw q
 
 pub returns-then-e-progress : goal.returns-then-e-progress
@@ -46,11 +46,19 @@ returns-then-not-is_store_read c =
 pub returns-then-begun-g : goal.returns-then-begun-g
 unfolding point_questions refusal ◌and◌
 returns-then-begun-g c =
-    rw (placed (goal.at.returns-then-begun-g c).Else-is_early, le-leb _ _ c.if-e-progress.false,
-        read (goal.at.returns-then-begun-g c).Else-not-is_store_read, lt-leb _ _ c.if-begun-g.true)
+    rw (
+      placed (goal.at.returns-then-begun-g c).Else-is_early,
+      le-leb _ _ c.if-e-progress.false,
+      read (goal.at.returns-then-begun-g c).Else-not-is_store_read,
+      lt-leb _ _ c.if-begun-g.true,
+    )
 
 pub returns : goal.returns
 unfolding point_questions refusal ◌and◌
 returns c =
-    rw (placed (goal.at.returns c).Else-is_early, le-leb _ _ c.if-e-progress.false, read (goal.at.returns c).Else-not-is_store_read,
-        le-leb _ _ c.if-begun-g.false)
+    rw (
+      placed (goal.at.returns c).Else-is_early,
+      le-leb _ _ c.if-e-progress.false,
+      read (goal.at.returns c).Else-not-is_store_read,
+      le-leb _ _ c.if-begun-g.false,
+    )

@@ -22,7 +22,7 @@ returns-then-q-eq0 c =
     (unless-none (let a = c.args in
     let read = is_store_read (logged a.log.now) (c.u32_at-e.result) in
     refusal (point_questions a.begun a.progress.next (eqb a.progress.filled a.begun) read (c.u32_at-e.result) (c.u16_at-g.result))) Refused
-        _ (point-none _ _ _ _ _ _ (sym c.if-q-eq0.true ∙ c.point_asked-q.ensures)))
+    _ (point-none _ _ _ _ _ _ (sym c.if-q-eq0.true ∙ c.point_asked-q.ensures)))
 
 pub returns : goal.returns
 unfolding point_step
@@ -31,4 +31,4 @@ returns c =
     (unless-some (let a = c.args in
     let read = is_store_read (logged a.log.now) (c.u32_at-e.result) in
     refusal (point_questions a.begun a.progress.next (eqb a.progress.filled a.begun) read (c.u32_at-e.result) (c.u16_at-g.result))) Refused
-        (Pointed (c.u32_at-e.result) (c.u16_at-g.result) c.args.end) _ c.if-q-eq0.false c.point_asked-q.ensures)
+    (Pointed (c.u32_at-e.result) (c.u16_at-g.result) c.args.end) _ c.if-q-eq0.false c.point_asked-q.ensures)

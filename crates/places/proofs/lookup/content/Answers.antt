@@ -37,7 +37,7 @@ returns-then-w-ne0 c =
     let l = c.loop-left in
     let a = c.args in
     ends_at (start_of a.starts.now) a.facts.now a.register (codes_of (l.left - 1) (l.rest / 32)) (l.rest % 32) c.write_of-w.result
-        c.write_of-w.ensures c.if-w-ne0.true
+    c.write_of-w.ensures c.if-w-ne0.true
     ∙ sym (split (goal.at.returns-then-w-ne0 c).After-write_of-w)
 
 pub loop-left-preserved : goal.loop-left-preserved

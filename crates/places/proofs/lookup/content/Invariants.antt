@@ -10,7 +10,7 @@ use Rattle.places.proofs.lookup.content.Given as goal
 abbrev pub invariant-loop-left : goal.invariant-loop-left
 invariant-loop-left l = Coded l.left l.rest
     × (held_after (start_of l.starts) l.facts l.register (codes_of l.filled l.placed) ≡ held_after (start_of l.starts) l.facts l.register
-        (codes_of l.left l.rest))
+    (codes_of l.left l.rest))
 
 abbrev pub decreases-loop-left : goal.decreases-loop-left
 decreases-loop-left l = l.left

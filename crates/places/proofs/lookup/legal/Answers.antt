@@ -13,7 +13,7 @@ pub legal_at-requires : goal.legal_at-requires
 legal_at-requires c =
     let at = c.loop-left in
     let member : bit_at c.lowest-r.result at.left ≡ 1 = lowest-member c.lowest-r.result at.left (omega (arith, at.invariant.1))
-        c.loop-left-test.true c.lowest-r.ensures in
+    c.loop-left-test.true c.lowest-r.ensures in
     record {
       coded = c.requires.coded;
       t_bound = c.requires.t_bound;

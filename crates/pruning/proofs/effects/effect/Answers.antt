@@ -70,10 +70,14 @@ loop-left-preserved c =
       passed-one (λ (k : ℕ). bit_at k set ≡ 1 → bit_or at.done c.effect_at-done.result ≡ 0 → Same a.facts.now a.x a.t k)
           r at.left c.without-left.result is_in c.without-left.ensures
           (λ h z. c.effect_at-done.ensures.untouched (or-none at.done c.effect_at-done.result z).1)
-              (λ k out h z. at.invariant.2 k out h (or-none at.done c.effect_at-done.result z).0),
+          (λ k out h z. at.invariant.2 k out h (or-none at.done c.effect_at-done.result z).0),
       λ z. from_one a.facts.now a.x a.t set at.done c.effect_at-done.result z at.invariant.3
-          (λ f. record { register = r; low = member-lt r at.left 32 is_in at.invariant.0; is_in = at.invariant.1 r is_in;
-              never = c.effect_at-done.ensures.spoilt f }),
+          (λ f. record {
+            register = r;
+            low = member-lt r at.left 32 is_in at.invariant.0;
+            is_in = at.invariant.1 r is_in;
+            never = c.effect_at-done.ensures.spoilt f;
+          }),
     )
   where
     from_one : (F : List (List ℕ)) (x t set d e : ℕ) → (bit_or d e % 4294967296 ≡ 0 → ⊥) → ((d % 4294967296 ≡ 0 → ⊥) → Spoilt F x t set)

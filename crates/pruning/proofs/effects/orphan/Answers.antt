@@ -21,8 +21,12 @@ returns-then-orphan_at c =
     let at = c.loop-left in
     let r = c.lowest-r.result in
     let is_in = lowest-member r at.left (omega (arith, at.invariant.0)) c.loop-left-test.true c.lowest-r.ensures in
-    λ e. record { register = r; low = member-lt r at.left 32 is_in at.invariant.0; is_read = at.invariant.1 r is_in;
-        lost = c.orphan_at.ensures c.if-orphan_at.true }
+    λ e. record {
+      register = r;
+      low = member-lt r at.left 32 is_in at.invariant.0;
+      is_read = at.invariant.1 r is_in;
+      lost = c.orphan_at.ensures c.if-orphan_at.true;
+    }
 
 pub without-left-requires : goal.without-left-requires
 without-left-requires c =

@@ -41,8 +41,13 @@ returns-then-orphan c =
     λ e. record {
       t = t;
       needed = c.loop-left.invariant.is_in t (is_in (goal.at.returns-then-orphan c).After-lowest-t);
-      orphan = record { register = found.register; low = found.low; is_read = member-and found.register (reads_of a.facts.now t) a.asked
-          read.0 known.0; lost = found.lost };
+      orphan = record {
+        register = found.register;
+        low = found.low;
+        is_read = member-and found.register (reads_of a.facts.now t) a.asked
+            read.0 known.0;
+        lost = found.lost;
+      };
     }
 
 pub without-left-requires : goal.without-left-requires
@@ -52,4 +57,4 @@ pub loop-left-preserved : goal.loop-left-preserved
 loop-left-preserved c =
     let at = c.loop-left in
     within-rest c.args.need at.left c.lowest-t.result c.without-left.result at.invariant
-        (is_in (goal.at.loop-left-preserved c).After-lowest-t) c.without-left.ensures
+    (is_in (goal.at.loop-left-preserved c).After-lowest-t) c.without-left.ensures

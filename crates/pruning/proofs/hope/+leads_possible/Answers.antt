@@ -47,7 +47,7 @@ leads-returns-then-orphaned t c =
     let a = c.args in
     let D = asking a.starts.now a.facts.now a.asked in
     λ u p l run. absurd (orphaned-run D c.place-next.result _ _ _ l (c.orphaned.ensures c.if-orphaned.true)
-        (committed-next D a.s a.need u p l a.t c.place-next.result c.place-next.ensures run))
+    (committed-next D a.s a.need u p l a.t c.place-next.result c.place-next.ensures run))
 
 pub leads-ready_after-after-requires : goal.leads-ready_after-after-requires
 leads-ready_after-after-requires t c =
@@ -59,8 +59,7 @@ leads-ready_after-after-requires t c =
 
 pub leads-possible-requires : goal.leads-possible-requires
 leads-possible-requires t c =
-    let a = c.args in
-    (
+    let a = c.args in (
       subst (λ (n : ℕ). ones c.place-next.result.unplaced * 2 + 1 < n) c.decreases
           (omega (arith, fewer a.s c.place-next.result a.t 1 c.requires.placeable c.place-next.ensures)),
       (
@@ -105,9 +104,10 @@ pub possible-leads-requires : goal.possible-leads-requires
 possible-leads-requires t c =
     let at = c.loop-left in
     let t' = c.lowest-t.result in
-    let is_in = asked t c in
-    (subst (λ (n : ℕ). ones c.args.s.unplaced * 2 < n) c.decreases (omega arith),
-        (record { sound = c.requires.sound; is_in = at.invariant.0.is_in t' is_in }, (c.requires.ready, c.requires.effects)))
+    let is_in = asked t c in (
+      subst (λ (n : ℕ). ones c.args.s.unplaced * 2 < n) c.decreases (omega arith),
+      (record { sound = c.requires.sound; is_in = at.invariant.0.is_in t' is_in }, (c.requires.ready, c.requires.effects)),
+    )
 
 pub possible-returns-then-leads : goal.possible-returns-then-leads
 possible-returns-then-leads t c = λ u p l a. refl

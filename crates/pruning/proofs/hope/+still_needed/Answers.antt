@@ -58,8 +58,10 @@ returns-then-other_than t c =
     let is_in = asked t (goal.at.returns-then-other_than t c).After-lowest-t in
     let need = c.args.need in
     let one = within-rest need need t' c.without.result (within-self need) (at.invariant.0.is_in t' is_in) c.without.ensures in
-    record { within = within-trans need c.without.result c.still_needed.result one c.still_needed.ensures.within;
-        stuck = c.still_needed.ensures.stuck }
+    record {
+      within = within-trans need c.without.result c.still_needed.result one c.still_needed.ensures.within;
+      stuck = c.still_needed.ensures.stuck;
+    }
 
 pub without-left-requires : goal.without-left-requires
 without-left-requires t c =

@@ -38,16 +38,16 @@ pub returns-then-bereft : goal.returns-then-bereft
 returns-then-bereft c =
     let a = c.args in
     λ e. orphaned-none (let a = c.args in asking a.starts.now a.facts.now a.asked) a.s a.candidates _ c.requires.sound
-        (all (goal.at.returns-then-bereft c).After-ready_among-ready)
+    (all (goal.at.returns-then-bereft c).After-ready_among-ready)
     (needs-of (let a = c.args in asking a.starts.now a.facts.now a.asked) a.s _ _ c.before_end-unready.ensures
-        (λ k h. xor-member k a.s.unplaced c.ready_among-ready.result (c.ready_among-ready.ensures.within.is_in k) h))
+    (λ k h. xor-member k a.s.unplaced c.ready_among-ready.result (c.ready_among-ready.ensures.within.is_in k) h))
     (c.bereft.ensures c.if-bereft.true)
 
 pub returns : goal.returns
 returns c =
     let a = c.args in
     hopeless (let a = c.args in asking a.starts.now a.facts.now a.asked) a.s a.candidates _ c.possible.result c.requires.sound
-        (all (goal.at.returns c).After-ready_among-ready)
+    (all (goal.at.returns c).After-ready_among-ready)
     (needs-of (let a = c.args in asking a.starts.now a.facts.now a.asked) a.s a.candidates _ c.before_end-need.ensures
-        (λ k h. rw (all (goal.at.returns c).After-ready_among-ready) at h))
+    (λ k h. rw (all (goal.at.returns c).After-ready_among-ready) at h))
     c.possible.ensures

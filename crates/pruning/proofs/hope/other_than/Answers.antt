@@ -15,7 +15,7 @@ unfolding other_than
 returns-then-facts-t-ne0 c =
     let set = after_of c.args.facts.now c.args.t in
     let some : none_in set (members c.args.need) ≡ false = none-in-members set c.args.need c.ranges.need.fits
-        ∙ ne_eqb _ _ c.if-facts-t-ne0.true in
+    ∙ ne_eqb _ _ c.if-facts-t-ne0.true in
     simp some
 
 pub returns : goal.returns
@@ -23,5 +23,5 @@ unfolding other_than
 returns c =
     let set = after_of c.args.facts.now c.args.t in
     let none : none_in set (members c.args.need) ≡ true = none-in-members set c.args.need c.ranges.need.fits
-        ∙ eq-eqb _ _ c.if-facts-t-ne0.false in
+    ∙ eq-eqb _ _ c.if-facts-t-ne0.false in
     simp none

@@ -48,6 +48,6 @@ loop-left-preserved c =
     let effect = c.requires.effects.at a.x t c.requires.x_bound (low (goal.at.loop-left-preserved c).After-lowest-t) in
     keeps_on (Renewed (legal_reads (asking a.starts.now a.facts.now a.asked)) (placed_of a.s) a.x a.ready) a.s.unplaced at.after at.left t
     c.still_ready-passes.result c.kept-after.result c.without-left.result at.invariant.0 at.invariant.1
-        (is_in (goal.at.loop-left-preserved c).After-lowest-t)
+    (is_in (goal.at.loop-left-preserved c).After-lowest-t)
     (λ h. c.still_ready-passes.ensures (stays a.starts.now a.facts.now a.asked (placed_of a.s) a.x a.ready t _ effect h))
     c.kept-after.ensures c.without-left.ensures

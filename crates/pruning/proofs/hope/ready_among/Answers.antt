@@ -41,7 +41,7 @@ loop-left-preserved c =
     let at = c.loop-left in
     let a = c.args in
     keeps_on (λ (k : ℕ). legal_reads (asking a.starts.now a.facts.now a.asked) (placed_of a.s) k ≡ true) a.s.unplaced at.ready at.left
-        c.lowest-t.result
+    c.lowest-t.result
     c.legal_reads.result c.kept-ready.result c.without-left.result at.invariant.0 at.invariant.1
-        (is_in (goal.at.loop-left-preserved c).After-lowest-t)
+    (is_in (goal.at.loop-left-preserved c).After-lowest-t)
     (λ h. c.legal_reads.ensures ∙ h) c.kept-ready.ensures c.without-left.ensures

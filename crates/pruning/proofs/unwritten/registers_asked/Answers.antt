@@ -15,6 +15,6 @@ loop-t-preserved c =
       omega arith,
       below_more _ at.t at.invariant.1
           (asked-same a.starts.now a.facts.now c.written_by_any-any.result at.t
-              (no_other a.facts.now a.writes.now c.written_by_any-any.result c.requires c.written_by_any-any.ensures) (omega arith)
+          (no_other a.facts.now a.writes.now c.written_by_any-any.result c.requires c.written_by_any-any.ensures) (omega arith)
           (sym c.legal_reads.ensures ∙ c.if-not-legal_reads.false)),
     )

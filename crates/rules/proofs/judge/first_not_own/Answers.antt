@@ -23,12 +23,12 @@ inside t = in-history t.args.log.now t.loop-i-test.true
 pub returns-then-not-own_right : goal.returns-then-not-own_right
 returns-then-not-own_right c =
     fails-here (holds (goal.at.returns-then-not-own_right c).Start) c.loop-i.invariant
-        (inside (goal.at.returns-then-not-own_right c).In-loop-i) c.own_right.ensures (c.if-not-own_right.true)
+    (inside (goal.at.returns-then-not-own_right c).In-loop-i) c.own_right.ensures (c.if-not-own_right.true)
 
 pub loop-i-preserved : goal.loop-i-preserved
 loop-i-preserved c =
     passing-more (holds (goal.at.loop-i-preserved c).Start) c.loop-i.invariant (inside (goal.at.loop-i-preserved c).In-loop-i)
-        c.own_right.ensures (c.if-not-own_right.false)
+    c.own_right.ensures (c.if-not-own_right.false)
 
 pub returns : goal.returns
 returns c =

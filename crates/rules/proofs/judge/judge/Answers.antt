@@ -30,5 +30,5 @@ returns c =
     ∙ (ap (λ (v : Verdict). and_then v (reads_verdict (start_of a.starts.now) (logged a.log.now) a.link.now
     c.writers_of-writers.result c.places_of-place.result a.gaps.now)) c.judge_places-placed.ensures
     ∙ verdict-parts c.requires.judgeable c.transactions_begun-begun.ensures c.places_of-place.ensures (start_of a.starts.now)
-        c.tables_of-tables.ensures
+    c.tables_of-tables.ensures
     c.writers_of-writers.ensures)

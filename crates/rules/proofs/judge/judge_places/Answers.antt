@@ -9,7 +9,7 @@ pub returns-then-t-begun : goal.returns-then-t-begun
 returns-then-t-begun c =
     c.broken_by.ensures
     ∙ sym (breaks-a (logged c.args.log.now) c.args.tables c.args.place.now c.args.outcomes.now c.args.begun c.rule_a-t.ensures
-        c.if-t-begun.true)
+    c.if-t-begun.true)
 
 pub returns-then-u-begun : goal.returns-then-u-begun
 returns-then-u-begun c =

@@ -28,9 +28,9 @@ unfolding reads_verdict
 returns-then-c-log c =
     c.broken_at.ensures
     ∙ sym (broken-here (logged c.args.log.now) C (own_right (logged c.args.log.now))
-        (tried (logged c.args.log.now) D (points (goal.at.returns-then-c-log c).Start D)
-            (tried (logged c.args.log.now) E (points (goal.at.returns-then-c-log c).Start E) Accepted)) c.first_not_own-c.ensures
-                (in-history c.args.log.now c.if-c-log.true))
+    (tried (logged c.args.log.now) D (points (goal.at.returns-then-c-log c).Start D)
+    (tried (logged c.args.log.now) E (points (goal.at.returns-then-c-log c).Start E) Accepted)) c.first_not_own-c.ensures
+    (in-history c.args.log.now c.if-c-log.true))
 
 pub returns-then-d-log : goal.returns-then-d-log
 unfolding reads_verdict

@@ -15,7 +15,7 @@ pub returns-then-not-pair_kept : goal.returns-then-not-pair_kept
 unfolding real_time_by
 returns-then-not-pair_kept c =
     not-every (holds (goal.at.returns-then-not-pair_kept c).Start) c.loop-t.invariant c.loop-t-test.true c.pair_kept.ensures
-        (c.if-not-pair_kept.true)
+    (c.if-not-pair_kept.true)
 
 pub returns : goal.returns
 unfolding real_time_by

@@ -14,7 +14,7 @@ holds s = outcome_by s.args.ranks.now s.args.place.now s.args.outcomes.now
 pub returns-then-not-outcome_kept : goal.returns-then-not-outcome_kept
 returns-then-not-outcome_kept c =
     fails-here (holds (goal.at.returns-then-not-outcome_kept c).Start) c.loop-t.invariant c.loop-t-test.true c.outcome_kept.ensures
-        (c.if-not-outcome_kept.true)
+    (c.if-not-outcome_kept.true)
 
 pub returns : goal.returns
 returns c = none-fails (holds (goal.at.returns c).Start) c.loop-t.invariant c.loop-t-test.false

@@ -14,7 +14,7 @@ holds s = real_time_by s.args.ended.now s.args.began.now s.args.place.now s.args
 pub returns-then-not-real_time_kept : goal.returns-then-not-real_time_kept
 returns-then-not-real_time_kept c =
     fails-here (holds (goal.at.returns-then-not-real_time_kept c).Start) c.loop-u.invariant c.loop-u-test.true c.real_time_kept.ensures
-        (c.if-not-real_time_kept.true)
+    (c.if-not-real_time_kept.true)
 
 pub returns : goal.returns
 returns c = none-fails (holds (goal.at.returns c).Start) c.loop-u.invariant c.loop-u-test.false

@@ -25,12 +25,12 @@ inside t = in-history t.args.log.now t.loop-i-test.true
 pub returns-then-not-holds_at : goal.returns-then-not-holds_at
 returns-then-not-holds_at c =
     fails-here (holds (goal.at.returns-then-not-holds_at c).Start) c.loop-i.invariant
-        (inside (goal.at.returns-then-not-holds_at c).In-loop-i) c.holds_at.ensures (c.if-not-holds_at.true)
+    (inside (goal.at.returns-then-not-holds_at c).In-loop-i) c.holds_at.ensures (c.if-not-holds_at.true)
 
 pub loop-i-preserved : goal.loop-i-preserved
 loop-i-preserved c =
     passing-more (holds (goal.at.loop-i-preserved c).Start) c.loop-i.invariant (inside (goal.at.loop-i-preserved c).In-loop-i)
-        c.holds_at.ensures (c.if-not-holds_at.false)
+    c.holds_at.ensures (c.if-not-holds_at.false)
 
 pub returns : goal.returns
 returns c =

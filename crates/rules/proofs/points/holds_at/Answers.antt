@@ -34,10 +34,10 @@ here p rule =
 
 rule-at : (p : After-index_of-g) {rule : Rule} → p.args.rule ≡ rule → {b : Bool} → b ≡ here p rule
     → b ≡ (point_rule (start_of p.args.starts.now) (logged p.args.log.now) p.args.link.now p.args.writers.now p.args.place.now
-        p.args.gaps.now p.args.rule p.args.i)
+    p.args.gaps.now p.args.rule p.args.i)
 rule-at p e t =
     point-here (start_of p.args.starts.now) (logged p.args.log.now) p.args.link.now p.args.writers.now p.args.place.now p.args.gaps.now
-        p.args.i p.args.rule
+    p.args.i p.args.rule
     p.if-gap.false p.event_at-e.ensures (p.index_of-own.ensures ∙ p.place_at.ensures) p.index_of-g.ensures
     (t ∙ ap (here p) (sym e))
 
@@ -57,17 +57,21 @@ pub no_writer_between-requires : goal.no_writer_between-requires
 no_writer_between-requires c =
     record {
       walkable = c.requires.pointable.walk;
-      own_bound = (own-low (goal.at.no_writer_between-requires c).After-index_of-g,
-          gap-low (goal.at.no_writer_between-requires c).After-index_of-g,
-              register-fits (goal.at.no_writer_between-requires c).After-index_of-g);
+      own_bound = (
+        own-low (goal.at.no_writer_between-requires c).After-index_of-g,
+        gap-low (goal.at.no_writer_between-requires c).After-index_of-g,
+        register-fits (goal.at.no_writer_between-requires c).After-index_of-g,
+      );
     }
 
 pub value_at_gap-requires : goal.value_at_gap-requires
 value_at_gap-requires c =
     record {
       walkable = c.requires.pointable.walk;
-      g_bound = (gap-low (goal.at.value_at_gap-requires c).After-index_of-g,
-          register-fits (goal.at.value_at_gap-requires c).After-index_of-g);
+      g_bound = (
+        gap-low (goal.at.value_at_gap-requires c).After-index_of-g,
+        register-fits (goal.at.value_at_gap-requires c).After-index_of-g,
+      );
     }
 
 pub returns-in-D : goal.returns-in-D

@@ -12,7 +12,7 @@ abbrev pub invariant-loop-i : goal.invariant-loop-i
 invariant-loop-i l =
     (l.i ≤ length l.log) × (length l.gaps ≡ length l.initial.gaps)
     × Front 0 (gap_by (logged l.log) l.place l.moves l.initial.gaps) l.i l.gaps
-        × ((k : ℕ) → l.i ≤ k → get_or l.gaps k 0 ≡ get_or l.initial.gaps k 0)
+    × ((k : ℕ) → l.i ≤ k → get_or l.gaps k 0 ≡ get_or l.initial.gaps k 0)
 
 abbrev pub decreases-loop-i : goal.decreases-loop-i
 decreases-loop-i l = length l.log - l.i

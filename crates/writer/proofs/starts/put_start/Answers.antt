@@ -16,7 +16,7 @@ room : (c : Else-value-eq0) → c.args.at + 10 ≤ length c.args.out.now
 room c =
     let a = c.args in
     let e : length (start_record a.register a.value) ≡ 10 = ap (λ (l : List ℕ). length l)
-        (whole-record a.register a.value c.if-value-eq0.false) in
+    (whole-record a.register a.value c.if-value-eq0.false) in
     rw e at c.requires
 
 pub returns : goal.returns

@@ -32,8 +32,13 @@ pub put_start-requires : goal.put_start-requires
 unfolding start_of
 put_start-requires c =
     let l = c.loop-r in
-    omega (arith, l.invariant.1, room (goal.at.put_start-requires c).Start l.r c.loop-r-test.true, long (goal.at.put_start-requires c).Start
-        l.r l.out l.invariant.0 l.invariant.2)
+    omega (
+      arith,
+      l.invariant.1,
+      room (goal.at.put_start-requires c).Start l.r c.loop-r-test.true,
+      long (goal.at.put_start-requires c).Start
+          l.r l.out l.invariant.0 l.invariant.2,
+    )
 
 pub loop-r-preserved : goal.loop-r-preserved
 unfolding start_of
@@ -48,5 +53,5 @@ loop-r-preserved c =
       c.put_start.ensures
           ∙ (ap (λ (o : List ℕ). placed o l.at d) l.invariant.2
           ∙ (placed-more c.args.out.now 6 (starts_to v l.r) d l.at (sym l.invariant.1) (omega arith)
-              ∙ ap (placed c.args.out.now 6) (sym m))),
+          ∙ ap (placed c.args.out.now 6) (sym m))),
     )
