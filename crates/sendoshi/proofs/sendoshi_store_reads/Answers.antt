@@ -1,0 +1,32 @@
+-- `sendoshi::sendoshi_store_reads` meets its contract.
+-- Assumes nothing.
+use native.Mathlib.Omega.{arith}
+use Rattle.event_log.specs.Columns.{columns}
+use Rattle.counts.specs.Answer.{store_reads_answer, count_said}
+use Rattle.codes.specs.Decoded.{one_value, never}
+use Rattle.codes.proofs.CodeLaws.{Decodable, answer-known, call-coded, call-decoded}
+use Rattle.sendoshi.specs.Calls.{store_reads_call}
+use Rattle.sendoshi.proofs.Bounds.{store-reads-decodable}
+use Rattle.sendoshi.proofs.sendoshi_store_reads.Goals as goal
+use Rattle.sendoshi.proofs.sendoshi_store_reads.Goals.{Start}
+
+decodable : (s : Start)
+    → Decodable one_value never
+    (count_said (store_reads_answer s.args.edition s.args.starts.now (columns s.args.kinds.now s.args.transactions.now
+    s.args.registers.now s.args.values.now s.args.threads.now) s.args.count))
+decodable s = store-reads-decodable s.args.edition s.args.starts.now (columns s.args.kinds.now s.args.transactions.now s.args.registers.now
+    s.args.values.now s.args.threads.now) s.args.count (omega arith)
+
+pub count_code-requires : goal.count_code-requires
+count_code-requires c =
+    answer-known count_said one_value never c.count_store_reads-answer.ensures (decodable (goal.at.count_code-requires c).Start)
+
+pub returns : goal.returns
+unfolding store_reads_call
+returns c =
+    let g = c.count_store_reads-answer.ensures in
+    let d = decodable (goal.at.returns c).Start in
+    record {
+      value = call-coded count_said one_value never g d c.count_code.ensures;
+      result_value = call-decoded count_said one_value never g d c.count_code.ensures;
+    }
