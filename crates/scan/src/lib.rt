@@ -56,6 +56,9 @@ fn faulted(event: usize, e: Event) -> Scanned
     }
 }
 
+// What the witness answers where it keeps no order.
+const UNKEPT: u64 = 0;
+
 // The prefixes of a log of at most ten transactions, by rising length: the facts grow by one event each time, and n counts the
 // transactions begun. The order that justifies a prefix is kept for the next where it justifies that too; only where it does not is an
 // order searched for anew. A quiet event asks nothing of the order and changes none of these.
@@ -79,7 +82,7 @@ fn scan_prefixes(starts: &[u32; 32], log: &[Row]) -> Scanned
         s = s.step(&mut facts, e);
         n = begun_after(n, e);
         order = kept;
-        if kept == 0 {
+        if kept == UNKEPT {
             order = lowest::complete(starts, s, &facts, n);
         }
         if order == 0 {

@@ -10,7 +10,7 @@ use Rattle.lowest.proofs.GoodHistory.{tabled}
 use Rattle.witness.proofs.WitnessLaws.{judged-kept, judged-anew}
 use Rattle.scan.proofs.ScanLaws.{scanning-none, few-before, may-carry, few-begun, end-asked, scanning-more, scanning-quiet, scanning-fault, scanning-end}
 use Rattle.scan.proofs.scan_prefixes.Goals as goal
-use Rattle.scan.proofs.scan_prefixes.Goals.{then-kept-eq0, else-kept-eq0, After-event_at-e}
+use Rattle.scan.proofs.scan_prefixes.Goals.{then-kept-eq-UNKEPT, else-kept-eq-UNKEPT, After-event_at-e}
 
 -- the event is one of the history
 inside : (a : After-event_at-e) → a.loop-i.i < length (logged a.args.log.now)
@@ -62,20 +62,20 @@ returns-then-order-eq0 c =
     ∙ scanning-fault c.args.starts.now (logged c.args.log.now) c.requires c.loop-i.i
     (inside (goal.at.returns-then-order-eq0 c).After-event_at-e) c.event_at-e.result c.event_at-e.ensures
     (tables_by c.loop-i.s c.loop-i.facts) c.loop-i.n c.loop-i.order c.loop-i.invariant
-    _ c.begun_after-n.result c.step-s.ensures c.begun_after-n.ensures c.carry-kept.result c.if-kept-eq0.order c.carry-kept.ensures
-    (elim c.if-kept-eq0.branch [
-      | then-kept-eq0 w ↦ judged-anew _ _ _ _ _ w.if-kept-eq0.true w.order-is w.complete-order.ensures
-      | else-kept-eq0 w ↦ judged-kept _ _ _ _ w.if-kept-eq0.false w.order-is
+    _ c.begun_after-n.result c.step-s.ensures c.begun_after-n.ensures c.carry-kept.result c.if-kept-eq-UNKEPT.order c.carry-kept.ensures
+    (elim c.if-kept-eq-UNKEPT.branch [
+      | then-kept-eq-UNKEPT w ↦ judged-anew _ _ _ _ _ w.if-kept-eq-UNKEPT.true w.order-is w.complete-order.ensures
+      | else-kept-eq-UNKEPT w ↦ judged-kept _ _ _ _ w.if-kept-eq-UNKEPT.false w.order-is
     ]) c.if-order-eq0.true
 
 pub loop-i-preserved : goal.loop-i-preserved
 loop-i-preserved c =
     scanning-more c.args.starts.now (logged c.args.log.now) c.requires c.loop-i.i (inside (goal.at.loop-i-preserved c).After-event_at-e)
     c.event_at-e.result c.event_at-e.ensures (tables_by c.loop-i.s c.loop-i.facts) c.loop-i.n c.loop-i.order c.loop-i.invariant
-    _ c.begun_after-n.result c.step-s.ensures c.begun_after-n.ensures c.carry-kept.result c.if-kept-eq0.order c.carry-kept.ensures
-    (elim c.if-kept-eq0.branch [
-      | then-kept-eq0 w ↦ judged-anew _ _ _ _ _ w.if-kept-eq0.true w.order-is w.complete-order.ensures
-      | else-kept-eq0 w ↦ judged-kept _ _ _ _ w.if-kept-eq0.false w.order-is
+    _ c.begun_after-n.result c.step-s.ensures c.begun_after-n.ensures c.carry-kept.result c.if-kept-eq-UNKEPT.order c.carry-kept.ensures
+    (elim c.if-kept-eq-UNKEPT.branch [
+      | then-kept-eq-UNKEPT w ↦ judged-anew _ _ _ _ _ w.if-kept-eq-UNKEPT.true w.order-is w.complete-order.ensures
+      | else-kept-eq-UNKEPT w ↦ judged-kept _ _ _ _ w.if-kept-eq-UNKEPT.false w.order-is
     ]) c.if-order-eq0.false
 
 pub returns : goal.returns
