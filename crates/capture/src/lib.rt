@@ -6,20 +6,21 @@
 // short.
 #![tactic(auto)]
 
-ghost use Rattle.std.specs.Prelude.{◌≡◌, true, length};
+ghost use Rattle.std.specs.Prelude.{◌≡◌, ◌≤◌, true, length};
 ghost use Rattle.events.specs.Questions.{readable};
-ghost use Rattle.event_log.specs.Rows.{logged};
 ghost use Rattle.event_log.specs.Starts.{start_of};
 ghost use Rattle.reader.specs.Reading.{RowsFor};
 ghost use Rattle.capture.specs.Report.{counts_of, judged, report_on};
 
 use counts::tally::{Tally, tally_of};
-use event_log::rows::{BLANK, MOST, Row, SHORT, transactions_begun};
+use event_log::rows::{BLANK, MOST, SHORT, transactions_begun};
+use events::event::Event;
 use events::refusal::Refusal;
-use marking::check::{Ruling, check_log};
-use reader::{Reading, SHORT_FILE, read_log};
+use marking::check::check_log;
+use opacity::verdict::{Scanned, Verdict};
+use reader::{SHORT_FILE, read_log};
 use reads::count_store_reads;
-use scan::{Scanning, scan_log};
+use scan::scan_log;
 
 // The report's first line: events, transactions begun and store reads.
 #[derive(Clone, Copy)]
@@ -29,23 +30,20 @@ pub struct Counts {
     pub reads: usize,
 }
 
-// The report: the history is refused with its byte and nothing more is said; or the four lines, the third
-// of which is the checker's ruling and the last the scan's answer.
+// The report on a history that is not refused: the four lines, the third of which is the checker's ruling and
+// the last the scan's answer.
 #[derive(Clone, Copy)]
-pub enum Report {
-    Refused(Refusal),
-    Judged {
-        counts: Counts,
-        tally: Tally,
-        marking: Ruling,
-        opacity: Scanning,
-    },
+pub struct Report {
+    pub counts: Counts,
+    pub tally: Tally,
+    pub marking: Result<Verdict, Refusal>,
+    pub opacity: Result<Scanned, Refusal>,
 }
 
 // Counts what the first line says of a log.
-fn counts_of(log: &[Row]) -> Counts
-    requires { readable (logged log.now) ≡ true }
-    ensures { result ≡ counts_of (logged log.now) }
+fn counts_of(log: &[Event]) -> Counts
+    requires { readable log.now ≡ true }
+    ensures { result ≡ counts_of log.now }
 {
     let begun = transactions_begun(log);
     let reads = count_store_reads(log);
@@ -57,15 +55,15 @@ fn counts_of(log: &[Row]) -> Counts
 }
 
 // Judges a log and a marking file, for the four lines.
-fn judge_log(starts: &[u32; 32], log: &[Row], file: &[u8]) -> Report
-    requires { readable (logged log.now) ≡ true }
-    ensures { result ≡ judged (start_of starts.now) (logged log.now) file.now }
+fn judge_log(starts: &[u32; 32], log: &[Event], file: &[u8]) -> Report
+    requires { readable log.now ≡ true }
+    ensures { result ≡ judged (start_of starts.now) log.now file.now }
 {
     let counts = counts_of(log);
     let tally = tally_of(log);
     let marking = check_log(starts, log, file);
     let opacity = scan_log(starts, log);
-    Report::Judged {
+    Report {
         counts,
         tally,
         marking,
@@ -73,28 +71,25 @@ fn judge_log(starts: &[u32; 32], log: &[Row], file: &[u8]) -> Report
     }
 }
 
-// Reports by way of rows that serve the history file; what they held makes no difference.
-fn report_in(history: &[u8], marking: &[u8], rows: &mut [Row]) -> Report
-    requires { RowsFor (length history.now) (length rows.old) }
+// Reports by way of so many rows, which serve the history file.
+fn report_by<const N: usize>(history: &[u8], marking: &[u8]) -> Result<Report, Refusal>
+    requires rows { RowsFor (length history.now) N }
+    requires few { N ≤ 2048 }
     ensures { result ≡ report_on history.now marking.now }
 {
-    let read = read_log(history, rows);
-    let starts = read.starts;
-    let reading = read.reading;
-    match reading {
-        Reading::Read(count) => judge_log(&starts, &rows[..count], marking),
-        Reading::Refused(refusal) => Report::Refused(refusal),
-    }
+    let mut rows = [BLANK; N];
+    let read = read_log(history, &mut rows)?;
+    Ok(judge_log(&read.starts, &rows[..read.count], marking))
 }
 
-// Reports on a history file and a marking file. A short file does not pay for the rows of a long one.
-pub fn report_on(history: &[u8], marking: &[u8]) -> Report
+// Reports on a history file and a marking file, or refuses the history with its question and byte. A short file
+// does not pay for the rows of a long one.
+pub fn report_on(history: &[u8], marking: &[u8]) -> Result<Report, Refusal>
     ensures { result ≡ report_on history.now marking.now }
 {
     if history.len() <= SHORT_FILE {
-        let mut few = [BLANK; SHORT];
-        return report_in(history, marking, &mut few);
+        report_by::<SHORT>(history, marking)
+    } else {
+        report_by::<MOST>(history, marking)
     }
-    let mut rows = [BLANK; MOST];
-    report_in(history, marking, &mut rows)
 }

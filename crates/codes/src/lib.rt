@@ -6,8 +6,8 @@
 ghost use Rattle.std.specs.Prelude.{◌≡◌, ◌+◌, ◌≤◌};
 ghost use Rattle.events.specs.Said.{broken};
 ghost use Rattle.opacity.specs.Marking.{rule_number};
+ghost use Rattle.opacity.specs.Scan.{cause_number};
 ghost use Rattle.reader.specs.Reading.{said as read_said};
-ghost use Rattle.writer.specs.Writing.{said as written_said};
 ghost use Rattle.finder.specs.Answer.{said as found_said};
 ghost use Rattle.scan.specs.Answer.{scanned_said, said as scan_said};
 ghost use Rattle.marking.specs.Answer.{verdict_said, said as check_said};
@@ -17,31 +17,25 @@ ghost use Rattle.notes.specs.Notes.{said as note_said};
 ghost use Rattle.codes.specs.Codes.{most, packed, halves, pair, coded, Halves, Known, Quarters};
 
 use counts::tally::Tally;
-use counts::{Counting, Tallying};
 use events::refusal::Refusal;
-use finder::Finding;
-use marking::check::Checking;
-use notes::NextNote;
-use opacity::verdict::{Rule, Scanned, Verdict};
-use reader::{HistoryRead, Reading};
-use scan::Scanning;
+use marking::check::Unchecked;
+use notes::Note;
+use opacity::verdict::{Cause, Rule, Scanned, Verdict};
+use reader::HistoryRead;
 use straighten::Straightening;
-use writer::Writing;
 
 // What a code is multiplied by.
 const SHIFT: u64 = 4294967296;
 
-// The codes that are no question's: none found, before a cause, and before a rule.
+// The code of none found, which is no question's.
 const NONE: u32 = 100;
-
-const CAUSES: u32 = 100;
 
 // Packs a code and a place into one number.
 fn pack(code: u32, place: usize) -> u64
     requires { place ≤ most }
     ensures { result ≡ packed code place }
 {
-    (code as u64) * SHIFT + (place as u64)
+    u64::from(code) * SHIFT + place as u64
 }
 
 // Joins two numbers in one place.
@@ -57,7 +51,7 @@ fn refusal_code(refusal: Refusal) -> u64
     requires { refusal.at ≤ most }
     ensures { result ≡ packed refusal.question refusal.at }
 {
-    pack(refusal.question as u32, refusal.at)
+    pack(u32::from(refusal.question), refusal.at)
 }
 
 // Gives the code of a rule.
@@ -82,38 +76,58 @@ fn broken_code(rule: Rule, event: usize, transaction: usize) -> u64
 }
 
 // Codes the reader's answer: the place of a history holds its edition and its event count.
-pub fn read_code(answer: HistoryRead) -> u64
+pub fn read_code(answer: Result<HistoryRead, Refusal>) -> u64
     requires { Known (read_said answer) }
     ensures { result ≡ coded (read_said answer) }
 {
-    let reading = answer.reading;
-    let edition = answer.edition as usize;
-    match reading {
-        Reading::Read(count) => pack(0, join(edition, count)),
-        Reading::Refused(refusal) => refusal_code(refusal),
+    match answer {
+        Ok(read) => pack(0, join(usize::from(read.edition), read.count)),
+        Err(refusal) => refusal_code(refusal),
     }
 }
 
-// Codes the writer's answer.
-pub fn written_code(answer: Writing) -> u64
-    requires { Known (written_said answer) }
-    ensures { result ≡ coded (written_said answer) }
+// Codes an answer of one number, the length of what was written or a count.
+pub fn number_code(answer: Result<usize, Refusal>) -> u64
+    requires { Known (count_said answer) }
+    ensures { result ≡ coded (count_said answer) }
 {
     match answer {
-        Writing::Written(length) => pack(0, length),
-        Writing::Refused(refusal) => refusal_code(refusal),
+        Ok(number) => pack(0, number),
+        Err(refusal) => refusal_code(refusal),
+    }
+}
+
+// Codes what the finder found: the length of a marking, or none.
+fn lowest_code(found: Option<usize>) -> u64
+    requires { Known (found_said (Ok found)) }
+    ensures { result ≡ coded (found_said (Ok found)) }
+{
+    match found {
+        Some(length) => pack(0, length),
+        None => pack(NONE, 0),
     }
 }
 
 // Codes the finder's answer.
-pub fn found_code(answer: Finding) -> u64
+pub fn found_code(answer: Result<Option<usize>, Refusal>) -> u64
     requires { Known (found_said answer) }
     ensures { result ≡ coded (found_said answer) }
 {
     match answer {
-        Finding::Marking(length) => pack(0, length),
-        Finding::None => pack(NONE, 0),
-        Finding::Refused(refusal) => refusal_code(refusal),
+        Ok(found) => lowest_code(found),
+        Err(refusal) => refusal_code(refusal),
+    }
+}
+
+// Gives the code of a cause.
+fn cause_code(cause: Cause) -> u32
+    ensures { result ≡ 100 + cause_number cause }
+{
+    match cause {
+        Cause::Read => 101,
+        Cause::Commit => 102,
+        Cause::Abort => 103,
+        Cause::Other => 104,
     }
 }
 
@@ -123,19 +137,19 @@ fn scanned_code(scanned: Scanned) -> u64
     ensures { result ≡ coded (scanned_said scanned) }
 {
     match scanned {
-        Scanned::Opaque => pack(0, 0),
-        Scanned::Faulted { event, cause } => pack(CAUSES + cause, event),
+        Ok(()) => pack(0, 0),
+        Err(fault) => pack(cause_code(fault.cause), fault.event),
     }
 }
 
 // Codes the scan's answer.
-pub fn scan_code(answer: Scanning) -> u64
+pub fn scan_code(answer: Result<Scanned, Refusal>) -> u64
     requires { Known (scan_said answer) }
     ensures { result ≡ coded (scan_said answer) }
 {
     match answer {
-        Scanning::Scanned(scanned) => scanned_code(scanned),
-        Scanning::Refused(refusal) => refusal_code(refusal),
+        Ok(scanned) => scanned_code(scanned),
+        Err(refusal) => refusal_code(refusal),
     }
 }
 
@@ -154,15 +168,25 @@ fn verdict_code(verdict: Verdict) -> u64
     }
 }
 
+// Codes the question that no rule was reached for, about the history or about the marking.
+fn unchecked_code(unchecked: Unchecked) -> u64
+    requires { Known (check_said (Err unchecked)) }
+    ensures { result ≡ coded (check_said (Err unchecked)) }
+{
+    match unchecked {
+        Unchecked::HistoryRefused(refusal) => refusal_code(refusal),
+        Unchecked::MarkingRefused(refusal) => refusal_code(refusal),
+    }
+}
+
 // Codes the checker's answer.
-pub fn check_code(answer: Checking) -> u64
+pub fn check_code(answer: Result<Verdict, Unchecked>) -> u64
     requires { Known (check_said answer) }
     ensures { result ≡ coded (check_said answer) }
 {
     match answer {
-        Checking::Ruled(verdict) => verdict_code(verdict),
-        Checking::HistoryRefused(refusal) => refusal_code(refusal),
-        Checking::MarkingRefused(refusal) => refusal_code(refusal),
+        Ok(verdict) => verdict_code(verdict),
+        Err(unchecked) => unchecked_code(unchecked),
     }
 }
 
@@ -183,17 +207,6 @@ pub fn straighten_code(answer: Straightening) -> u64
     }
 }
 
-// Codes the answer of a count.
-pub fn count_code(answer: Counting) -> u64
-    requires { Known (count_said answer) }
-    ensures { result ≡ coded (count_said answer) }
-{
-    match answer {
-        Counting::Counted(number) => pack(0, number),
-        Counting::Refused(refusal) => refusal_code(refusal),
-    }
-}
-
 // Joins the four numbers of a tally in one place.
 fn tally_place(tally: Tally) -> usize
     requires { Quarters tally.committed tally.aborted tally.pending tally.live }
@@ -206,22 +219,23 @@ fn tally_place(tally: Tally) -> usize
 }
 
 // Codes the answer of the tally.
-pub fn tally_code(answer: Tallying) -> u64
+pub fn tally_code(answer: Result<Tally, Refusal>) -> u64
     requires { Known (tally_said answer) }
     ensures { result ≡ coded (tally_said answer) }
 {
     match answer {
-        Tallying::Tallied(tally) => pack(0, tally_place(tally)),
-        Tallying::Refused(refusal) => refusal_code(refusal),
+        Ok(tally) => pack(0, tally_place(tally)),
+        Err(refusal) => refusal_code(refusal),
     }
 }
 
 // Codes the answer of the next note, whose numbers are told beside the code.
-pub fn note_code(answer: NextNote) -> u64
+pub fn note_code(answer: Option<Note>) -> u64
     ensures { result ≡ coded (note_said answer) }
 {
-    match answer {
-        NextNote::Next(_) => pack(0, 0),
-        NextNote::None => pack(NONE, 0),
+    if let Some(_) = answer {
+        pack(0, 0)
+    } else {
+        pack(NONE, 0)
     }
 }

@@ -11,7 +11,7 @@ use mathlib.Core.List.{List, [], ◌∷◌, ◌++◌}
 use lib.ListN.{length, take}
 use lib.Seq.{take-suc, take_all}
 use borrow.Author.Tests.{ne_eqb}
-use Rattle.lists.specs.Lists.{◌and◌, ◌or◌, any, keep}
+use Rattle.lists.specs.Lists.{◌or◌, any, keep}
 use Rattle.events.specs.declared.event.Event.{Event}
 use Rattle.events.specs.Events.{no_event, event_at, is_commit, is_abort, is_end, by, has, ended, begins}
 use Rattle.events.specs.Questions.{readable}

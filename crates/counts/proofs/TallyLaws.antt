@@ -1,82 +1,128 @@
 -- How far the tally has come after the first t transactions: the four counts say how many of them stand so.
 -- Assumes nothing.
 use Prim.Native.Nat.{ℕ, ◌+◌, ◌≤◌, ◌<◌}
-use native.Mathlib.Nat.{le_refl}
 use native.Mathlib.Omega.{arith}
-use mathlib.Core.Path.{◌≡◌, refl, sym, ap, ◌∙◌}
-use mathlib.Core.Bool.{Bool, true, false}
+use mathlib.Core.Path.{◌≡◌, refl, ap, ◌∙◌}
+use mathlib.Core.Bool.{true}
 use mathlib.Core.List.{List}
 use lib.Dec.{eqb}
-use lib.ListN.{length, get_or, set, replicate, length-set, length-replicate, get_or-replicate}
-use lib.Seq.{get_or-set_same, get_or-set_other}
-use borrow.Author.Tests.{eqb-true, eqb-false}
+use lib.ListN.{length, take, get_or}
+use Rattle.std.proofs.lemmas.List.{get_or-take, length-take-le}
 use Rattle.lists.specs.Lists.{keep, range}
-use Rattle.lists.proofs.ListLaws.{eqb-self}
 use Rattle.events.specs.declared.event.Event.{Event}
 use Rattle.events.specs.Events.{begins}
+use Rattle.events.specs.Questions.{readable}
+use Rattle.opacity.proofs.Bounds.{at-most-64}
 use Rattle.opacity.specs.Transactions.{Status, committed, aborted, pending, live, status_number, status}
 use Rattle.opacity.specs.Counts.{one}
 use Rattle.opacity.proofs.HowMany.{how_many, how-many-more, how-many-low}
+use Rattle.links.specs.declared.tables.Rank.{Rank}
+use Rattle.links.specs.declared.tables.Rank.TheVariants.{Live, Pending, Aborted, Committed}
+use Rattle.links.specs.declared.tables.Transaction.{Transaction}
+use Rattle.links.specs.Tables.{blank, AllTabled}
+use Rattle.links.proofs.TableLaws.{status_rank, its-rank}
 use Rattle.counts.specs.declared.tally.Tally.{Tally}
-use Rattle.counts.specs.Tally.{of_status, tally}
+use Rattle.counts.specs.Tally.{has_status, of_status, tally}
 
-pub status-low : (s : Status) → status_number s < 4
-status-low committed = le_refl 4
-status-low aborted = omega arith
-status-low pending = omega arith
-status-low live = omega arith
+-- the tally with one transaction more, which has come so far
+abbrev pub with_rank : Rank → Tally → Tally
+with_rank Committed x = record x { committed = x.committed + 1 }
+with_rank Aborted x = record x { aborted = x.aborted + 1 }
+with_rank Pending x = record x { pending = x.pending + 1 }
+with_rank Live x = record x { live = x.live + 1 }
 
--- the transaction u stands as k
-abbrev status_is : List Event → ℕ → ℕ → Bool
-status_is h k u = eqb (status_number (status h u)) k
-
-pub record Counted (h : List Event) (many : List ℕ) (t : ℕ) : Type 0 where
-  pub inside : t ≤ begins h
-  pub size : length many ≡ 4
-  pub holds : (k : ℕ) → k < 4 → get_or many k 0 ≡ how_many (status_is h k) t
+pub record Counted (h : List Event) (x : Tally) (t : ℕ) : Type 0 where
+  pub committed : x.committed ≡ how_many (has_status committed h) t
+  pub aborted : x.aborted ≡ how_many (has_status aborted h) t
+  pub pending : x.pending ≡ how_many (has_status pending h) t
+  pub live : x.live ≡ how_many (has_status live h) t
 
 module _ (h : List Event) where
-  pub counted-first : Counted h (replicate 4 0) 0
+  pub counted-first : Counted h record { committed = 0; aborted = 0; pending = 0; live = 0 } 0
   unfolding range keep
-  counted-first =
-      record { inside = omega arith; size = length-replicate {A = ℕ} 4 0; holds = λ k l. get_or-replicate 4 k 0 0 l }
+  counted-first = record { committed = refl; aborted = refl; pending = refl; live = refl }
 
-  module _ (many : List ℕ) (t s : ℕ) (l : t < begins h) (w : Counted h many t) (same : s ≡ status_number (status h t)) where
-    pub number-low : s < 4
-    number-low = omega (arith, same, status-low (status h t))
+  module _ (x : Tally) (t : ℕ) (w : Counted h x t) where
+    -- none of the counts is past the transactions tallied
+    pub record Few : Type 0 where
+      pub committed : x.committed ≤ t
+      pub aborted : x.aborted ≤ t
+      pub pending : x.pending ≤ t
+      pub live : x.live ≤ t
 
-    pub counts-few : get_or many s 0 ≤ t
-    counts-few = omega (arith, w.holds s number-low, how-many-low (status_is h s) t)
+    pub counts-few : Few
+    counts-few =
+        record {
+          committed = omega (arith, w.committed, how-many-low (has_status committed h) t);
+          aborted = omega (arith, w.aborted, how-many-low (has_status aborted h) t);
+          pending = omega (arith, w.pending, how-many-low (has_status pending h) t);
+          live = omega (arith, w.live, how-many-low (has_status live h) t);
+        }
 
-    pub counted-more : Counted h (set many s (get_or many s 0 + 1)) (t + 1)
-    counted-more = record { inside = omega arith; size = length-set many s _ ∙ w.size; holds = λ k m. go k m (eqb s k) refl }
-      where
-        added : (k : ℕ) → how_many (status_is h k) (t + 1) ≡ how_many (status_is h k) t + one (eqb s k)
-        added k = how-many-more (status_is h k) t ∙ ap (λ (x : ℕ). how_many (status_is h k) t + one (eqb x k)) (sym same)
+    added : (s u : Status) → status h t ≡ u
+        → how_many (has_status s h) (t + 1) ≡ how_many (has_status s h) t + one (eqb (status_number u) (status_number s))
+    added s u e =
+        how-many-more (has_status s h) t
+        ∙ ap (λ (v : Status). how_many (has_status s h) t + one (eqb (status_number v) (status_number s))) e
 
-        go : (k : ℕ) → k < 4 → (b : Bool) → eqb s k ≡ b → get_or (set many s (get_or many s 0 + 1)) k 0 ≡ how_many (status_is h k) (t + 1)
-        go k m true e =
-            let q : s ≡ k = eqb-true s k e in
-            let one_more : one (eqb s k) ≡ 1 = ap one e in
-            let here : get_or (set many s (get_or many s 0 + 1)) s 0 ≡ get_or many s 0 + 1 =
-            get_or-set_same many s (get_or many s 0 + 1) 0 (omega (arith, w.size, number-low)) in
-            let there : get_or (set many s (get_or many s 0 + 1)) k 0 ≡ get_or many k 0 + 1 =
-            ap (λ (x : ℕ). get_or (set many s (get_or many s 0 + 1)) x 0) (sym q) ∙ (here ∙ ap (λ (x : ℕ). get_or many x 0 + 1) q) in
-            omega (arith, there, w.holds k m, added k, one_more)
-        go k m false e =
-            let d : s ≡ k → ⊥ = eqb-false s k e in
-            let none_more : one (eqb s k) ≡ 0 = ap one e in
-            get_or-set_other many s k (get_or many s 0 + 1) 0 (λ z. d (sym z)) ∙ omega (arith, w.holds k m, added k, none_more)
+    its-status : (u : Status) → status h t ≡ u → Counted h (with_rank (status_rank u) x) (t + 1)
+    its-status committed e =
+        record {
+          committed = omega (arith, w.committed, added committed committed e);
+          aborted = omega (arith, w.aborted, added aborted committed e);
+          pending = omega (arith, w.pending, added pending committed e);
+          live = omega (arith, w.live, added live committed e);
+        }
+    its-status aborted e =
+        record {
+          committed = omega (arith, w.committed, added committed aborted e);
+          aborted = omega (arith, w.aborted, added aborted aborted e);
+          pending = omega (arith, w.pending, added pending aborted e);
+          live = omega (arith, w.live, added live aborted e);
+        }
+    its-status pending e =
+        record {
+          committed = omega (arith, w.committed, added committed pending e);
+          aborted = omega (arith, w.aborted, added aborted pending e);
+          pending = omega (arith, w.pending, added pending pending e);
+          live = omega (arith, w.live, added live pending e);
+        }
+    its-status live e =
+        record {
+          committed = omega (arith, w.committed, added committed live e);
+          aborted = omega (arith, w.aborted, added aborted live e);
+          pending = omega (arith, w.pending, added pending live e);
+          live = omega (arith, w.live, added live live e);
+        }
+
+    pub counted-more : (k : Rank) → k ≡ status_rank (status h t) → Counted h (with_rank k x) (t + 1)
+    counted-more k e = rw e (its-status (status h t) refl)
 
   -- the counts after the last transaction
-  module _ (many : List ℕ) (t : ℕ) (l : begins h ≤ t) (w : Counted h many t) where
-    has-status : (s : Status) → get_or many (status_number s) 0 ≡ length (of_status s h)
-    unfolding of_status
-    has-status s =
-        let e : t ≡ begins h = omega (arith, w.inside) in
-        w.holds (status_number s) (status-low s) ∙ ap (how_many (status_is h (status_number s))) e
+  pub counted-all : (x : Tally) (t : ℕ) → t ≡ begins h → Counted h x t → x ≡ tally h
+  unfolding tally of_status
+  counted-all x t e w =
+      λ i. record {
+        committed = (w.committed ∙ ap (how_many (has_status committed h)) e) i;
+        aborted = (w.aborted ∙ ap (how_many (has_status aborted h)) e) i;
+        pending = (w.pending ∙ ap (how_many (has_status pending h)) e) i;
+        live = (w.live ∙ ap (how_many (has_status live h)) e) i;
+      }
 
-    pub counted-all : ◌≡◌ {A = Tally} record { committed = get_or many 3 0; aborted = get_or many 2 0; pending = get_or many 1 0; live = get_or many 0 0 } (tally h)
-    unfolding tally
-    counted-all =
-        λ i. record { committed = has-status committed i; aborted = has-status aborted i; pending = has-status pending i; live = has-status live i }
+-- the tables of the transactions begun
+module _ (h : List Event) (r : readable h ≡ true) (tables : List Transaction) (y : AllTabled h tables) (n : ℕ) (e : n ≡ begins h) where
+  pub tabled : n ≤ length tables
+  tabled = omega (arith, y.size, e, at-most-64 h r)
+
+  pub tabled-length : length (take n tables) ≡ n
+  tabled-length = length-take-le n tables tabled
+
+  pub tabled-rank : (t : ℕ) → t < length (take n tables) → (get_or (take n tables) t blank).rank ≡ status_rank (status h t)
+  tabled-rank t l =
+      let few : t < n = omega (arith, tabled-length) in
+      let low : t < 64 = omega (arith, few, e, at-most-64 h r) in
+      ap (λ (x : Transaction). x.rank) (get_or-take n tables t blank few) ∙ its-rank y t low
+
+  -- so many fit a number of the machine
+  pub few-enough : (t : ℕ) → t < length (take n tables) → t < 64
+  few-enough t l = omega (arith, tabled-length, e, at-most-64 h r)

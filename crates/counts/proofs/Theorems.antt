@@ -13,7 +13,6 @@ use lib.ListN.{length}
 use borrow.Author.Tests.{eqb-true, ne_eqb}
 use Rattle.lists.specs.Lists.{◌and◌, keep, range}
 use Rattle.events.specs.declared.event.Event.{Event}
-use Rattle.event_log.specs.declared.admit.Checked.{Checked}
 use Rattle.events.specs.Events.{begins}
 use Rattle.event_log.specs.Columns.{Columns, history}
 use Rattle.events.specs.Questions.{readable}
@@ -23,8 +22,8 @@ use Rattle.opacity.specs.Transactions.{Status, committed, aborted, pending, live
 use Rattle.opacity.specs.Counts.{one, counts}
 use Rattle.opacity.proofs.HowMany.{how_many, how-many-suc, how-many-none, how-many-moved}
 use Rattle.opacity.proofs.Statuses.{status-iff}
-use Rattle.counts.specs.declared.Counting.{Counting}
-use Rattle.counts.specs.declared.Tallying.{Tallying}
+use Rattle.std.specs.Prelude.{Ok, Err}
+use Rattle.event_log.specs.Checked.{Checked}
 use Rattle.counts.specs.declared.tally.Tally.{Tally}
 use Rattle.counts.specs.Tally.{has_status, of_status, tally, times}
 use Rattle.counts.specs.Answer.{counted, transactions_answer, tallied, tally_answer}
@@ -118,14 +117,14 @@ module _ (h : List Event) where
       passes false q e = absurd (omega (arith, e))
 
 -- where there is a tally there is a count of the transactions, and the four add up to it
-pub tally-adds-up : (edition : ℕ) (starts : List ℕ) (c : Columns) (count : ℕ) (x : Tally) → tally_answer edition starts c count ≡ Tallying.Tallied x
-    → transactions_answer edition starts c count ≡ Counting.Counted (x.committed + x.aborted + x.pending + x.live)
+pub tally-adds-up : (edition : ℕ) (starts : List ℕ) (c : Columns) (count : ℕ) (x : Tally) → tally_answer edition starts c count ≡ Ok x
+    → transactions_answer edition starts c count ≡ Ok (x.committed + x.aborted + x.pending + x.live)
 unfolding tally_answer transactions_answer counts
 tally-adds-up edition starts c count x e = go (history_answer edition starts c count) e
   where
-    go : (y : Checked) → tallied y (tally (history c count)) ≡ Tallying.Tallied x
-        → counted y (begins (history c count)) ≡ Counting.Counted (x.committed + x.aborted + x.pending + x.live)
-    go Checked.Readable d =
+    go : (y : Checked) → tallied y (tally (history c count)) ≡ Ok x
+        → counted y (begins (history c count)) ≡ Ok (x.committed + x.aborted + x.pending + x.live)
+    go (Ok u) d =
         let q : tally (history c count) ≡ x = cc in
-        ap Counting.Counted (sym (adds-up (history c count)) ∙ ap (λ (y : Tally). y.committed + y.aborted + y.pending + y.live) q)
-    go (Checked.Refused r) d = absurd (let z : ◌≡◌ {A = ℕ} 0 1 = cc in omega arith)
+        ap Ok (sym (adds-up (history c count)) ∙ ap (λ (y : Tally). y.committed + y.aborted + y.pending + y.live) q)
+    go (Err r) d = absurd (let z : ◌≡◌ {A = ℕ} 0 1 = cc in omega arith)

@@ -3,20 +3,26 @@
 -- Assumes nothing.
 use Rattle.std.specs.Prelude.{ℕ, List, [], ◌∷◌}
 use Rattle.events.specs.declared.event.Event.{Event}
-use Rattle.event_log.specs.declared.admit.Checked.{Checked}
+use Rattle.std.specs.Prelude.{Result, Ok, Err}
+use Rattle.events.specs.declared.refusal.Refusal.{Refusal}
+use Rattle.event_log.specs.Checked.{Checked, answered}
 use Rattle.event_log.specs.Columns.{Columns, history}
 use Rattle.events.specs.Said.{Said, done, event_refused}
 use Rattle.event_log.specs.Answer.{history_answer}
 use Rattle.opacity.specs.Counts.{counts}
-use Rattle.counts.specs.declared.Counting.{Counting}
-use Rattle.counts.specs.declared.Tallying.{Tallying}
 use Rattle.counts.specs.declared.tally.Tally.{Tally}
 use Rattle.counts.specs.Tally.{tally}
 
+-- a count's answer: the number, or the question that says no with its event; and the tally's, the four numbers or the question
+abbrev pub Counting : Type 0
+Counting = Result ℕ Refusal
+
+abbrev pub Tallying : Type 0
+Tallying = Result Tally Refusal
+
 -- a number of columns to which no question says no
 abbrev pub counted : Checked → ℕ → Counting
-counted Checked.Readable n = Counting.Counted n
-counted (Checked.Refused r) n = Counting.Refused r
+counted x n = answered x n
 
 abbrev pub transactions_of : Checked → List Event → Counting
 transactions_of x h = counted x (counts h).transactions
@@ -32,8 +38,7 @@ store_reads_answer edition starts c count = store_reads_of (history_answer editi
 
 -- the same for a tally
 abbrev pub tallied : Checked → Tally → Tallying
-tallied Checked.Readable x = Tallying.Tallied x
-tallied (Checked.Refused r) x = Tallying.Refused r
+tallied x y = answered x y
 
 abbrev pub tally_of : Checked → List Event → Tallying
 tally_of x h = tallied x (tally h)
@@ -43,10 +48,10 @@ tally_answer edition starts c count = tally_of (history_answer edition starts c 
 
 -- what a count says: the number counted, or the question with its event
 unfoldable pub count_said : Counting → Said
-count_said (Counting.Counted n) = done (n ∷ [])
-count_said (Counting.Refused r) = event_refused r
+count_said (Ok n) = done (n ∷ [])
+count_said (Err r) = event_refused r
 
 -- what the tally says: how many are committed, aborted, pending and live, or the question with its event
 unfoldable pub tally_said : Tallying → Said
-tally_said (Tallying.Tallied x) = done (x.committed ∷ x.aborted ∷ x.pending ∷ x.live ∷ [])
-tally_said (Tallying.Refused r) = event_refused r
+tally_said (Ok x) = done (x.committed ∷ x.aborted ∷ x.pending ∷ x.live ∷ [])
+tally_said (Err r) = event_refused r

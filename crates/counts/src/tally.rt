@@ -1,11 +1,11 @@
 // The tally of the transactions in a log: how each stands after the last event.
 ghost use Rattle.std.specs.Prelude.{◌≡◌, true};
 ghost use Rattle.events.specs.Questions.{readable};
-ghost use Rattle.event_log.specs.Rows.{logged};
 ghost use Rattle.counts.specs.Tally.{tally};
 
-use event_log::rows::{Row, transactions_begun};
-use links::tables::{Fact, index_of, table};
+use event_log::rows::transactions_begun;
+use events::event::Event;
+use links::tables::{Rank, tables_of};
 
 // How many transactions are committed, aborted, pending (commit is called and unanswered) and live
 // (the others not ended).
@@ -17,25 +17,26 @@ pub struct Tally {
     pub live: usize,
 }
 
-// Tallies the transactions of a log. How a transaction stands is numbered as in the tables: 3
-// committed, 2 aborted, 1 pending, 0 live.
-pub fn tally_of(log: &[Row]) -> Tally
-    requires { readable (logged log.now) ≡ true }
-    ensures { result ≡ tally (logged log.now) }
+// Tallies the transactions of a log.
+pub fn tally_of(log: &[Event]) -> Tally
+    requires { readable log.now ≡ true }
+    ensures { result ≡ tally log.now }
 {
-    let ranks = table(log, Fact::Rank);
+    let tables = tables_of(log);
     let begun = transactions_begun(log);
-    let mut many = [0usize; 4];
-    let mut t: usize = 0;
-    while t < begun {
-        let s = index_of(ranks[t]);
-        many[s] += 1;
-        t += 1;
+    let mut tally = Tally {
+        committed: 0,
+        aborted: 0,
+        pending: 0,
+        live: 0,
+    };
+    for transaction in &tables[..begun] {
+        match transaction.rank {
+            Rank::Committed => tally.committed += 1,
+            Rank::Aborted => tally.aborted += 1,
+            Rank::Pending => tally.pending += 1,
+            Rank::Live => tally.live += 1,
+        }
     }
-    Tally {
-        committed: many[3],
-        aborted: many[2],
-        pending: many[1],
-        live: many[0],
-    }
+    tally
 }

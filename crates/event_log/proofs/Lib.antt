@@ -1,3 +1,4 @@
+pub mod CheckedLaws
 pub mod ColumnLaws
 pub mod AnswerLaws
 pub mod CheckLaws

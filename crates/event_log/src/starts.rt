@@ -9,25 +9,16 @@ use records::record::Record;
 fn all_zero(starts: &[u32; 32]) -> bool
     ensures { result ≡ all_zero starts.now }
 {
-    let mut r: usize = 0;
-    while r < 32 {
-        if starts[r] != 0 {
-            return false;
-        }
-        r += 1;
-    }
-    true
+    starts.iter().all(|start| *start == 0)
 }
 
 // Question 3: edition 2, or edition 1, in which every register starts at 0.
 pub fn is_admitted(edition: u16, starts: &[u32; 32]) -> bool
     ensures { result ≡ admits edition starts.now }
 {
-    if edition == Record::STARTS_EDITION {
-        return true;
+    match edition {
+        Record::STARTS_EDITION => true,
+        Record::EDITION => all_zero(starts),
+        _ => false,
     }
-    if edition != Record::EDITION {
-        return false;
-    }
-    all_zero(starts)
 }

@@ -1,10 +1,11 @@
+pub mod Joined
 pub mod EventLaws
 pub mod QuestionLaws
 pub mod KindLaws
 pub mod BodyLaws
 pub mod FieldLaws
-pub mod StateLaws
 pub mod ReadableLaws
-pub mod AskedLaws
-pub mod RegisterLaws
 pub mod SpelledLaws
+pub mod AskedLaws
+pub mod StateLaws
+pub mod RegisterLaws

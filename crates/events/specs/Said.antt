@@ -1,6 +1,6 @@
 -- To be believed: how an answer is said, in the paper's numbers and values. Each answer has a definition `said` beside its own.
 -- Assumes nothing.
-use Rattle.std.specs.Prelude.{ℕ, List}
+use Rattle.std.specs.Prelude.{ℕ, List, Result, Ok, Err}
 use Rattle.events.specs.declared.refusal.Refusal.{Refusal}
 
 -- What an answer says, in whatever call. No question says no: it is done, with the values that the call gives; or the finder has nothing
@@ -26,6 +26,11 @@ number (at_byte q b) = q
 -- a question that says no, with what it is about
 abbrev pub refuse : ℕ → ℕ → Refusal
 refuse q at = record { question = q; at = at }
+
+-- what a call answers, with what its question is about
+abbrev pub about : {A : Type 0} → Result A ℕ → ℕ → Result A Refusal
+about (Ok x) at = Ok x
+about (Err q) at = Err (refuse q at)
 
 abbrev pub event_refused : Refusal → Said
 event_refused r = at_event r.question r.at

@@ -3,9 +3,6 @@
 use mathlib.Core.Path.{◌≡◌, sym, ap, ◌∙◌}
 use Prim.Native.Nat.{ℕ, ◌≤◌}
 use native.Mathlib.Omega.{arith}
-use mathlib.Core.Bool.{false}
-use lib.Dec.{eqb}
-use borrow.Author.Tests.{ne_eqb}
 use mathlib.Core.List.{List}
 use mathlib.Core.Option.{none, some}
 use lib.ListN.{length, length-map}
@@ -20,7 +17,7 @@ use Rattle.opacity.proofs.Least.{lowest-justifies}
 use Rattle.opacity.proofs.MarkingBytes.{marking-length}
 use Rattle.opacity.proofs.Orders.{filled}
 use Rattle.places.specs.Places.{codes_of, decode}
-use Rattle.lowest.specs.Order.{Judged, order_of}
+use Rattle.lowest.specs.Order.{Judged}
 use Rattle.opacity.specs.Marking.{marking_bytes}
 use Rattle.finder.specs.Answer.{marking_size, lowest_marking}
 
@@ -34,10 +31,9 @@ module _ (start : ℕ → ℕ) (h : List Event) (j : Judged h) where
   order-size {J} e = filled (begins h) J (lowest-justifies start h (transaction-known h j.readable) e).order
 
   -- the places of an answer, as an order
-  pub places-found : (a count : ℕ) → (a ≡ 0 → ⊥) → order_of h a ≡ lowest_of start h → count ≡ begins h → some (decode (codes_of count a)) ≡ lowest_of start h
-  places-found a count f e k =
-      let g : eqb a 0 ≡ false = ne_eqb a 0 f in
-      ap (λ (m : ℕ). some (decode (codes_of m a))) k ∙ (rw g at e)
+  pub places-found : (order count : ℕ) → some (decode (codes_of (begins h) order)) ≡ lowest_of start h → count ≡ begins h
+      → some (decode (codes_of count order)) ≡ lowest_of start h
+  places-found order count e k = ap (λ (m : ℕ). some (decode (codes_of m order))) k ∙ e
 
   pub marking-found : {J : List Place} → some J ≡ lowest_of start h → lowest_marking start h ≡ some (marking_bytes (marked h J))
   unfolding lowest_marking
@@ -50,6 +46,3 @@ module _ (start : ℕ → ℕ) (h : List Event) (j : Judged h) where
   pub marking-none : none ≡ lowest_of start h → lowest_marking start h ≡ none
   unfolding lowest_marking
   marking-none e = rw (sym e)
-
-  pub answer-none : (a : ℕ) → a ≡ 0 → order_of h a ≡ lowest_of start h → none ≡ lowest_of start h
-  answer-none a z e = rw z at e

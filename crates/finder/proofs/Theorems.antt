@@ -1,15 +1,16 @@
 -- What the finder's answer means, in both directions. `find_marking` gives `foundAnswer`, so each theorem is one about its result and its
 -- output. Assumes nothing.
+use Rattle.std.specs.Prelude.{Ok, Err, Some, None}
 use mathlib.Core.Path.{◌≡◌, refl, sym, ap, ap₂, subst, ◌∙◌}
 use mathlib.Core.Logic.{◌↔◌}
 use Prim.Native.Nat.{ℕ, ◌≤◌}
 use mathlib.Core.Bool.{Bool, true, false}
 use mathlib.Core.List.{List, [], ◌∷◌}
 use mathlib.Core.Option.{Option, none, some}
-use lib.ListN.{length, take, drop}
+use lib.ListN.{length, take}
 use Rattle.records.proofs.BufferLaws.{take-over, drop-over}
 use Rattle.events.specs.declared.event.Event.{Event}
-use Rattle.event_log.specs.declared.admit.Checked.{Checked}
+use Rattle.event_log.specs.Checked.{Checked}
 use Rattle.events.specs.declared.refusal.Refusal.{Refusal}
 use Rattle.events.specs.Said.{done, nothing, at_event, refuse}
 use Rattle.records.specs.Bytes.{over}
@@ -23,14 +24,12 @@ use Rattle.event_log.proofs.StartLaws.{no-starts, first-admitted}
 use Rattle.opacity.specs.Justification.{Place, Justified}
 use Rattle.opacity.specs.Lowest.{LowestJustified}
 use Rattle.opacity.specs.Serial.{Serial, LowestSerial}
-use Rattle.opacity.specs.Marking.{ReadableFor, marked, marking_bytes, verdict}
-use Rattle.opacity.specs.declared.verdict.Verdict.{Verdict}
+use Rattle.opacity.specs.Marking.{marked, marking_bytes}
 use Rattle.opacity.proofs.Least.{lowest-least}
 use Rattle.opacity.proofs.Theorems.{lowest-unique, lowest-some, lowest-none, prefix-lowest-serial, prefix-none-serial, marked-is-readable, marked-is-accepted}
 use Rattle.event_log.specs.Calls.{asked_of, then_checked}
 use Rattle.event_log.proofs.CallLaws.{asked-yes, asked-no, then-then}
-use Rattle.finder.specs.declared.Finding.{Finding}
-use Rattle.finder.specs.Answer.{Given, gives, said, Passed, decided, prefix_refusal, call_refusal, find_refusal, lowest_marking, found_answer, first_edition_refusal, first_edition_answer}
+use Rattle.finder.specs.Answer.{Finding, Given, gives, said, Passed, decided, prefix_refusal, call_refusal, find_refusal, lowest_marking, found_answer, first_edition_refusal, first_edition_answer}
 use Rattle.finder.specs.Words.{Passes, LowestSize, Written}
 use Rattle.finder.proofs.AnswerLaws.{said-marking, said-none, said-refused, passes, decided-refused, decided-marking, decided-none}
 use Rattle.finder.proofs.AnswerLaws.{marking-e, none-e, refused-e, passed, marking-some, some-marking, none-marking, marking-none}
@@ -52,20 +51,20 @@ module _ (edition : ℕ) (starts : List ℕ) (c : Columns) (count prefix : ℕ) 
 
   -- A question refuses exactly where it is the first that says no, and then the output is as it was.
   pub refused-exactly : (r : Refusal)
-      → ((found_answer edition starts c count prefix output).result ≡ Finding.Refused r) ↔ (find_refusal edition starts c count prefix (length output) ≡ Checked.Refused r)
+      → ((found_answer edition starts c count prefix output).result ≡ Err r) ↔ (find_refusal edition starts c count prefix (length output) ≡ Err r)
   unfolding found_answer
   refused-exactly r = (
     λ x. (refused-e _ _ output r x).0,
     λ x. ap (λ (g : Given). g.result) (sym (decided-refused (lowest_marking (start_of starts) judged) output x)),
   )
 
-  pub refused-unchanged : (r : Refusal) → (found_answer edition starts c count prefix output).result ≡ Finding.Refused r → (found_answer edition starts c count prefix output).output ≡ output
+  pub refused-unchanged : (r : Refusal) → (found_answer edition starts c count prefix output).result ≡ Err r → (found_answer edition starts c count prefix output).output ≡ output
   unfolding found_answer
   refused-unchanged r x = (refused-e _ _ output r x).1
 
   -- A marking is found exactly where the prefix has a justification,
   pub marking-exactly : Passes edition starts c count prefix output
-      → ((n : ℕ) × ((found_answer edition starts c count prefix output).result ≡ Finding.Marking n)) ↔ ((J : List Place) × Justified (start_of starts) judged J)
+      → ((n : ℕ) × ((found_answer edition starts c count prefix output).result ≡ Ok (Some n))) ↔ ((J : List Place) × Justified (start_of starts) judged J)
   unfolding found_answer
   marking-exactly x = (
     λ w.
@@ -80,7 +79,7 @@ module _ (edition : ℕ) (starts : List ℕ) (c : Columns) (count prefix : ℕ) 
 
   -- and none exactly where it has none; with none the output is as it was.
   pub none-exactly : Passes edition starts c count prefix output
-      → ((found_answer edition starts c count prefix output).result ≡ Finding.None) ↔ ((J : List Place) → Justified (start_of starts) judged J → ⊥)
+      → ((found_answer edition starts c count prefix output).result ≡ Ok None) ↔ ((J : List Place) → Justified (start_of starts) judged J → ⊥)
   unfolding found_answer
   none-exactly x =
       let e = lowest-none (start_of starts) judged (judged-readable x) in (
@@ -88,18 +87,18 @@ module _ (edition : ℕ) (starts : List ℕ) (c : Columns) (count prefix : ℕ) 
         λ f. ap (λ (v : Given). v.result) (sym (decided-none output x (none-marking (start_of starts) judged (e.1 f)))),
       )
 
-  pub none-unchanged : (found_answer edition starts c count prefix output).result ≡ Finding.None → (found_answer edition starts c count prefix output).output ≡ output
+  pub none-unchanged : (found_answer edition starts c count prefix output).result ≡ Ok None → (found_answer edition starts c count prefix output).output ≡ output
   unfolding found_answer
   none-unchanged x = (none-e _ _ output x).2
 
   -- The lowest justification's marking is what is written, from the output's first byte, and its length is what is returned.
   pub lowest-written : Passes edition starts c count prefix output → (J : List Place) → LowestJustified (start_of starts) judged J
-      → found_answer edition starts c count prefix output ≡ gives (Finding.Marking (length (marking_bytes (marked judged J)))) (over (marking_bytes (marked judged J)) output)
+      → found_answer edition starts c count prefix output ≡ gives (Ok (Some (length (marking_bytes (marked judged J))))) (over (marking_bytes (marked judged J)) output)
   unfolding found_answer
   lowest-written x J j = sym (decided-marking _ output _ x (some-marking (start_of starts) judged ((lowest-some (start_of starts) judged (judged-readable x) J).1 j)) refl refl)
 
   -- What is written is the marking of the lowest justification; it is readable for the prefix, and the rules accept it.
-  pub written : (n : ℕ) → (found_answer edition starts c count prefix output).result ≡ Finding.Marking n → Written edition starts c count prefix output n
+  pub written : (n : ℕ) → (found_answer edition starts c count prefix output).result ≡ Ok (Some n) → Written edition starts c count prefix output n
   unfolding found_answer
   written n x =
       let m = marking-e _ _ output n x in
@@ -120,14 +119,14 @@ module _ (edition : ℕ) (starts : List ℕ) (c : Columns) (count prefix : ℕ) 
   -- The same in the words of a machine that runs the transactions one at a time: the marking is that of the lowest order that explains
   -- the prefix, and none is found exactly where no order explains it.
   pub lowest-serial-written : Passes edition starts c count prefix output → (J : List Place) → LowestSerial (start_of starts) judged J
-      → found_answer edition starts c count prefix output ≡ gives (Finding.Marking (length (marking_bytes (marked judged J)))) (over (marking_bytes (marked judged J)) output)
+      → found_answer edition starts c count prefix output ≡ gives (Ok (Some (length (marking_bytes (marked judged J))))) (over (marking_bytes (marked judged J)) output)
   unfolding found_answer
   lowest-serial-written x J s =
       let e = (prefix-lowest-serial (start_of starts) (history c count) (whole-readable x) prefix (inside x) J).1 s in
       sym (decided-marking _ output _ x (some-marking (start_of starts) judged e) refl refl)
 
   pub none-serial : Passes edition starts c count prefix output
-      → ((found_answer edition starts c count prefix output).result ≡ Finding.None) ↔ ((K : List Place) → Serial (start_of starts) judged K → ⊥)
+      → ((found_answer edition starts c count prefix output).result ≡ Ok None) ↔ ((K : List Place) → Serial (start_of starts) judged K → ⊥)
   unfolding found_answer
   none-serial x =
       let e = prefix-none-serial (start_of starts) (history c count) (whole-readable x) prefix (inside x) in (
@@ -144,7 +143,7 @@ module _ (edition : ℕ) (starts : List ℕ) (c : Columns) (count prefix : ℕ) 
     λ x.
         let w = written n (said-marking _ n x) in
         let e = lowest-written w.passes w.order w.lowest in
-        let k : Finding.Marking (length (marking_bytes (marked judged w.order))) ≡ Finding.Marking n = ap (λ (g : Given). g.result) (sym e) ∙ said-marking _ n x in
+        let k : ◌≡◌ {A = Finding} (Ok (Some (length (marking_bytes (marked judged w.order))))) (Ok (Some n)) = ap (λ (g : Given). g.result) (sym e) ∙ said-marking _ n x in
         (passed edition starts c count prefix (length output) w.passes, record { order = w.order; lowest = w.lowest; size = cc }),
     λ w.
         ap (λ (g : Given). said g.result) (lowest-written (passes edition starts c count prefix (length output) w.0) w.1.order w.1.lowest)
@@ -164,7 +163,7 @@ module _ (edition : ℕ) (starts : List ℕ) (c : Columns) (count prefix : ℕ) 
 
   -- and a question with its event exactly where it is the first that says no.
   pub refused-said : (q e : ℕ) → (said (found_answer edition starts c count prefix output).result ≡ at_event q e)
-      ↔ (find_refusal edition starts c count prefix (length output) ≡ Checked.Refused (refuse q e))
+      ↔ (find_refusal edition starts c count prefix (length output) ≡ Err (refuse q e))
   unfolding said
   refused-said q e = (
     λ x. (refused-exactly (refuse q e)).0 (said-refused _ q e x),
@@ -178,9 +177,9 @@ refusal-same edition starts c d count prefix e f g = rw (e, f, g)
 
 result-same : (x : Checked) (m : Option (List ℕ)) (o p : List ℕ) → (decided x m o).result ≡ (decided x m p).result
 unfolding decided
-result-same (Checked.Refused r) m o p = refl
-result-same Checked.Readable none o p = refl
-result-same Checked.Readable (some bytes) o p = refl
+result-same (Err r) m o p = refl
+result-same (Ok tt) none o p = refl
+result-same (Ok tt) (some bytes) o p = refl
 
 -- What stands in the columns past the count, and what the output held, make no difference: columns that hold the same events below the
 -- count, and an output of the same length, give the same result.
@@ -196,7 +195,7 @@ past-count edition starts c d count prefix output before e f g =
 -- and the same bytes, where they are a marking of length n
 pub past-count-bytes : (edition : ℕ) (starts : List ℕ) (c d : Columns) (count prefix : ℕ) (output before : List ℕ) (n : ℕ)
     → hold c count ≡ hold d count → history c count ≡ history d count → length output ≡ length before
-    → (found_answer edition starts c count prefix output).result ≡ Finding.Marking n
+    → (found_answer edition starts c count prefix output).result ≡ Ok (Some n)
     → take n (found_answer edition starts c count prefix output).output ≡ take n (found_answer edition starts d count prefix before).output
 past-count-bytes edition starts c d count prefix output before n e f g x =
     let v = written edition starts c count prefix output n x in

@@ -1,10 +1,11 @@
 -- To be believed: the finder's answer ("Finder"): the marking of the lowest justification of a prefix, or none, or the first question that
 -- says no.
 -- Assumes nothing.
-use Rattle.std.specs.Prelude.{ℕ, ◌+◌, ◌*◌, ◌≤◌, ◌≡◌, true, List, [], ◌∷◌, leb, length, take}
+use Rattle.std.specs.Prelude.{ℕ, ◌+◌, ◌*◌, ◌≤◌, ◌≡◌, true, List, [], ◌∷◌, leb, length, take, Result, Ok, Err, Option as Answer, Some, None}
 use Rattle.std.proofs.Math.Option.{Option, none, some}
 use Rattle.events.specs.declared.event.Event.{Event}
-use Rattle.event_log.specs.declared.admit.Checked.{Checked}
+use Rattle.events.specs.declared.refusal.Refusal.{Refusal}
+use Rattle.event_log.specs.Checked.{Checked}
 use Rattle.records.specs.Bytes.{over}
 use Rattle.events.specs.Events.{begins}
 use Rattle.event_log.specs.Columns.{Columns, history, hold}
@@ -17,7 +18,10 @@ use Rattle.opacity.specs.Justification.{Place, zeros}
 use Rattle.opacity.specs.Lowest.{lowest_of}
 use Rattle.opacity.specs.Marking.{marked, marking_bytes}
 use Rattle.event_log.specs.Calls.{asked_of, then_checked}
-use Rattle.finder.specs.declared.Finding.{Finding}
+
+-- what the finder answers: the length of the marking written, or none; or the question that says no, with its event
+abbrev pub Finding : Type 0
+Finding = Result (Answer ℕ) Refusal
 
 -- What a call gives: its result, and the output afterwards.
 pub record Given : Type 0 where
@@ -29,9 +33,9 @@ gives r o = record { result = r; output = o }
 
 -- what the finder says: the length of the marking, or none, or the question with its event
 unfoldable pub said : Finding → Said
-said (Finding.Marking n) = done (n ∷ [])
-said Finding.None = nothing
-said (Finding.Refused r) = event_refused r
+said (Ok (Some n)) = done (n ∷ [])
+said (Ok None) = nothing
+said (Err r) = event_refused r
 
 -- the bytes of a marking: the head, its transactions and its store reads
 abbrev pub marking_size : List Event → ℕ
@@ -74,9 +78,9 @@ lowest_marking start h = marking_of h (lowest_of start h)
 
 -- A refusal and none leave the output alone; a marking is written from its first byte, and nothing behind it changes.
 unfoldable pub decided : Checked → Option (List ℕ) → List ℕ → Given
-decided (Checked.Refused r) m o = gives (Finding.Refused r) o
-decided Checked.Readable none o = gives Finding.None o
-decided Checked.Readable (some bytes) o = gives (Finding.Marking (length bytes)) (over bytes o)
+decided (Err r) m o = gives (Err r) o
+decided (Ok tt) none o = gives (Ok None) o
+decided (Ok tt) (some bytes) o = gives (Ok (Some (length bytes))) (over bytes o)
 
 -- a prefix keeps the edition and the start values of its history
 unfoldable pub found_answer : ℕ → List ℕ → Columns → ℕ → ℕ → List ℕ → Given

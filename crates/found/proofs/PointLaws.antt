@@ -1,13 +1,13 @@
 -- The marking of the order found, from the arrays that its writer takes.
 -- Assumes nothing.
-use mathlib.Core.Path.{◌≡◌, refl, sym, ap, ap₂, ◌∙◌, subst}
-use Prim.Native.Nat.{ℕ, zero, suc, ◌/◌, ◌%◌, ◌≤◌, ◌<◌}
+use mathlib.Core.Path.{◌≡◌, refl, sym, ap, ap₂, ◌∙◌}
+use Prim.Native.Nat.{ℕ, zero, suc, ◌≤◌, ◌<◌}
 use native.Mathlib.Nat.{le_of_lt, le_refl}
 use native.Mathlib.Omega.{arith}
 use mathlib.Core.Bool.{Bool, true, false, not}
 use mathlib.Core.List.{List, [], ◌∷◌, ◌++◌}
 use lib.ListN.{length, take, get_or}
-use lib.Seq.{take-suc, get_or-take, length-take-le}
+use lib.Seq.{take-suc, take_all, get_or-take, length-take-le}
 use borrow.Author.Tests.{ne_eqb}
 use lib.Dec.{eqb}
 use Rattle.lists.specs.Filled.{Filled, Front}
@@ -67,22 +67,22 @@ module _ (h : List Event) (r : readable h ≡ true) (codes : List ℕ) (few : le
       go false s = rw (front.holds i l, s)
 
 -- what the writer writes of the arrays is the marking
-pub arrays-mark : (h : List Event) → readable h ≡ true → (codes order outcomes : List ℕ) (count : ℕ) → count ≡ begins h → count ≤ 10 → count ≤ length codes
-    → Arrayed codes count order outcomes
-    → (place : List ℕ) → Filled 64 0 (λ t. place_of t (decode (take count codes))) count place
+pub arrays-mark : (h : List Event) → readable h ≡ true → (codes order outcomes : List ℕ) → length codes ≡ begins h → length codes ≤ 10
+    → Arrayed codes (length codes) order outcomes
+    → (place : List ℕ) → Filled 64 0 (λ t. place_of t (decode codes)) (length codes) place
     → (gaps : List ℕ) → Front 0 (placed_at h place) (length h) gaps
-    → bytes_in order outcomes count (take (length h) gaps) ≡ found_bytes h (take count codes)
-arrays-mark h r codes order outcomes count all few room a place p gaps g =
+    → bytes_in order outcomes (length codes) (take (length h) gaps) ≡ found_bytes h codes
+arrays-mark h r codes order outcomes all few a place p gaps g =
     let n = length h in
-    let c = take count codes in
-    let less : length c ≤ 10 = omega (arith, length-take-le count codes room) in
-    let q : Filled 64 0 (λ t. place_of t (decode c)) (begins h) place = subst (λ (k : ℕ). Filled 64 0 (λ t. place_of t (decode c)) k place) all p in
+    let q : Filled 64 0 (λ t. place_of t (decode codes)) (begins h) place = rw all at p in
     let long : length (take n gaps) ≡ n = length-take-le n gaps g.room in
     let front : (i : ℕ) → i < n → get_or (take n gaps) i 0 ≡ get_or gaps i 0 = λ i l. get_or-take n gaps i 0 l in
-    let points : points_in (take n gaps) (length (take n gaps)) ≡ points_to (is_store_read h) (gap_at h (decode c)) n =
+    let points : points_in (take n gaps) (length (take n gaps)) ≡ points_to (is_store_read h) (gap_at h (decode codes)) n =
     ap (points_in (take n gaps)) long
-    ∙ points-same (λ i. is_gap (get_or (take n gaps) i 0)) (is_store_read h) (λ i. get_or (take n gaps) i 0) (gap_at h (decode c)) n
-    (λ i l. ap is_gap (front i l) ∙ gap_is h r c less place q gaps g i l)
-    (λ i l s. front i l ∙ gap_here h r c less place q gaps g i l s) in
-    ap₂ (λ (P : List Place) (l : List ℕ). marking_head ++ (flat place_bytes P ++ l)) (places-are codes order outcomes count room a count (le_refl count)) points
-    ∙ sym (marking-is h (decode c))
+    ∙ points-same (λ i. is_gap (get_or (take n gaps) i 0)) (is_store_read h) (λ i. get_or (take n gaps) i 0) (gap_at h (decode codes)) n
+    (λ i l. ap is_gap (front i l) ∙ gap_is h r codes few place q gaps g i l)
+    (λ i l s. front i l ∙ gap_here h r codes few place q gaps g i l s) in
+    let places = places-are codes order outcomes (length codes) (le_refl _) a (length codes) (le_refl _) in
+    let whole : take (length codes) codes ≡ codes = take_all (length codes) codes (le_refl _) in
+    ap₂ (λ (P : List Place) (l : List ℕ). marking_head ++ (flat place_bytes P ++ l)) (places ∙ ap decode whole) points
+    ∙ sym (marking-is h (decode codes))

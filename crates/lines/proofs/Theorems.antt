@@ -3,24 +3,23 @@
 -- Assumes nothing.
 use Prim.Native.Nat.{ℕ, ◌≤◌}
 use native.Mathlib.Omega.{arith}
-use mathlib.Core.Path.{◌≡◌, refl, ap, ◌∙◌}
+use mathlib.Core.Path.{◌≡◌, refl, ap}
 use mathlib.Core.Logic.Iff
 use mathlib.Core.Logic.{◌↔◌}
 use mathlib.Core.List.{List, [], ◌∷◌, ◌++◌}
 use lib.ListN.{get_or}
+use Rattle.std.specs.Prelude.{Result, Ok, Err}
 use Rattle.events.specs.declared.event.Event.{Event}
+use Rattle.events.specs.declared.refusal.Refusal.{Refusal}
 use Rattle.records.specs.Bytes.{Bytes}
 use Rattle.event_log.specs.Starts.{start_of}
 use Rattle.events.specs.Events.{begins}
 use Rattle.opacity.specs.declared.verdict.Rule.{Rule}
 use Rattle.opacity.specs.declared.verdict.Verdict.{Verdict}
-use Rattle.opacity.specs.declared.verdict.Scanned.{Scanned}
-use Rattle.opacity.specs.Scan.{AllJustified}
+use Rattle.opacity.specs.declared.verdict.Cause.{Cause}
+use Rattle.opacity.specs.Scan.{Scanned, opaque, fault, AllJustified}
 use Rattle.counts.specs.Tally.{tally}
 use Rattle.reader.specs.Reading.{Log, readable, history_of}
-use Rattle.marking.specs.declared.check.Ruling.{Ruling}
-use Rattle.scan.specs.declared.Scanning.{Scanning}
-use Rattle.capture.specs.declared.Report.{Report}
 use Rattle.capture.specs.Report.{counts_of, marking_of, opacity_of, report_on}
 use Rattle.capture.proofs.Theorems.{four-lines, says-opaque, says-accepted}
 use Rattle.capture.specs.Words.{Justifying}
@@ -36,8 +35,8 @@ pub as-in-the-paper :
     ∷ verdict_line (Verdict.Broken Rule.D 9 1)
     ∷ refused_line (text "history") 5 6
     ∷ refused_line (text "marking") 28 6
-    ∷ scanned_line Scanned.Opaque
-    ∷ scanned_line (Scanned.Faulted 9 1)
+    ∷ scanned_line opaque
+    ∷ scanned_line (fault 9 Cause.Read)
     ∷ unscanned_line 31
     ∷ [])
     ≡ (text "events 10 transactions 2 reads 2\n"
@@ -54,30 +53,30 @@ unfolding counts_line tally_line refused_line broken_line faulted_line unscanned
 as-in-the-paper = refl
 
 -- No other answer has the text of an accepted marking: the byte after "marking " is another,
-accepted-text : (m : Ruling) → (marking_line m ≡ text "marking accepted\n") ↔ (m ≡ Ruling.Ruled Verdict.Accepted)
+accepted-text : (m : Result Verdict Refusal) → (marking_line m ≡ text "marking accepted\n") ↔ (m ≡ Ok Verdict.Accepted)
 unfolding refused_line broken_line
 accepted-text m = (go m, ap marking_line)
   where
     other : (l : List ℕ) → get_or l 8 0 ≡ 114 → l ≡ text "marking accepted\n" → ⊥
     other l e f = omega (arith, ap (λ (x : List ℕ). get_or x 8 0) f)
 
-    go : (m : Ruling) → marking_line m ≡ text "marking accepted\n" → m ≡ Ruling.Ruled Verdict.Accepted
-    go (Ruling.Ruled Verdict.Accepted) e = refl
-    go (Ruling.Ruled (Verdict.Broken rule event transaction)) e = absurd (other _ refl e)
-    go (Ruling.Refused r) e = absurd (other _ refl e)
+    go : (m : Result Verdict Refusal) → marking_line m ≡ text "marking accepted\n" → m ≡ Ok Verdict.Accepted
+    go (Ok Verdict.Accepted) e = refl
+    go (Ok (Verdict.Broken rule event transaction)) e = absurd (other _ refl e)
+    go (Err r) e = absurd (other _ refl e)
 
 -- nor that of an opaque history.
-opaque-text : (o : Scanning) → (opacity_line o ≡ text "opaque yes\n") ↔ (o ≡ Scanning.Scanned Scanned.Opaque)
+opaque-text : (o : Result Scanned Refusal) → (opacity_line o ≡ text "opaque yes\n") ↔ (o ≡ Ok opaque)
 unfolding faulted_line unscanned_line
 opaque-text o = (go o, ap opacity_line)
   where
     seventh : (l : List ℕ) → l ≡ text "opaque yes\n" → get_or l 7 0 ≡ 121
     seventh l e = ap (λ (x : List ℕ). get_or x 7 0) e
 
-    go : (o : Scanning) → opacity_line o ≡ text "opaque yes\n" → o ≡ Scanning.Scanned Scanned.Opaque
-    go (Scanning.Scanned Scanned.Opaque) e = refl
-    go (Scanning.Scanned (Scanned.Faulted event cause)) e = absurd (let z : ◌≡◌ {A = ℕ} 110 121 = seventh _ e in omega arith)
-    go (Scanning.Refused r) e = absurd (let z : ◌≡◌ {A = ℕ} 114 121 = seventh _ e in omega arith)
+    go : (o : Result Scanned Refusal) → opacity_line o ≡ text "opaque yes\n" → o ≡ Ok opaque
+    go (Ok (Ok tt)) e = refl
+    go (Ok (Err f)) e = absurd (let z : ◌≡◌ {A = ℕ} 110 121 = seventh _ e in omega arith)
+    go (Err r) e = absurd (let z : ◌≡◌ {A = ℕ} 114 121 = seventh _ e in omega arith)
 
 -- What is printed for a history that is not refused:
 module _ (s : List ℕ) (by : Bytes s) (l : Log) (file : history_of s ≡ readable l) (marking : List ℕ) where

@@ -1,13 +1,12 @@
 -- To be believed: the lines of the report ("Scan and report", and No. 2 for the second line), byte by byte: all that is printed.
 -- Assumes nothing.
-use Rattle.std.specs.Prelude.{ℕ, List, ◌++◌}
+use Rattle.std.specs.Prelude.{ℕ, List, ◌++◌, Result, Ok, Err}
 use Prim.Native.String.{String}
+use Rattle.events.specs.declared.refusal.Refusal.{Refusal}
 use Rattle.opacity.specs.declared.verdict.Rule.{Rule}
 use Rattle.opacity.specs.declared.verdict.Verdict.{Verdict}
-use Rattle.opacity.specs.declared.verdict.Scanned.{Scanned}
+use Rattle.opacity.specs.Scan.{Scanned, cause_number}
 use Rattle.counts.specs.declared.tally.Tally.{Tally}
-use Rattle.scan.specs.declared.Scanning.{Scanning}
-use Rattle.marking.specs.declared.check.Ruling.{Ruling}
 use Rattle.capture.specs.declared.Counts.{Counts}
 use Rattle.capture.specs.declared.Report.{Report}
 use Rattle.lines.specs.Text.{text, field}
@@ -40,9 +39,9 @@ abbrev pub verdict_line : Verdict → List ℕ
 verdict_line Verdict.Accepted = text "marking accepted\n"
 verdict_line (Verdict.Broken rule event transaction) = broken_line rule event transaction
 
-abbrev pub marking_line : Ruling → List ℕ
-marking_line (Ruling.Ruled verdict) = verdict_line verdict
-marking_line (Ruling.Refused r) = refused_line (text "marking") r.question r.at
+abbrev pub marking_line : Result Verdict Refusal → List ℕ
+marking_line (Ok verdict) = verdict_line verdict
+marking_line (Err r) = refused_line (text "marking") r.question r.at
 
 unfoldable pub faulted_line : ℕ → ℕ → List ℕ
 faulted_line event cause = field "opaque no event " event ++ field " cause " cause ++ text "\n"
@@ -51,14 +50,14 @@ unfoldable pub unscanned_line : ℕ → List ℕ
 unscanned_line question = field "opaque refused " question ++ text "\n"
 
 abbrev pub scanned_line : Scanned → List ℕ
-scanned_line Scanned.Opaque = text "opaque yes\n"
-scanned_line (Scanned.Faulted event cause) = faulted_line event cause
+scanned_line (Ok tt) = text "opaque yes\n"
+scanned_line (Err f) = faulted_line f.event (cause_number f.cause)
 
-abbrev pub opacity_line : Scanning → List ℕ
-opacity_line (Scanning.Scanned scanned) = scanned_line scanned
-opacity_line (Scanning.Refused r) = unscanned_line r.question
+abbrev pub opacity_line : Result Scanned Refusal → List ℕ
+opacity_line (Ok scanned) = scanned_line scanned
+opacity_line (Err r) = unscanned_line r.question
 
 -- a history that is refused has one line, any other four
-unfoldable pub lines : Report → List ℕ
-lines (Report.Refused r) = refused_line (text "history") r.question r.at
-lines (Report.Judged counts tally marking opacity) = counts_line counts ++ tally_line tally ++ marking_line marking ++ opacity_line opacity
+unfoldable pub lines : Result Report Refusal → List ℕ
+lines (Ok r) = counts_line r.counts ++ tally_line r.tally ++ marking_line r.marking ++ opacity_line r.opacity
+lines (Err r) = refused_line (text "history") r.question r.at

@@ -1,6 +1,6 @@
 -- To be believed: text as bytes: words, numbers in base ten, and what stands in a buffer after a text is put there.
 -- Assumes nothing.
-use Rattle.std.specs.Prelude.{ℕ, zero, suc, ◌+◌, ◌/◌, ◌≤◌, ◌≡◌, List, [], ◌∷◌, ◌++◌, ltb, length}
+use Rattle.std.specs.Prelude.{ℕ, zero, suc, ◌+◌, ◌/◌, ◌≤◌, ◌≡◌, List, [], ◌∷◌, ◌++◌, ltb, length, take}
 use Prim.Native.Char.{code}
 use Prim.Native.String.{String, [] as nothing, ◌∷◌ as ◌then◌}
 use Rattle.io.specs.Digits.{last_digits}
@@ -28,4 +28,9 @@ field words n = text words ++ decimal n
 pub record Put (most : ℕ) (before after : List ℕ) (at : ℕ) (run : List ℕ) (next : ℕ) : Type 0 where
   pub filled : after ≡ placed before at run
   pub ends : next ≡ at + length run
+  pub short : length run ≤ most
+
+-- a run of at most `most` bytes is put behind a text that has room for 343: what goes beyond them is left out
+pub record Adds (most : ℕ) (before after run : List ℕ) : Type 0 where
+  pub filled : after ≡ take 343 (before ++ run)
   pub short : length run ≤ most

@@ -1,4 +1,4 @@
 pub mod LogLaws
 pub mod TableLaws
-pub mod WriteLaws
 pub mod RegisterLaws
+pub mod WriteLaws

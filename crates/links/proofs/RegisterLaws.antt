@@ -1,31 +1,28 @@
--- Laws of the sets of registers that transactions write: how they are filled.
+-- Laws of the sets of registers that transactions write.
 -- Assumes nothing.
-use Prim.Native.Nat.{ℕ, suc, ◌+◌, ◌^◌, ◌<◌}
-use native.Mathlib.Numerals.{add-one}
+use Prim.Native.Nat.{ℕ, zero, suc, ◌≤◌, ◌<◌, ◌^◌}
+use native.Mathlib.Nat.{le_refl}
 use native.Mathlib.Omega.{arith}
-use mathlib.Core.Path.{◌≡◌, refl, sym, ap, ◌∙◌, subst}
+use mathlib.Core.Path.{◌≡◌, refl, sym, ap, ◌∙◌}
 use mathlib.Core.Bool.{Bool, true, false, cond}
 use mathlib.Core.List.{List}
 use mathlib.Core.Option.{none, some}
 use lib.Bits.{bit_or}
 use lib.Dec.{eqb}
-use lib.ListN.{length, get_or, take, set, replicate, length-set, length-replicate}
-use lib.Seq.{get_or-set_same, get_or-set_other}
-use borrow.Author.Tests.{eqb-true, eqb-false}
+use lib.ListN.{length, get_or, take}
+use lib.Seq.{take-length}
 use Rattle.lists.specs.Bits.{bit_at}
 use Rattle.lists.specs.Lists.{◌and◌, or_else, latest}
 use Rattle.lists.proofs.BitLaws.{bit-with}
 use Rattle.events.specs.declared.event.Event.{Event}
 use Rattle.events.specs.Events.{event_at, is_write}
 use Rattle.opacity.specs.Transactions.{last_write}
-use Rattle.links.specs.Registers.{with_written, registered, Sets}
+use Rattle.links.specs.declared.tables.Transaction.{Transaction}
+use Rattle.links.specs.Tables.{blank, slot, with_written, AllTabled}
+use Rattle.links.proofs.TableLaws.{standing, standing-more}
 use Rattle.links.proofs.WriteLaws.{last-same, last-write}
 
-pub sets-start : (h : List Event) → Sets h 0 (replicate 64 0)
-unfolding last_write latest
-sets-start h = record { size = length-replicate {A = ℕ} 64 0; unwritten = λ t r l z. refl }
-
--- one event more, which is handed over as the code read it
+-- one event more
 module _ (h : List Event) (i : ℕ) (inside : i < length h) where
   -- a transaction that event i is not of
   other-write : (t r : ℕ) → eqb (event_at h i).transaction t ≡ false → last_write (take i h) t r ≡ none → last_write (take (suc i) h) t r ≡ none
@@ -46,27 +43,22 @@ module _ (h : List Event) (i : ℕ) (inside : i < length h) where
       go false e q = last-same h t r i inside true false d e refl ∙ before q
       go true e q = last-write h t r i inside d e ∙ hit (eqb (event_at h i).register r) (λ m. q (bit-with r (event_at h i).register x ∙ m))
 
-  pub sets_more : {table after : List ℕ} {e : Event} → e ≡ event_at h i → e.transaction < 64 → after ≡ registered e table
-      → Sets h i table → Sets h (i + 1) after
-  sets_more {table} {after} {e} same b q w = subst (Sets h (i + 1)) (sym q)
-      (record { size = length-set table t v ∙ w.size; unwritten = λ u r l z. rw (add-one i) (go u r l z (eqb (event_at h i).transaction u) refl) })
-    where
-      t : ℕ
-      t = e.transaction
+-- to those outside the set nothing is written by the first m events
+unwritten-before : (h : List Event) (t r m : ℕ) → m ≤ length h → (bit_at r (standing h t m).registers ≡ 1 → ⊥) → last_write (take m h) t r ≡ none
+unfolding slot last_write latest
+unwritten-before h t r zero l z = refl
+unwritten-before h t r (suc m) l z =
+    go (eqb (event_at h m).transaction t) refl (unwritten-before h t r m (omega arith))
+    (λ e. z (ap (bit_at r) (standing-more (λ (x : Transaction). x.registers) h t m) ∙ e))
+  where
+    go : (b : Bool) → eqb (event_at h m).transaction t ≡ b
+        → ((bit_at r (standing h t m).registers ≡ 1 → ⊥) → last_write (take m h) t r ≡ none)
+        → (bit_at r (cond b (with_written (event_at h m) (standing h t m).registers) (standing h t m).registers) ≡ 1 → ⊥) → last_write (take (suc m) h) t r ≡ none
+    go true d ih w = own-write h m l t r (standing h t m).registers d ih w
+    go false d ih w = other-write h m l t r d (ih w)
 
-      v : ℕ
-      v = with_written e (get_or table t 0)
-
-      at : t ≡ (event_at h i).transaction
-      at = ap (λ (x : Event). x.transaction) same
-
-      go : (u r : ℕ) → u < 64 → (bit_at r (get_or (set table t v) u 0) ≡ 1 → ⊥) → (c : Bool) → eqb (event_at h i).transaction u ≡ c → last_write (take (suc i) h) u r ≡ none
-      go u r l z true d =
-          let k : u ≡ t = sym (at ∙ eqb-true _ _ d) in
-          let here : get_or (set table t v) u 0 ≡ with_written (event_at h i) (get_or table u 0) =
-          ap (λ (x : ℕ). get_or (set table t v) x 0) k
-          ∙ (get_or-set_same table t v 0 (rw w.size b)
-          ∙ (ap (λ (x : Event). with_written x (get_or table t 0)) same ∙ ap (λ (x : ℕ). with_written (event_at h i) (get_or table x 0)) (sym k))) in
-          own-write u r (get_or table u 0) d (w.unwritten u r l) (λ m. z (ap (bit_at r) here ∙ m))
-      go u r l z false d =
-          other-write u r d (w.unwritten u r l (λ m. z (ap (bit_at r) (get_or-set_other table t u v 0 (λ k. eqb-false _ _ d (sym at ∙ sym k))) ∙ m)))
+pub its-unwritten : {h : List Event} {tables : List Transaction} → AllTabled h tables → (t r : ℕ) → t < 64
+    → (bit_at r (get_or tables t blank).registers ≡ 1 → ⊥) → last_write h t r ≡ none
+its-unwritten {h} {tables} y t r l z =
+    ap (λ (g : List Event). last_write g t r) (sym (take-length h))
+    ∙ unwritten-before h t r (length h) (le_refl _) (λ e. z (ap (λ (x : Transaction). bit_at r x.registers) (y.holds t l) ∙ e))

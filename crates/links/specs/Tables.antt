@@ -1,54 +1,83 @@
 -- Vocabulary between crates: it need not be believed, the public contracts end in the paper's definitions.
--- Tables filled by going once through the events: by event or place, and one number for each transaction.
+-- Tables filled by going once through the events: by transaction, what stands of it.
 -- Assumes nothing.
-use Rattle.std.specs.Prelude.{ℕ, zero, suc, ◌+◌, ◌<◌, max, ◌≡◌, Bool, false, cond, List, eqb, ltb, length, get_or, set}
+use Rattle.std.specs.Prelude.{ℕ, zero, suc, ◌+◌, ◌^◌, ◌<◌, ◌≡◌, Bool, false, cond, List, Option, Some, None, eqb, ltb, length, get_or}
+use Rattle.std.specs.Int.Bits.{bit_or}
 use Rattle.events.specs.declared.event.Event.{Event}
 use Rattle.events.specs.Events.{event_at, is_begin, is_write, is_end, is_commit, is_abort, asks_commit}
-use Rattle.links.specs.declared.tables.Fact.{Fact}
-use Rattle.links.specs.declared.tables.Fact.TheVariants.{LastEvent, LastWrite, LastBegin, FirstBegin, FirstEnd, Rank}
+use Rattle.links.specs.declared.tables.Rank.{Rank}
+use Rattle.links.specs.declared.tables.Rank.TheVariants.{Live, Pending, Aborted, Committed}
+use Rattle.links.specs.declared.tables.Transaction.{Transaction}
 
--- what stands after event i, where x stood before: one past the last event that passes, one past the first one, 0 for none
-unfoldable pub last_one : Bool → ℕ → ℕ → ℕ
-last_one b i x = cond b (i + 1) x
+-- what stands after event i, where x stood before: the last event that passes, and the first one
+unfoldable pub last_one : Bool → ℕ → Option ℕ → Option ℕ
+last_one b i x = cond b (Some i) x
 
-unfoldable pub first_one : Bool → ℕ → ℕ → ℕ
-first_one b i x = cond (eqb x 0) (cond b (i + 1) 0) x
+unfoldable pub first_one : Bool → ℕ → Option ℕ → Option ℕ
+first_one b i None = cond b (Some i) None
+first_one b i (Some k) = Some k
 
--- how far a transaction has come, by the number of its status: 3 committed, 2 aborted, 1 commit called, 0 otherwise
-unfoldable pub rank : Bool → Bool → Bool → ℕ
-rank commits aborts calls = cond commits 3 (cond aborts 2 (cond calls 1 0))
+-- how far a transaction has come
+unfoldable pub rank : Bool → Bool → Bool → Rank
+rank commits aborts calls = cond commits Committed (cond aborts Aborted (cond calls Pending Live))
 
-unfoldable pub rank_of : Event → ℕ
+unfoldable pub rank_of : Event → Rank
 rank_of e = rank (is_commit e) (is_abort e) (asks_commit e)
 
--- what event i makes of the x that stood at its transaction
-abbrev pub slot_at : Fact → Event → ℕ → ℕ → ℕ
-slot_at LastEvent e i x = i + 1
-slot_at LastWrite e i x = last_one (is_write e) i x
-slot_at LastBegin e i x = last_one (is_begin e) i x
-slot_at FirstBegin e i x = first_one (is_begin e) i x
-slot_at FirstEnd e i x = first_one (is_end e) i x
-slot_at Rank e i x = max x (rank_of e)
+-- and the further of two
+abbrev pub step : Rank → ℕ
+step Live = 0
+step Pending = 1
+step Aborted = 2
+step Committed = 3
 
--- and of the table of all transactions
-abbrev pub noted : Fact → Event → ℕ → List ℕ → List ℕ
-noted f e i table = set table e.transaction (slot_at f e i (get_or table e.transaction 0))
+abbrev pub further : Rank → Rank → Rank
+further a b = cond (ltb (step a) (step b)) b a
 
--- what stands at t after n events
-unfoldable pub slot : Fact → List Event → ℕ → ℕ → ℕ
-slot f h t zero = 0
-slot f h t (suc i) =
-    let x = slot f h t i in
-    cond (eqb (event_at h i).transaction t) (slot_at f (event_at h i) i x) x
+-- a set of registers after an event of the transaction that writes them
+abbrev pub with_written : Event → ℕ → ℕ
+with_written e set = cond (is_write e) (bit_or set (2 ^ e.register)) set
 
-pub record Slots (f : Fact) (h : List Event) (n : ℕ) (table : List ℕ) : Type 0 where
+-- what stands of a transaction before its events, and what its event e, of number i, makes of that
+abbrev pub blank : Transaction
+blank = record { rank = Live; ended = None; began = None; written = None; registers = 0 }
+
+abbrev pub noted : Event → ℕ → Transaction → Transaction
+noted e i x =
+    record {
+      rank = further x.rank (rank_of e);
+      ended = first_one (is_end e) i x.ended;
+      began = last_one (is_begin e) i x.began;
+      written = last_one (is_write e) i x.written;
+      registers = with_written e x.registers;
+    }
+
+-- what it makes of the last write alone
+abbrev pub write_noted : Event → ℕ → Option ℕ → Option ℕ
+write_noted e i x = last_one (is_write e) i x
+
+-- what stands at t after n events, where d stood before them
+unfoldable pub slot : {A : Type 0} → A → (Event → ℕ → A → A) → List Event → ℕ → ℕ → A
+slot d note h t zero = d
+slot d note h t (suc i) =
+    let x = slot d note h t i in
+    cond (eqb (event_at h i).transaction t) (note (event_at h i) i x) x
+
+pub record Slots {A : Type 0} (d : A) (note : Event → ℕ → A → A) (h : List Event) (n : ℕ) (table : List A) : Type 0 where
   pub size : length table ≡ 64
-  pub holds : (t : ℕ) → t < 64 → get_or table t 0 ≡ slot f h t n
+  pub holds : (t : ℕ) → t < 64 → get_or table t d ≡ slot d note h t n
 
--- the table of a whole history
-abbrev pub Tabled : Fact → List Event → List ℕ → Type 0
-Tabled f h table = Slots f h (length h) table
+-- the tables of a whole history
+abbrev pub AllTabled : List Event → List Transaction → Type 0
+AllTabled h tables = Slots blank noted h (length h) tables
 
--- an end comes before a begin, each as one past its event, with 0 for none
-unfoldable pub earlier : ℕ → ℕ → Bool
-earlier e b = cond (eqb e 0) false (ltb e b)
+-- an end comes before a begin
+unfoldable pub earlier : Option ℕ → Option ℕ → Bool
+earlier None b = false
+earlier (Some e) None = false
+earlier (Some e) (Some b) = ltb e b
+
+-- one past an event, with 0 for none
+abbrev pub past : Option ℕ → ℕ
+past None = 0
+past (Some i) = i + 1

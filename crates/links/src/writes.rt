@@ -2,26 +2,23 @@
 // without going through the events of others.
 ghost use Rattle.std.specs.Prelude.{◌≡◌, true, ◌≤◌, length};
 ghost use Rattle.events.specs.Questions.{readable};
-ghost use Rattle.event_log.specs.Rows.{logged};
 ghost use Rattle.links.specs.Writes.{Linked};
 
-use crate::tables::{Fact, index_of, note};
-use event_log::rows::{Row, event_at};
+use crate::tables::last_one;
+use events::event::{Event, is_write};
 
-// For each event, one past the last write of its transaction before it, with 0 for none; the entries
-// past the last event are left as they were.
-pub fn links(log: &[Row], link: &mut [u16])
-    requires log_value { readable (logged log.now) ≡ true }
+// For each event, the last write of its transaction before it; the entries past the last event are left
+// as they were.
+#[tactic(auto, using(crate::proofs::LogLaws::readable_log))]
+pub fn links(log: &[Event], link: &mut [Option<u16>])
+    requires log_value { readable log.now ≡ true }
     requires log_in_bounds { length log.now ≤ length link.old }
-    ensures { Linked (logged log.now) link.new }
+    ensures { Linked log.now link.new }
 {
-    let mut last = [0u16; 64];
-    let mut i: usize = 0;
-    while i < log.len() {
-        let e = event_at(log, i);
-        let t = index_of(e.transaction);
+    let mut last = [None; 64];
+    for (i, e) in log.iter().enumerate() {
+        let t = usize::from(e.transaction);
         link[i] = last[t];
-        note(&mut last, Fact::LastWrite, e, i);
-        i += 1;
+        last[t] = last_one(is_write(*e), i as u16, last[t]);
     }
 }

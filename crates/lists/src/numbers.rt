@@ -5,5 +5,5 @@ ghost use Rattle.std.specs.Prelude.{◌≡◌, ◌+◌};
 pub fn stored(x: u32) -> u64
     ensures { result ≡ x + 1 }
 {
-    x as u64 + 1
+    u64::from(x) + 1
 }

@@ -1,6 +1,6 @@
 -- What the row of the end says: every transaction that has begun comes before it, and it reads nothing.
 -- Assumes nothing.
-use mathlib.Core.Path.{◌≡◌, refl, sym, ap, ◌∙◌}
+use mathlib.Core.Path.{◌≡◌, refl, ap, ◌∙◌}
 use Prim.Native.Nat.{ℕ, zero, suc, ◌+◌, ◌≤◌, ◌<◌}
 use native.Mathlib.Nat.{le_refl, le_of_lt}
 use native.Mathlib.Omega.{arith}
@@ -20,7 +20,8 @@ use Rattle.events.proofs.QuestionLaws.{asked-at}
 use Rattle.lists.specs.Bits.{bit_at}
 use Rattle.places.specs.Facts.{end_row, after_of, reads_of}
 use Rattle.places.specs.Tree.{EndAsks}
-use Rattle.tables.specs.Tables.{Tables, next, tables_of}
+use Rattle.tables.specs.declared.Tables.{Tables}
+use Rattle.tables.specs.Tables.{next, tables_of}
 use Rattle.lowest.specs.Order.{Judged}
 use Rattle.tables.proofs.PutLaws.{end-next, end-reads-next}
 use Rattle.lowest.proofs.Meaning.{Good, tab, tab-suc, has_room, shaped, bit-joined, fact-zero}

@@ -27,7 +27,8 @@ use Rattle.places.specs.Tree.{Completion, up_from, first_whole}
 use Rattle.lists.proofs.BitLaws.{bit-none, lowest-in}
 use Rattle.search.proofs.EndLaws.{reads_none}
 use Rattle.event_log.specs.Starts.{start_of}
-use Rattle.tables.specs.Tables.{Tables, tables_of}
+use Rattle.tables.specs.declared.Tables.{Tables}
+use Rattle.tables.specs.Tables.{tables_of}
 use Rattle.lowest.specs.Order.{decoded, constraints_of, found_order, Judged}
 use Rattle.lowest.proofs.Meaning.{Good}
 use Rattle.lowest.proofs.ReadMeaning.{Reads, Bad, wrong, apart, reads-hold}

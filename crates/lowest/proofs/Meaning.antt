@@ -23,7 +23,8 @@ use Rattle.lists.specs.Bits.{bit_at}
 use Rattle.places.specs.Facts.{fact, Shaped}
 use Rattle.places.specs.Places.{plus}
 use Rattle.lists.proofs.BitLaws.{bit-none, bit-with}
-use Rattle.tables.specs.Tables.{Tables, Tabled, joined, rule_with, next, empty, go_through, tables_of}
+use Rattle.tables.specs.declared.Tables.{Tables}
+use Rattle.tables.specs.Tables.{Tabled, joined, rule_with, next, empty, go_through, tables_of}
 use Rattle.tables.proofs.TableLaws.{tables-snoc}
 use Rattle.tables.proofs.PutLaws.{and-true, shaped-next, after_next, allowed-next, written_next}
 

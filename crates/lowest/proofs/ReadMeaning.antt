@@ -9,7 +9,7 @@ use native.Mathlib.Omega.{arith}
 use mathlib.Core.Bool.{Bool, true, false, not, cond, true≢false, false≢true}
 use mathlib.Core.List.{List, []}
 use mathlib.Core.Option.{Option, none, some}
-use lib.ListN.{length, take}
+use lib.ListN.{length}
 use lib.Dec.{eqb}
 use borrow.Author.Tests.{eqb-true, eqb-false, eq-eqb, ne_eqb}
 use Rattle.lists.specs.Lists.{◌and◌, ◌implies◌, is_none}
@@ -18,10 +18,11 @@ use Rattle.events.specs.Events.{event_at, is_read}
 use Rattle.opacity.specs.Transactions.{own_write, is_own_read, is_store_read, own_right, is_value}
 use Rattle.lists.proofs.ListLaws.{and_l, and_r, below-cases}
 use Rattle.lists.specs.Bits.{bit_at}
-use Rattle.places.specs.Facts.{fact, required_of, written_of}
+use Rattle.places.specs.Facts.{required_of, written_of}
 use Rattle.places.specs.Places.{plus}
 use Rattle.lists.proofs.BitLaws.{bit-none}
-use Rattle.tables.specs.Tables.{Tables, Tabled, clashes, expected, contradicts, reads_store, next, empty, go_through, tables_of}
+use Rattle.tables.specs.declared.Tables.{Tables}
+use Rattle.tables.specs.Tables.{Tabled, clashes, expected, contradicts, reads_store, next, empty, go_through, tables_of}
 use Rattle.tables.proofs.PutLaws.{required-next}
 use Rattle.lowest.proofs.Meaning.{Good, tab, tab-suc, has_room, shaped, bit-joined, written-holds, fact-zero}
 

@@ -19,7 +19,8 @@ use Rattle.lists.proofs.ListLaws.{below-cases}
 use Rattle.lists.specs.Bits.{bit_at}
 use Rattle.places.specs.Facts.{fact}
 use Rattle.lists.proofs.BitLaws.{bit-none, bit-with}
-use Rattle.tables.specs.Tables.{Tables, next, tables_of}
+use Rattle.tables.specs.declared.Tables.{Tables}
+use Rattle.tables.specs.Tables.{next, tables_of}
 use Rattle.tables.proofs.PutLaws.{reads-next}
 use Rattle.lowest.proofs.Meaning.{Good, tab, tab-suc, has_room, shaped, fact-zero}
 use Rattle.lowest.proofs.ReadMeaning.{store_same, own_held}

@@ -1,7 +1,7 @@
 -- Vocabulary between crates: it need not be believed, the public contracts end in the paper's definitions.
 -- The finder's answer: the first completion of the tables of a history, as an order of places.
 -- Assumes nothing.
-use Rattle.std.specs.Prelude.{◌≡◌, ℕ, ◌≤◌, true, cond, List, eqb}
+use Rattle.std.specs.Prelude.{◌≡◌, ℕ, ◌≤◌, true, cond, List, eqb, Option as Answer}
 use Rattle.std.proofs.Math.Option.{Option, none, some}
 use Rattle.events.specs.Questions.{readable}
 use Rattle.events.specs.declared.event.Event.{Event}
@@ -9,7 +9,8 @@ use Rattle.events.specs.Events.{begins}
 use Rattle.opacity.specs.Justification.{Place}
 use Rattle.places.specs.Places.{decode}
 use Rattle.places.specs.Tree.{Constraints, constraints, Completion, first_whole, read_answer}
-use Rattle.tables.specs.Tables.{Tables, tables_of}
+use Rattle.tables.specs.declared.Tables.{Tables}
+use Rattle.tables.specs.Tables.{tables_of}
 
 -- a completion as an order of places
 abbrev pub decoded : Completion → Option (List Place)
@@ -28,5 +29,5 @@ pub record Judged (h : List Event) : Type 0 where
   pub few : begins h ≤ 10
 
 -- the order of places of a history that an answer has
-abbrev pub order_of : List Event → ℕ → Option (List Place)
+abbrev pub order_of : List Event → Answer ℕ → Option (List Place)
 order_of h a = decoded (read_answer (begins h) a)

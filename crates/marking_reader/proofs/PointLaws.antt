@@ -1,18 +1,21 @@
 -- Points in a table of gaps by event, where 65535 stands for none.
 -- Assumes nothing.
 use Prim.Native.Nat.{ℕ, zero, suc, ◌≤◌, ◌<◌}
-use native.Mathlib.Nat.{le_step, lt-suc_self, lt_of_not-le}
+use native.Mathlib.Nat.{zero-add, le_step, lt-suc_self, lt_of_not-le}
 use native.Mathlib.Decide.{dec_le}
 use native.Mathlib.Omega.{arith}
-use mathlib.Core.Path.{◌≡◌, refl, sym, ap, ◌∙◌}
+use mathlib.Core.Path.{◌≡◌, refl, sym, ap, ◌∙◌, subst}
 use mathlib.Core.Bool.{Bool, true, false, not, cond, true≢false, false≢true}
 use mathlib.Core.List.{List, [], ◌∷◌, ◌++◌, map, map-append, append-nil}
 use lib.Dec.{eqb, ltb, leb}
 use lib.ListN.{length, get_or, set, get_or-eq_default}
 use lib.Seq.{get_or-set_other}
 use borrow.Author.Tests.{eqb-true, eq-eqb, eqb-false, lt-ltb, le-ltb, le-leb}
-use Rattle.lists.specs.Lists.{◌and◌, ◌or◌, ◌implies◌, any, all, keep, push, range}
-use Rattle.lists.proofs.ListLaws.{and_i, any_append, all_append, or-false, keep_append}
+use Rattle.lists.specs.Lists.{◌and◌, ◌or◌, ◌implies◌, any, all, every, keep, push, range}
+use Rattle.lists.proofs.ListLaws.{and_i, any_append, all_append, or-false, keep_append, clash, every-e, every-i}
+use Rattle.std.specs.List.{range_with_len, AllWithin, HoldsAt}
+use Rattle.std.specs.Bool.{MatchBool}
+use Rattle.std.proofs.lemmas.List.FromFn.{length-range_with_len, get_or-range_with_len}
 use Rattle.events.specs.declared.event.Event.{Event}
 use Rattle.events.specs.Events.{event_at, no_event, answers_read, is_read}
 use Rattle.opacity.specs.Transactions.{is_store_read}
@@ -143,3 +146,31 @@ module _ (h : List Event) (gaps : List ℕ) (i : ℕ) where
       go : (b : Bool) → not b ≡ (b implies false)
       go true = refl
       go false = refl
+
+-- ---- whether every one has
+
+fails-one : (p : ℕ → Bool) (n k : ℕ) → k < n → p k ≡ false → false ≡ every p n
+fails-one p n k l f = go (every p n) refl
+  where
+    go : (b : Bool) → every p n ≡ b → false ≡ b
+    go true e = absurd (clash (every-e p n e k l) f)
+    go false e = refl
+
+module _ (p : ℕ → Bool) (n : ℕ) where
+  abbrev numbers : List ℕ
+  numbers = range_with_len 0 n
+
+  -- what `all` says of the numbers below n
+  abbrev pub Listed : Bool → Type 0
+  Listed r =
+      MatchBool r (AllWithin (λ i. p i ≡ true) numbers 0 (length numbers)) ((k : ℕ) × (k < length numbers) × HoldsAt (λ i. p i ≡ false) numbers k)
+
+  at-number : (k : ℕ) → k < n → get_or numbers k 0 ≡ k
+  at-number k l = get_or-range_with_len 0 n k 0 l ∙ zero-add k
+
+  pub every-listed : (r : Bool) → Listed r → r ≡ every p n
+  every-listed true m =
+      sym (every-i p n (λ k l. subst (λ (i : ℕ). p i ≡ true) (at-number k l) (m k 0 (omega arith) (omega (arith, l, length-range_with_len 0 n)))))
+  every-listed false m =
+      let l : m.0 < n = omega (arith, m.1, length-range_with_len 0 n) in
+      fails-one p n m.0 l (subst (λ (i : ℕ). p i ≡ false) (at-number m.0 l) (m.2 0))

@@ -12,6 +12,7 @@ use lib.Dec.{eqb, ltb, leb}
 use lib.ListN.{length, length-append}
 use borrow.Author.Tests.{lt-ltb, ltb-true, le-ltb, le-leb, leb-true}
 use Rattle.events.specs.declared.event.Event.{Event}
+use Rattle.std.specs.Prelude.{Ok}
 use Rattle.records.specs.declared.record.Found.TheVariants.{Whole}
 use Rattle.records.specs.Bytes.{u16_bytes, u32_bytes}
 use Rattle.lists.specs.Lists.{◌and◌, ◌or◌, any, all, every, keep, push, latest, range}
@@ -86,32 +87,32 @@ module _ (p : ℕ → Bool) where
 pub passing-rise : (p : ℕ → Bool) (n : ℕ) → rising 0 (keep p (range n)) ≡ true
 passing-rise p n = rw (range-from n) (keep-rising p 0 n 0 (le_refl 0))
 
-place-taken : (b next : ℕ) (used : ℕ → Bool) (body : List ℕ) (t o end : ℕ) → length body ≡ 4 → transaction_in body ≡ t → outcome_in body ≡ o
-    → next ≡ 0 → t < b → used t ≡ false → o < 2 → place_step b next used body end ≡ Placed t o end
+place-taken : (b next : ℕ) (used : ℕ → Bool) (at : ℕ) (body : List ℕ) (t o end : ℕ) → length body ≡ 4 → transaction_in body ≡ t → outcome_in body ≡ o
+    → next ≡ 0 → t < b → used t ≡ false → o < 2 → place_step b next used at body end ≡ Ok (Placed t o end)
 unfolding place_step place_questions refusal ◌and◌
-place-taken b next used body t o end z x y n l u m = rw (z, x, y, n, lt-ltb t b l, u, lt-ltb o 2 m)
+place-taken b next used at body t o end z x y n l u m = rw (z, x, y, n, lt-ltb t b l, u, lt-ltb o 2 m)
 
-point-taken : (b next : ℕ) (pl : Bool) (reads : ℕ → Bool) (body : List ℕ) (e g end : ℕ)
+point-taken : (b next : ℕ) (pl : Bool) (reads : ℕ → Bool) (at : ℕ) (body : List ℕ) (e g end : ℕ)
     → length body ≡ 6 → event_in body ≡ e → gap_in body ≡ g → pl ≡ true → leb next e ≡ true → reads e ≡ true → leb g b ≡ true
-    → point_step b next pl reads body end ≡ Pointed e g end
+    → point_step b next pl reads at body end ≡ Ok (Pointed e g end)
 unfolding point_step point_questions refusal ◌and◌
-point-taken b next pl reads body e g end z x y p l r m = rw (z, x, y, imp-i (eqb next 0) pl (λ w. p), l, r, m)
+point-taken b next pl reads at body e g end z x y p l r m = rw (z, x, y, imp-i (eqb next 0) pl (λ w. p), l, r, m)
 
 module _ (k : Known) (pointed : Bool) (m : Marking) (pre rest : List ℕ) where
   place-back : (p : Place) → p.transaction < k.transactions → k.transactions ≤ 64 → placed p.transaction m.places ≡ false
       → next_event m.points ≡ 0
       → step_at (asked k m) pointed (pre ++ (place_bytes p ++ rest)) (length pre)
-      ≡ Placed p.transaction (outcome_number p.committed) (length pre + 4 + 4)
+      ≡ Ok (Placed p.transaction (outcome_number p.committed) (length pre + 4 + 4))
   unfolding step_at
   place-back p l few fresh none_yet =
       let body : List ℕ = u16_bytes p.transaction ++ u16_bytes (outcome_number p.committed) in
       let o : outcome_number p.committed < 2 = low-outcome p.committed in
       let t = u16-back p.transaction (omega arith) in
       let c = u16-back (outcome_number p.committed) (omega arith) in
-      ap (step_on (asked k m) pointed (pre ++ (place_bytes p ++ rest))) (record-back pre body rest 32 4 (omega arith) refl (omega arith))
-      ∙ (ap (λ (b : List ℕ). body_step (asked k m) 32 b (length pre + 4 + 4)) (part-back pre body rest 32 4 (omega arith) refl (omega arith))
-      ∙ (body-place (asked k m) 32 body (length pre + 4 + 4) refl
-      ∙ place-taken k.transactions (next_event m.points) (λ t. placed t m.places) body _ _ _ refl t c none_yet l fresh o))
+      ap (step_on (asked k m) pointed (pre ++ (place_bytes p ++ rest)) (length pre)) (record-back pre body rest 32 4 (omega arith) refl (omega arith))
+      ∙ (ap (λ (b : List ℕ). body_step (asked k m) (length pre) 32 b (length pre + 4 + 4)) (part-back pre body rest 32 4 (omega arith) refl (omega arith))
+      ∙ (body-place (asked k m) (length pre) 32 body (length pre + 4 + 4) refl
+      ∙ place-taken k.transactions (next_event m.points) (λ t. placed t m.places) (length pre) body _ _ _ refl t c none_yet l fresh o))
     where
       low-outcome : (b : Bool) → outcome_number b < 2
       low-outcome true = omega arith
@@ -119,19 +120,19 @@ module _ (k : Known) (pointed : Bool) (m : Marking) (pre rest : List ℕ) where
 
   point-back : (q : Point) → q.event < 4294967296 → q.gap < 65536 → every_placed k m ≡ true
       → leb (next_event m.points) q.event ≡ true → k.store_read q.event ≡ true → leb q.gap k.transactions ≡ true
-      → step_at (asked k m) pointed (pre ++ (point_bytes q ++ rest)) (length pre) ≡ Pointed q.event q.gap (length pre + 4 + 6)
+      → step_at (asked k m) pointed (pre ++ (point_bytes q ++ rest)) (length pre) ≡ Ok (Pointed q.event q.gap (length pre + 4 + 6))
   unfolding step_at
   point-back q le lg full above read low =
       let body : List ℕ = u32_bytes q.event ++ u16_bytes q.gap in
       let e = u32-back q.event le in
       let g = u16-back q.gap lg in
-      ap (step_on (asked k m) pointed (pre ++ (point_bytes q ++ rest))) (record-back pre body rest 33 6 (omega arith) refl (omega arith))
-      ∙ (ap (λ (b : List ℕ). body_step (asked k m) 33 b (length pre + 4 + 6)) (part-back pre body rest 33 6 (omega arith) refl (omega arith))
-      ∙ (body-point (asked k m) 33 body (length pre + 4 + 6) refl
-      ∙ point-taken k.transactions (next_event m.points) (every_placed k m) k.store_read body _ _ _ refl e g full above read low))
+      ap (step_on (asked k m) pointed (pre ++ (point_bytes q ++ rest)) (length pre)) (record-back pre body rest 33 6 (omega arith) refl (omega arith))
+      ∙ (ap (λ (b : List ℕ). body_step (asked k m) (length pre) 33 b (length pre + 4 + 6)) (part-back pre body rest 33 6 (omega arith) refl (omega arith))
+      ∙ (body-point (asked k m) (length pre) 33 body (length pre + 4 + 6) refl
+      ∙ point-taken k.transactions (next_event m.points) (every_placed k m) k.store_read (length pre) body _ _ _ refl e g full above read low))
 
 end_back : (k : Known) (m : Marking) (s : List ℕ) → every_placed k m ≡ true → every_pointed k m ≡ true
-    → step_at (asked k m) (every_pointed k m) s (length s) ≡ Finished
+    → step_at (asked k m) (every_pointed k m) s (length s) ≡ Ok Finished
 unfolding step_at end_step end_questions refusal
 end_back k m s p q = rw (le-ltb (length s) (length s) (le_refl (length s)), p, q)
 
@@ -159,7 +160,7 @@ module _ (k : Known) (few : k.transactions ≤ 64) (P : List Place) (all-points 
 
   -- one step of the walk
   abbrev step : ℕ → List ℕ → ℕ → Marking → FileRead
-  step n s at m = continued (walk k n s) s at m (step_at (asked k m) (every_pointed k m) s at)
+  step n s at m = continued (walk k n s) m (step_at (asked k m) (every_pointed k m) s at)
 
   points-back : (qs done : List Point) (pre : List ℕ) (n : ℕ) → done ++ qs ≡ all-points → length qs < n
       → rising (next_event done) (map (λ q. q.event) qs) ≡ true → all (λ q. k.store_read q.event) qs ≡ true
@@ -171,7 +172,7 @@ module _ (k : Known) (few : k.transactions ≤ 64) (P : List Place) (all-points 
       let d : done ≡ all-points = sym (append-nil done) ∙ e in
       let c : every_pointed k (up_to done) ≡ true = rw d complete in
       subst (λ (x : List ℕ). step n x (length pre) (up_to done) ≡ content whole) (sym (append-nil pre))
-      (ap (continued (walk k n pre) pre (length pre) (up_to done)) (end_back k (up_to done) pre full c)
+      (ap (continued (walk k n pre) (up_to done)) (end_back k (up_to done) pre full c)
       ∙ ap (λ (x : List Point). content (record { places = P; points = x })) d)
   points-back (q ∷ qs) done pre zero e l r a w g = absurd (omega arith)
   points-back (q ∷ qs) done pre (suc n) e l r a w g =
@@ -182,7 +183,7 @@ module _ (k : Known) (few : k.transactions ≤ 64) (P : List Place) (all-points 
       let y : pre ++ (point_bytes q ++ later) ≡ (pre ++ point_bytes q) ++ later = sym (append_assoc pre (point_bytes q) later) in
       let d : (done ++ (q ∷ [])) ++ qs ≡ all-points = append_assoc done (q ∷ []) qs ∙ e in
       let v : next_event (done ++ (q ∷ [])) ≡ q.event + 1 = next_more done q in
-      ap (continued (walk k n (pre ++ (point_bytes q ++ later))) (pre ++ (point_bytes q ++ later)) (length pre) m)
+      ap (continued (walk k n (pre ++ (point_bytes q ++ later))) m)
       (point-back k (every_pointed k m) m pre later q (ltb-true _ _ (and_l _ _ w)) (omega arith) full
       (and_l _ _ r) (and_l _ _ a) (and_l _ _ g))
       ∙ ((λ i. walk k n (y i) (x i) (record { places = P; points = done ++ (q ∷ []) }))
@@ -211,7 +212,7 @@ module _ (k : Known) (few : k.transactions ≤ 64) (P : List Place) (all-points 
         let fresh : placed p.transaction done ≡ false = (distinct-at done p ps (ap distinct e ∙ apart)).0 in
         let c = outcome-is p.committed in
         ap (λ (b : List ℕ). step n b (length pre) m) z
-        ∙ (ap (continued (walk k n (pre ++ (place_bytes p ++ rest))) (pre ++ (place_bytes p ++ rest)) (length pre) m)
+        ∙ (ap (continued (walk k n (pre ++ (place_bytes p ++ rest))) m)
         (place-back k (every_pointed k m) m pre rest p (ltb-true _ _ (and_l _ _ low)) few fresh refl)
         ∙ ((λ i. walk k n (y i) (x i) (unpointed (done ++ (record { transaction = p.transaction; committed = c i } ∷ []))))
         ∙ places-back ps (done ++ (p ∷ [])) (pre ++ place_bytes p) n d (omega arith) (and_r _ _ low)))

@@ -9,6 +9,7 @@ use mathlib.Core.Option.{Option, none, some, get_or}
 use lib.Dec.{eqb, leb}
 use lib.ListN.{length, drop, drop_of_length-le}
 use borrow.Author.Tests.{eqb-true, ltb-true}
+use Rattle.std.specs.Prelude.{Ok, Err}
 use Rattle.records.specs.declared.record.Found.{Found}
 use Rattle.records.specs.declared.record.Found.TheVariants.{Whole, Short, End}
 use Rattle.records.specs.Bytes.{Bytes, u16_at, u32_at, u16_bytes, u32_bytes}
@@ -22,12 +23,12 @@ use Rattle.records.proofs.RecordLaws.{there, end-past}
 use Rattle.opacity.specs.Justification.{Place}
 use Rattle.opacity.specs.Marking.{Marking, Point, marking_head, outcome_number, place_bytes, point_bytes, flat, marking_bytes}
 use Rattle.opacity.proofs.MarkingBytes.{outcome-back, flat_append}
-use Rattle.marking_reader.specs.declared.step.MarkingStep.{MarkingStep}
-use Rattle.marking_reader.specs.declared.step.MarkingStep.TheVariants.{Placed, Pointed, Refused, Unfinished, Finished}
-use Rattle.marking_reader.specs.File.{Known, Asked, asked, outcome_in, next_event, every_pointed, head_questions, step_at, continued, walk}
-use Rattle.marking_reader.specs.File.{content, refused, with_place, with_point, headed, opening, nothing_read, after_opening, file_read}
+use Rattle.marking_reader.specs.declared.step.MarkingStep.TheVariants.{Placed, Pointed, Finished}
+use Rattle.marking_reader.specs.File.{Known, Asked, asked, outcome_in, next_event, every_pointed, head_questions, Stepped, step_at, continued, walk}
+use Rattle.marking_reader.specs.File.{content, with_place, with_point, headed, opening, nothing_read, after_opening, file_read}
 use Rattle.marking_reader.specs.State.{place_questions}
 use Rattle.marking_reader.proofs.StepLaws.{PlaceRead, PointRead, placed-means, pointed-means, finished-means}
+use Rattle.marking_reader.proofs.WalkLaws.{not-content}
 
 -- ---- a record that was read is the bytes of what it gave
 
@@ -81,9 +82,6 @@ record Forth (s : List ℕ) (at : ℕ) (m : Marking) : Type 0 where
   so : s ≡ marking_bytes m ++ drop at s
   unpointed : next_event m.points ≡ 0 → m.points ≡ []
 
-refused≢content : (q at : ℕ) (m : Marking) → refused q at ≡ content m → ⊥
-refused≢content q at m e = let z : ◌≡◌ {A = ℕ} 0 1 = cc in omega arith
-
 module _ (k : Known) (s : List ℕ) (by : Bytes s) (m' : Marking) where
   forth-place : (at : ℕ) (m : Marking) (t o end : ℕ) → Forth s at m → PlaceRead (asked k m) s at t o end → Forth s end (with_place m t o)
   unfolding place_questions
@@ -118,18 +116,17 @@ module _ (k : Known) (s : List ℕ) (by : Bytes s) (m' : Marking) where
 
   walk-forth : (left at : ℕ) (m : Marking) → Forth s at m → walk k left s at m ≡ content m' → s ≡ marking_bytes m'
   unfolding walk
-  walk-forth zero at m f e = absurd (refused≢content 0 at m' e)
+  walk-forth zero at m f e = absurd (not-content e)
   walk-forth (suc left) at m f e = go (step_at (asked k m) (every_pointed k m) s at) refl e (λ a x. walk-forth left a x)
     where
-      go : (x : MarkingStep) → step_at (asked k m) (every_pointed k m) s at ≡ x → continued (walk k left s) s at m x ≡ content m'
+      go : (x : Stepped) → step_at (asked k m) (every_pointed k m) s at ≡ x → continued (walk k left s) m x ≡ content m'
           → ((a : ℕ) (x : Marking) → Forth s a x → walk k left s a x ≡ content m' → s ≡ marking_bytes m') → s ≡ marking_bytes m'
-      go (Placed t o end) q d ih =
+      go (Ok (Placed t o end)) q d ih =
           ih end (with_place m t o) (forth-place at m t o end f (placed-means (asked k m) s at (every_pointed k m) t o end q)) d
-      go (Pointed i g end) q d ih =
+      go (Ok (Pointed i g end)) q d ih =
           ih end (with_point m i g) (forth-point at m i g end f (pointed-means (asked k m) s at (every_pointed k m) i g end q)) d
-      go (Refused x) q d ih = absurd (refused≢content x at m' d)
-      go (Unfinished x) q d ih = absurd (refused≢content x (length s) m' d)
-      go Finished q d ih =
+      go (Err r) q d ih = absurd (not-content d)
+      go (Ok Finished) q d ih =
           let w = finished-means (asked k m) s at (every_pointed k m) q in
           let z : m ≡ m' = cc in
           let n : drop at s ≡ [] = drop_of_length-le s (end-past s at w.0) in
@@ -141,16 +138,16 @@ module _ (k : Known) (s : List ℕ) (by : Bytes s) (m' : Marking) where
     where
       one : (b : Bool) → ◌≡◌ {A = Option ℕ} (cond b none (some 21)) none → b ≡ true
       one true d = refl
-      one false d = absurd (let z : ◌≡◌ {A = ℕ} 0 1 = cc in omega arith)
+      one false d = absurd (cc)
 
       found : (f : Found) → record_at s 0 ≡ f → headed s f ≡ none → s ≡ marking_head ++ drop 6 s
       found (Whole r) w d = head_bytes_lem s r 2 by w (one (eqb r.kind 2 and eqb r.size 2 and eqb (u16_at (body_of s r) 0) 1) d)
-      found Short w d = absurd (let z : ◌≡◌ {A = ℕ} 0 1 = cc in omega arith)
-      found End w d = absurd (let z : ◌≡◌ {A = ℕ} 0 1 = cc in omega arith)
+      found Short w d = absurd (cc)
+      found End w d = absurd (cc)
 
       size : (b : Bool) → cond b (headed s (record_at s 0)) (some 1) ≡ none → s ≡ marking_head ++ drop 6 s
       size true d = found (record_at s 0) refl d
-      size false d = absurd (let z : ◌≡◌ {A = ℕ} 0 1 = cc in omega arith)
+      size false d = absurd (cc)
 
   -- a file that is read is the bytes of its content
   pub content-bytes : file_read k s ≡ content m' → s ≡ marking_bytes m'
@@ -159,4 +156,4 @@ module _ (k : Known) (s : List ℕ) (by : Bytes s) (m' : Marking) where
     where
       go : (o : Option ℕ) → opening s ≡ o → after_opening k s o ≡ content m' → s ≡ marking_bytes m'
       go none q d = walk-forth (suc (length s)) 6 nothing_read (record { so = head-forth q; unpointed = λ z. refl }) d
-      go (some x) q d = absurd (refused≢content x 0 m' d)
+      go (some x) q d = absurd (not-content d)

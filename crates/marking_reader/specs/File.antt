@@ -1,6 +1,6 @@
 -- To be believed: marking files (the paper, "Marking and checker"), that is the questions 1, 2 and 21 to 29, and the content of a file.
 -- Assumes nothing.
-use Rattle.std.specs.Prelude.{ℕ, zero, suc, ◌+◌, ◌-◌, Bool, not, cond, List, [], ◌∷◌, ◌++◌, eqb, ltb, leb, length}
+use Rattle.std.specs.Prelude.{ℕ, zero, suc, ◌+◌, Bool, not, cond, List, [], ◌∷◌, ◌++◌, Result, Ok, Err, eqb, ltb, leb, length}
 use Rattle.std.proofs.Math.Option.{Option, none, some, get_or}
 use Rattle.events.specs.declared.event.Event.{Event}
 use Rattle.records.specs.declared.record.Record.{Record}
@@ -9,13 +9,15 @@ use Rattle.records.specs.declared.record.Found.TheVariants.{Whole, Short, End}
 use Rattle.lists.specs.Lists.{◌and◌, ◌or◌, ◌implies◌, any, latest, every}
 use Rattle.records.specs.Bytes.{u16_at, u32_at}
 use Rattle.events.specs.Events.{begins}
+use Rattle.events.specs.declared.refusal.Refusal.{Refusal}
 use Rattle.events.specs.Questions.{Question, ask, refusal}
+use Rattle.events.specs.Said.{refuse}
 use Rattle.records.specs.Records.{record_at, body_of}
 use Rattle.opacity.specs.Transactions.{is_store_read}
 use Rattle.opacity.specs.Justification.{placed}
 use Rattle.opacity.specs.Marking.{Marking, Point}
 use Rattle.marking_reader.specs.declared.step.MarkingStep.{MarkingStep}
-use Rattle.marking_reader.specs.declared.step.MarkingStep.TheVariants.{Placed, Pointed, Refused, Unfinished, Finished}
+use Rattle.marking_reader.specs.declared.step.MarkingStep.TheVariants.{Placed, Pointed, Finished}
 
 -- What the questions ask of the history: how many transactions and events it has, and whether an event is a store read.
 pub record Known : Type 0 where
@@ -99,24 +101,29 @@ end_questions placed pointed = ask 28 placed ∷ ask 29 pointed ∷ []
 abbrev pub taken : ℕ → List ℕ → ℕ → MarkingStep
 taken kind body end = cond (is_place kind) (Placed (transaction_in body) (outcome_in body) end) (Pointed (event_in body) (gap_in body) end)
 
-abbrev pub unless : Option ℕ → (ℕ → MarkingStep) → MarkingStep → MarkingStep
-unless none refuse x = x
-unless (some q) refuse x = refuse q
+-- what stands at a byte answers: what it gives, or the question that says no to it with a byte
+abbrev pub Stepped : Type 0
+Stepped = Result MarkingStep Refusal
 
-unfoldable pub body_step : Asked → ℕ → List ℕ → ℕ → MarkingStep
-body_step a kind body end = unless (refusal (record_questions a kind body)) Refused (taken kind body end)
+abbrev pub unless : Option ℕ → ℕ → MarkingStep → Stepped
+unless none byte x = Ok x
+unless (some q) byte x = Err (refuse q byte)
 
-unfoldable pub end_step : Bool → Bool → MarkingStep
-end_step placed pointed = unless (refusal (end_questions placed pointed)) Unfinished Finished
+unfoldable pub body_step : Asked → ℕ → ℕ → List ℕ → ℕ → Stepped
+body_step a at kind body end = unless (refusal (record_questions a kind body)) at (taken kind body end)
 
-abbrev pub step_on : Asked → Bool → List ℕ → Found → MarkingStep
-step_on a pointed s (Whole r) = body_step a r.kind (body_of s r) (r.start + r.size)
-step_on a pointed s Short = Refused 2
-step_on a pointed s End = end_step a.every_placed pointed
+unfoldable pub end_step : ℕ → Bool → Bool → Stepped
+end_step byte placed pointed = unless (refusal (end_questions placed pointed)) byte Finished
+
+-- the byte is the record's, or the file's length at the end
+abbrev pub step_on : Asked → Bool → List ℕ → ℕ → Found → Stepped
+step_on a pointed s at (Whole r) = body_step a at r.kind (body_of s r) (r.start + r.size)
+step_on a pointed s at Short = Err (refuse 2 at)
+step_on a pointed s at End = end_step (length s) a.every_placed pointed
 
 -- what stands at a byte answers: 2 and 22 to 29
-unfoldable pub step_at : Asked → Bool → List ℕ → ℕ → MarkingStep
-step_at a pointed s at = step_on a pointed s (record_at s at)
+unfoldable pub step_at : Asked → Bool → List ℕ → ℕ → Stepped
+step_at a pointed s at = step_on a pointed s at (record_at s at)
 
 -- the content of a file, or the question that says no with its byte
 pub data FileRead : Type 0 where
@@ -129,17 +136,15 @@ with_place m t o = record { places = m.places ++ (record { transaction = t; comm
 abbrev pub with_point : Marking → ℕ → ℕ → Marking
 with_point m e g = record { places = m.places; points = m.points ++ (record { event = e; gap = g } ∷ []) }
 
--- the byte is the record's, or the file's length at the end
-abbrev pub continued : (ℕ → Marking → FileRead) → List ℕ → ℕ → Marking → MarkingStep → FileRead
-continued rest s at m (Placed t o end) = rest end (with_place m t o)
-continued rest s at m (Pointed e g end) = rest end (with_point m e g)
-continued rest s at m (Refused q) = refused q at
-continued rest s at m (Unfinished q) = refused q (length s)
-continued rest s at m Finished = content m
+abbrev pub continued : (ℕ → Marking → FileRead) → Marking → Stepped → FileRead
+continued rest m (Ok (Placed t o end)) = rest end (with_place m t o)
+continued rest m (Ok (Pointed e g end)) = rest end (with_point m e g)
+continued rest m (Ok Finished) = content m
+continued rest m (Err r) = refused r.question r.at
 
 unfoldable pub walk : Known → ℕ → List ℕ → ℕ → Marking → FileRead
 walk k zero s at m = refused 0 at
-walk k (suc left) s at m = continued (walk k left s) s at m (step_at (asked k m) (every_pointed k m) s at)
+walk k (suc left) s at m = continued (walk k left s) m (step_at (asked k m) (every_pointed k m) s at)
 
 abbrev pub headed : List ℕ → Found → Option ℕ
 headed s (Whole r) = refusal (head_questions s r)

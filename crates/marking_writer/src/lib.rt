@@ -1,11 +1,12 @@
 // A marking file, put into an output that has room for it: what the finder and the straightening write with. Proved of each
 // function: the output afterwards, all of it, as one equation.
+// Kept as an output with a place in it: `fields::put_u16` writes at a place, and each clause says from where on, `placed`.
 #![tactic(auto)]
 
-ghost use Rattle.std.specs.Prelude.{◌≡◌, ◌++◌, ◌+◌, ◌*◌, ◌≤◌, eqb, length};
-ghost use Rattle.records.specs.Bytes.{u16_bytes, u32_bytes, placed, over};
+ghost use Rattle.std.specs.Prelude.{◌≡◌, ◌+◌, ◌*◌, ◌≤◌, length};
+ghost use Rattle.records.specs.Bytes.{placed, over};
 ghost use Rattle.opacity.specs.Arrays.{places_of};
-ghost use Rattle.opacity.specs.Marking.{marking_head, outcome_number, place_bytes, flat};
+ghost use Rattle.opacity.specs.Marking.{marking_head, place_bytes, point_bytes, flat};
 ghost use Rattle.marking_writer.specs.Points.{is_gap, read_bytes};
 ghost use Rattle.marking_writer.specs.Whole.{points_in, bytes_in};
 
@@ -23,22 +24,21 @@ fn put_head(out: &mut [u8])
     fields::put_u16(out, Record::FRAME, Record::EDITION);
 }
 
-// A transaction and its outcome, 0 aborted or 1 committed.
-fn put_place(out: &mut [u8], at: usize, transaction: u16, outcome: u16)
+// A transaction and its outcome.
+fn put_place(out: &mut [u8], at: usize, transaction: u16, committed: bool)
     requires { at + 8 ≤ length out.old }
-    ensures { out.new
-        ≡ placed out.old at (u16_bytes 6 ++ u16_bytes 32 ++ u16_bytes transaction ++ u16_bytes outcome) }
+    ensures { out.new ≡ placed out.old at (place_bytes (record { transaction = transaction; committed = committed })) }
 {
     fields::put_u16(out, at, Record::PLACE_LENGTH);
     fields::put_u16(out, at + 2, Record::PLACE);
     fields::put_u16(out, at + Record::FRAME, transaction);
-    fields::put_u16(out, at + 6, outcome);
+    fields::put_u16(out, at + 6, u16::from(committed));
 }
 
 // A read point: the event of a store read, and its gap.
 fn put_point(out: &mut [u8], at: usize, event: u32, gap: u16)
     requires { at + 10 ≤ length out.old }
-    ensures { out.new ≡ placed out.old at (u16_bytes 8 ++ u16_bytes 33 ++ u32_bytes event ++ u16_bytes gap) }
+    ensures { out.new ≡ placed out.old at (point_bytes (record { event = event; gap = gap })) }
 {
     fields::put_u16(out, at, Record::POINT_LENGTH);
     fields::put_u16(out, at + 2, Record::POINT);
@@ -53,39 +53,23 @@ fn put_read(out: &mut [u8], at: usize, event: u32, gap: u16) -> usize
     ensures value { result ≡ at + length (read_bytes (is_gap gap) event gap) }
 {
     if gap == NO_POINT {
-        return at;
+        at
+    } else {
+        put_point(out, at, event, gap);
+        at + Record::WHOLE_POINT
     }
-    put_point(out, at, event, gap);
-    at + Record::WHOLE_POINT
 }
 
-// 0 aborted, 1 committed.
-fn outcome_number(outcome: u8) -> u16
-    ensures { result ≡ outcome_number (eqb outcome 1) }
-{
-    if outcome == 1 {
-        return 1;
-    }
-    0
-}
-
-// The first places of an order with their outcomes, from byte 6 on.
+// The first places of an order with their outcomes, 0 aborted and 1 committed, from byte 6 on.
 fn put_places(order: &[u16; 64], outcomes: &[u8; 64], begun: usize, out: &mut [u8])
     requires begun_bound { begun ≤ 64 }
     requires begun_in_bounds { 6 + 8 * begun ≤ length out.old }
     ensures { out.new
         ≡ placed out.old 6 (flat place_bytes (places_of order.now outcomes.now begun)) }
 {
-    let mut k: usize = 0;
-    while k < begun {
-        let outcome = outcome_number(outcomes[k]);
-        put_place(
-            out,
-            Record::WHOLE_HEAD + Record::WHOLE_PLACE * k,
-            order[k],
-            outcome,
-        );
-        k += 1;
+    for (k, (transaction, outcome)) in order.iter().zip(outcomes.iter()).take(begun).enumerate() {
+        let at = Record::WHOLE_HEAD + Record::WHOLE_PLACE * k;
+        put_place(out, at, *transaction, *outcome == 1);
     }
 }
 
@@ -97,10 +81,8 @@ fn put_points(gaps: &[u16], from: usize, out: &mut [u8]) -> usize
     ensures value { result ≡ from + length (points_in gaps.now (length gaps.now)) }
 {
     let mut at = from;
-    let mut i: usize = 0;
-    while i < gaps.len() {
-        at = put_read(out, at, i as u32, gaps[i]);
-        i += 1;
+    for (i, gap) in gaps.iter().enumerate() {
+        at = put_read(out, at, i as u32, *gap);
     }
     at
 }

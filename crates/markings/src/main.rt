@@ -1,307 +1,386 @@
 // Checks the paper's marking examples, and a file for each refusal, and prints a line for each.
 #![tactic(auto)]
 
-ghost use Rattle.std.specs.Prelude.{◌≤◌};
-
-use marking::check::{Checking, check_marking};
+use Part::{Byte, Field, Head, Place, Point, Zeros};
+use event_log::columns::{Columns, History};
+use events::event::Event;
+use events::refusal::Refusal;
+use marking::check::{Unchecked, check_marking};
 use opacity::verdict::{Rule, Verdict};
 use records::record::Record;
+use std::alloc::{AllocError, Global};
+use std::{fmt, io, iter};
 
-// The number of standard output.
-const STDOUT: i32 = 1;
-
-fn put(text: &[u8]) {
-    io::write_all(STDOUT, text);
-}
-
-fn put_number(before: &[u8], n: usize) {
-    put(before);
-    io::print_decimal(STDOUT, n as u64);
-}
-
-fn put_rule(rule: Rule) {
-    match rule {
-        Rule::A => put(b"marking rule A"),
-        Rule::B => put(b"marking rule B"),
-        Rule::C => put(b"marking rule C"),
-        Rule::D => put(b"marking rule D"),
-        Rule::E => put(b"marking rule E"),
-    }
-}
-
-fn put_verdict(verdict: Verdict) {
-    match verdict {
-        Verdict::Accepted => put(b"marking accepted"),
-        Verdict::Broken {
-            rule,
-            event,
-            transaction,
-        } => {
-            put_rule(rule);
-            put_number(b" event ", event);
-            put_number(b" transaction ", transaction);
-        }
-    }
-}
-
-fn show(label: &[u8], answer: Checking) {
-    put(label);
-    put(b": ");
-    match answer {
-        Checking::Ruled(verdict) => put_verdict(verdict),
-        Checking::HistoryRefused(refusal) => {
-            put_number(b"history refused ", refusal.question as usize);
-            put_number(b" event ", refusal.at);
-        }
-        Checking::MarkingRefused(refusal) => {
-            put_number(b"marking refused ", refusal.question as usize);
-            put_number(b" byte ", refusal.at);
-        }
-    }
-    put(b"\n");
-}
-
-// A small marking file, of at most 64 bytes: what is put beyond them is left out.
+// An answer of the checker, or a part of one, as a line shows it.
 #[derive(Clone, Copy)]
-struct File {
-    bytes: [u8; 64],
-    length: usize,
+struct Shown<T>(T);
+
+impl fmt::Display for Shown<Rule> {
+    fn fmt<W: fmt::Write>(&self, f: &mut fmt::Formatter<W>) -> fmt::Result {
+        f.write_str(match self.0 {
+            Rule::A => "A",
+            Rule::B => "B",
+            Rule::C => "C",
+            Rule::D => "D",
+            Rule::E => "E",
+        })
+    }
 }
 
-impl File {
-    fn new() -> File {
-        File {
-            bytes: [0u8; 64],
-            length: 0,
+impl fmt::Display for Shown<Verdict> {
+    fn fmt<W: fmt::Write>(&self, f: &mut fmt::Formatter<W>) -> fmt::Result {
+        match self.0 {
+            Verdict::Accepted => write!(f, "accepted"),
+            Verdict::Broken {
+                rule,
+                event,
+                transaction,
+            } => {
+                let rule = Shown(rule);
+                write!(f, "rule {rule} event {event} transaction {transaction}")
+            }
         }
     }
+}
 
-    // Puts one byte more.
-    fn byte(mut self, b: u8) -> File {
-        let at = self.length;
-        if at < 64 {
-            self.bytes[at] = b;
-            self.length = at + 1;
+impl fmt::Display for Shown<Result<Verdict, Unchecked>> {
+    fn fmt<W: fmt::Write>(&self, f: &mut fmt::Formatter<W>) -> fmt::Result {
+        match self.0 {
+            Ok(verdict) => write!(f, "marking {}", Shown(verdict)),
+            Err(Unchecked::HistoryRefused(Refusal { question, at })) => write!(
+                f,
+                "history refused {question} event {at}"
+            ),
+            Err(Unchecked::MarkingRefused(Refusal { question, at })) => write!(
+                f,
+                "marking refused {question} byte {at}"
+            ),
         }
-        self
-    }
-
-    // Puts a field of two bytes.
-    fn field(self, n: u16) -> File {
-        self.byte((n % 256) as u8).byte((n / 256) as u8)
-    }
-
-    // Puts a place: the transaction, and 1 for committed or 0 for aborted.
-    fn place(self, transaction: u16, outcome: u16) -> File {
-        self.field(Record::PLACE_LENGTH)
-            .field(Record::PLACE)
-            .field(transaction)
-            .field(outcome)
-    }
-
-    // Puts a read point: the event, whose field has four bytes, and the gap.
-    fn point(self, event: u16, gap: u16) -> File {
-        self.field(Record::POINT_LENGTH)
-            .field(Record::POINT)
-            .field(event)
-            .field(0)
-            .field(gap)
-    }
-
-    // Gives how many bytes are put.
-    fn size(self) -> usize
-        ensures { result ≤ 64 }
-    {
-        if self.length < 64 { self.length } else { 64 }
     }
 }
 
-// Begins a file with the head of a marking.
-fn head() -> File {
-    File::new()
-        .field(Record::HEAD_LENGTH)
-        .field(Record::MARKING_HEAD)
-        .field(Record::EDITION)
-}
+// The outcomes that a place gives its transaction.
+const ABORTED: u16 = 0;
 
-// Places T1, aborted, and then T0, committed.
-fn t1_t0() -> File {
-    head().place(1, 0).place(0, 1)
-}
+const COMMITTED: u16 = 1;
 
-// Places T0, committed, and then T1, aborted.
-fn t0_t1() -> File {
-    head().place(0, 1).place(1, 0)
-}
-
-// The first events of a history, in columns of ten.
+// What a marking file is made of: the head; the place of a transaction, with its outcome; the read point of an
+// event, with its gap; and a field of two bytes, a byte, and zeros, of which files are made that are refused.
 #[derive(Clone, Copy)]
-struct History {
-    kinds: [u16; 10],
-    transactions: [u16; 10],
-    registers: [u16; 10],
-    values: [u32; 10],
-    threads: [u16; 10],
+enum Part {
+    Head,
+    Place(u16, u16),
+    Point(u32, u16),
+    Field(u16),
+    Byte(u8),
+    Zeros(usize),
+}
+
+impl Part {
+    // Puts the part behind what a file has.
+    fn put(self, file: &mut Vec<u8>) -> Result<(), AllocError> {
+        match self {
+            Head => put_fields(
+                file,
+                &[Record::HEAD_LENGTH, Record::MARKING_HEAD, Record::EDITION],
+            ),
+            Place(transaction, outcome) => put_fields(
+                file,
+                &[Record::PLACE_LENGTH, Record::PLACE, transaction, outcome],
+            ),
+            Point(event, gap) => {
+                put_fields(file, &[Record::POINT_LENGTH, Record::POINT])?;
+                file.extend_from_slice(&event.to_le_bytes())?;
+                put_fields(file, &[gap])
+            }
+            Field(n) => put_fields(file, &[n]),
+            Byte(b) => Ok(file.push(b)?),
+            Zeros(n) => file.extend(iter::repeat_n(0, n)),
+        }
+    }
+}
+
+// Puts fields of two bytes behind what a file has.
+fn put_fields(file: &mut Vec<u8>, fields: &[u16]) -> Result<(), AllocError> {
+    for n in fields {
+        file.extend_from_slice(&n.to_le_bytes())?;
+    }
+    Ok(())
+}
+
+// How the files of the cases begin: the head; T1, aborted, and then T0, committed; and T0, committed, and then
+// T1, aborted.
+const HEAD: &[Part] = &[Head];
+
+const T1_T0: &[Part] = &[Head, Place(1, ABORTED), Place(0, COMMITTED)];
+
+const T0_T1: &[Part] = &[Head, Place(0, COMMITTED), Place(1, ABORTED)];
+
+// An event that has its kind and its transaction alone.
+fn plain(kind: u16, transaction: u16) -> Event {
+    Event {
+        kind,
+        transaction,
+        register: 0,
+        thread: 0,
+        value: 0,
+    }
+}
+
+fn begin(transaction: u16, thread: u16) -> Event {
+    Event {
+        thread,
+        ..plain(Record::BEGIN, transaction)
+    }
+}
+
+fn read(transaction: u16, register: u16) -> Event {
+    Event {
+        register,
+        ..plain(Record::READ, transaction)
+    }
+}
+
+fn read_returned(transaction: u16, register: u16, value: u32) -> Event {
+    Event {
+        register,
+        value,
+        ..plain(Record::READ_RETURNED, transaction)
+    }
+}
+
+fn write(transaction: u16, register: u16, value: u32) -> Event {
+    Event {
+        register,
+        value,
+        ..plain(Record::WRITE, transaction)
+    }
+}
+
+fn write_returned(transaction: u16) -> Event {
+    plain(Record::WRITE_RETURNED, transaction)
+}
+
+fn commit(transaction: u16) -> Event {
+    plain(Record::COMMIT, transaction)
+}
+
+fn committed(transaction: u16) -> Event {
+    plain(Record::COMMITTED, transaction)
+}
+
+// H0 with this value at event 9.
+fn h0_with(value: u32) -> [Event; 10] {
+    [
+        begin(0, 0),
+        write(0, 3, 7),
+        write_returned(0),
+        begin(1, 1),
+        read(1, 3),
+        read_returned(1, 3, 0),
+        commit(0),
+        committed(0),
+        read(1, 3),
+        read_returned(1, 3, value),
+    ]
+}
+
+// A history in which T0 commits r0 := 1, and then T1 begins and reads 0.
+fn late() -> [Event; 8] {
+    [
+        begin(0, 0),
+        write(0, 0, 1),
+        write_returned(0),
+        commit(0),
+        committed(0),
+        begin(1, 1),
+        read(1, 0),
+        read_returned(1, 0, 0),
+    ]
+}
+
+// A history with a read of 0 after an own write of 5.
+fn own() -> [Event; 5] {
+    [
+        begin(0, 0),
+        write(0, 2, 5),
+        write_returned(0),
+        read(0, 2),
+        read_returned(0, 2, 0),
+    ]
+}
+
+// A marking file that is checked against the first `count` events of a history. The file begins with the parts
+// `start`, and `rest` are those behind them.
+#[derive(Clone, Copy)]
+struct Case<'a> {
+    label: &'a str,
+    history: &'a [Event],
     count: usize,
+    start: &'a [Part],
+    rest: &'a [Part],
 }
 
-// Shows the answer for a history of edition 1, in which every register starts at 0.
-fn check(label: &[u8], history: History, file: File) {
-    let starts = [0u32; 32];
-    let kinds = history.kinds;
-    let transactions = history.transactions;
-    let registers = history.registers;
-    let values = history.values;
-    let threads = history.threads;
-    let size = file.size();
-    let bytes = file.bytes;
+impl<'a> Case<'a> {
+    // The case of all events of a history, and of a file that has no more than its start.
+    fn new(label: &'a str, history: &'a [Event], start: &'a [Part]) -> Case<'a> {
+        Case {
+            label,
+            history,
+            count: history.len(),
+            start,
+            rest: &[],
+        }
+    }
+
+    fn then(self, rest: &'a [Part]) -> Case<'a> {
+        Case { rest, ..self }
+    }
+
+    fn file(&self, alloc: Global) -> Result<Vec<u8>, AllocError> {
+        let mut file = Vec::new(alloc);
+        for part in self.start.iter().chain(self.rest) {
+            part.put(&mut file)?;
+        }
+        Ok(file)
+    }
+
+    // Gives the answer for a history of edition 1, in which every register starts at 0.
+    fn answer(&self, alloc: Global) -> Result<Result<Verdict, Unchecked>, AllocError> {
+        let events = self.history;
+        let kinds: Vec<u16> = events.iter().map(|e| e.kind).collect(alloc)?;
+        let transactions: Vec<u16> = events.iter().map(|e| e.transaction).collect(alloc)?;
+        let registers: Vec<u16> = events.iter().map(|e| e.register).collect(alloc)?;
+        let values: Vec<u32> = events.iter().map(|e| e.value).collect(alloc)?;
+        let threads: Vec<u16> = events.iter().map(|e| e.thread).collect(alloc)?;
+        let file = self.file(alloc)?;
+        let history = History {
+            edition: Record::EDITION,
+            starts: &[0; 32],
+            columns: Columns {
+                kinds: kinds.as_slice(),
+                transactions: transactions.as_slice(),
+                registers: registers.as_slice(),
+                values: values.as_slice(),
+                threads: threads.as_slice(),
+            },
+            count: self.count,
+        };
+        Ok(check_marking(&history, file.as_slice()))
+    }
+}
+
+// Shows the answer of each case.
+fn show(rt: &(impl Print + AllocGlobal), cases: &[Case<'_>]) -> io::Result<()> {
+    for case in cases {
+        println!(rt; "{}: {}", case.label, Shown(case.answer(rt.alloc())?))?;
+    }
+    Ok(())
+}
+
+// Shows the paper's markings. H0 has 0 at event 9, and H7 has 7 there.
+fn show_examples(rt: &(impl Print + AllocGlobal)) -> io::Result<()> {
+    let h0 = h0_with(0);
+    let h7 = h0_with(7);
     show(
-        label,
-        check_marking(
-            1,
-            &starts,
-            &kinds,
-            &transactions,
-            &registers,
-            &values,
-            &threads,
-            history.count,
-            &bytes[..size],
-        ),
-    );
-}
-
-// Checks a file against H0 with this value at event 9, of which the first `count` events are given.
-fn h0_with(label: &[u8], value: u32, count: usize, file: File) {
-    let history = History {
-        kinds: [16, 19, 20, 16, 17, 18, 21, 22, 17, 18],
-        transactions: [0, 0, 0, 1, 1, 1, 0, 0, 1, 1],
-        registers: [0, 3, 0, 0, 3, 3, 0, 0, 3, 3],
-        values: [0, 7, 0, 0, 0, 0, 0, 0, 0, value],
-        threads: [0, 0, 0, 1, 0, 0, 0, 0, 0, 0],
-        count,
-    };
-    check(label, history, file);
-}
-
-// Checks a file against H0.
-fn h0(label: &[u8], file: File) {
-    h0_with(label, 0, 10, file);
-}
-
-// Checks a file against H0 with 7 at event 9.
-fn h7(label: &[u8], file: File) {
-    h0_with(label, 7, 10, file);
-}
-
-// Checks a file against a history in which T0 commits r0 := 1, and then T1 begins and reads 0.
-fn late(label: &[u8], file: File) {
-    let history = History {
-        kinds: [16, 19, 20, 21, 22, 16, 17, 18, 0, 0],
-        transactions: [0, 0, 0, 0, 0, 1, 1, 1, 0, 0],
-        registers: [0; 10],
-        values: [0, 1, 0, 0, 0, 0, 0, 0, 0, 0],
-        threads: [0, 0, 0, 0, 0, 1, 0, 0, 0, 0],
-        count: 8,
-    };
-    check(label, history, file);
-}
-
-// Checks a file against a history with a read of 0 after an own write of 5.
-fn own(label: &[u8], file: File) {
-    let history = History {
-        kinds: [16, 19, 20, 17, 18, 0, 0, 0, 0, 0],
-        transactions: [0; 10],
-        registers: [0, 2, 0, 2, 2, 0, 0, 0, 0, 0],
-        values: [0, 5, 0, 0, 0, 0, 0, 0, 0, 0],
-        threads: [0; 10],
-        count: 5,
-    };
-    check(label, history, file);
-}
-
-// Shows the paper's markings.
-fn examples() {
-    h0(b"H0, both reads at gap 0", t1_t0().point(5, 0).point(9, 0));
-    h0(b"H0, event 9 at gap 1", t1_t0().point(5, 0).point(9, 1));
-    h0(b"H0, event 9 at gap 2", t1_t0().point(5, 0).point(9, 2));
-    h0(
-        b"H0, T0 aborted",
-        head().place(1, 0).place(0, 0).point(5, 0).point(9, 0),
-    );
-    h7(
-        b"H7, T0 then T1, both reads at gap 1",
-        t0_t1().point(5, 1).point(9, 1),
-    );
-    h7(b"H7, event 5 at gap 0", t0_t1().point(5, 0).point(9, 1));
-    late(
-        b"T1 began after T0's end, order T1, T0",
-        t1_t0().point(7, 0),
-    );
-    own(b"own read of 0 after a write of 5", head().place(0, 0));
-}
-
-// Shows the questions of the first record and of every record: 2, 21, 22 and 23.
-fn record_refusals() {
-    h0(b"2, a record cut short", head().field(6).byte(32));
-    h0(b"21, an empty file", File::new());
-    h0(b"21, edition 2", File::new().field(4).field(2).field(2));
-    h0(b"22, kind 34", head().field(2).field(34));
-    h0(
-        b"23, a place with 2 bytes",
-        head().field(4).field(32).field(1),
-    );
-}
-
-// Shows the questions of a place: 24 and 25.
-fn place_refusals() {
-    h0(b"24, T1 placed twice", head().place(1, 0).place(1, 0));
-    h0(
-        b"24, a place after a read point",
-        t1_t0().point(5, 0).place(0, 1),
-    );
-    h0(b"25, outcome 2", head().place(1, 2));
-}
-
-// Shows the questions of a read point and of the end: 28, 26, 27 and 29.
-fn point_refusals() {
-    h0(
-        b"28, a read point before T0 is placed",
-        head().place(1, 0).point(4, 9),
-    );
-    h0(b"28, the head alone", head());
-    h0(
-        b"26, event 5 after event 9",
-        t1_t0().point(9, 0).point(5, 0),
-    );
-    h0(b"26, event 4 is no read", t1_t0().point(4, 0));
-    h0(b"27, gap 3 of 2 transactions", t1_t0().point(5, 3));
-    h0(b"29, event 9 has no point", t1_t0().point(5, 0));
+        rt,
+        &[
+            Case::new("H0, both reads at gap 0", &h0, T1_T0).then(&[Point(5, 0), Point(9, 0)]),
+            Case::new("H0, event 9 at gap 1", &h0, T1_T0).then(&[Point(5, 0), Point(9, 1)]),
+            Case::new("H0, event 9 at gap 2", &h0, T1_T0).then(&[Point(5, 0), Point(9, 2)]),
+            Case::new("H0, T0 aborted", &h0, HEAD).then(&[
+                Place(1, ABORTED),
+                Place(0, ABORTED),
+                Point(5, 0),
+                Point(9, 0),
+            ]),
+            Case::new("H7, T0 then T1, both reads at gap 1", &h7, T0_T1).then(&[
+                Point(5, 1),
+                Point(9, 1),
+            ]),
+            Case::new("H7, event 5 at gap 0", &h7, T0_T1).then(&[Point(5, 0), Point(9, 1)]),
+            Case::new("T1 began after T0's end, order T1, T0", &late(), T1_T0).then(&[Point(7, 0)]),
+            Case::new("own read of 0 after a write of 5", &own(), HEAD).then(&[Place(0, ABORTED)]),
+        ],
+    )
 }
 
 // Shows the question of the file's length: 1. The history is that of one begin.
-fn length_refusal() {
-    let starts = [0u32; 32];
-    let long = [0u8; 32769];
-    let answer = check_marking(
-        1,
-        &starts,
-        &[16u16],
-        &[0u16],
-        &[0u16],
-        &[0u32],
-        &[0u16],
-        1,
-        &long,
-    );
-    show(b"1, a byte too many", answer);
+fn show_length(rt: &(impl Print + AllocGlobal)) -> io::Result<()> {
+    show(
+        rt,
+        &[Case::new("1, a byte too many", &[begin(0, 0)], &[]).then(&[Zeros(32769)])],
+    )
 }
 
-fn main() {
-    examples();
-    length_refusal();
-    record_refusals();
-    place_refusals();
-    point_refusals();
-    h0_with(b"17, a count past the columns", 0, 11, File::new());
+// Shows the questions of the first record and of every record: 2, 21, 22 and 23.
+fn show_records(rt: &(impl Print + AllocGlobal)) -> io::Result<()> {
+    let h0 = h0_with(0);
+    show(
+        rt,
+        &[
+            Case::new("2, a record cut short", &h0, HEAD).then(&[Field(6), Byte(32)]),
+            Case::new("21, an empty file", &h0, &[]),
+            Case::new("21, edition 2", &h0, &[]).then(&[Field(4), Field(2), Field(2)]),
+            Case::new("22, kind 34", &h0, HEAD).then(&[Field(2), Field(34)]),
+            Case::new("23, a place with 2 bytes", &h0, HEAD).then(&[Field(4), Field(32), Field(1)]),
+        ],
+    )
+}
+
+// Shows the questions of a place: 24 and 25.
+fn show_places(rt: &(impl Print + AllocGlobal)) -> io::Result<()> {
+    let h0 = h0_with(0);
+    show(
+        rt,
+        &[
+            Case::new("24, T1 placed twice", &h0, HEAD).then(&[
+                Place(1, ABORTED),
+                Place(1, ABORTED),
+            ]),
+            Case::new("24, a place after a read point", &h0, T1_T0).then(&[
+                Point(5, 0),
+                Place(0, COMMITTED),
+            ]),
+            Case::new("25, outcome 2", &h0, HEAD).then(&[Place(1, 2)]),
+        ],
+    )
+}
+
+// Shows the questions of a read point and of the end: 28, 26, 27 and 29.
+fn show_points(rt: &(impl Print + AllocGlobal)) -> io::Result<()> {
+    let h0 = h0_with(0);
+    show(
+        rt,
+        &[
+            Case::new("28, a read point before T0 is placed", &h0, HEAD).then(&[
+                Place(1, ABORTED),
+                Point(4, 9),
+            ]),
+            Case::new("28, the head alone", &h0, HEAD),
+            Case::new("26, event 5 after event 9", &h0, T1_T0).then(&[Point(9, 0), Point(5, 0)]),
+            Case::new("26, event 4 is no read", &h0, T1_T0).then(&[Point(4, 0)]),
+            Case::new("27, gap 3 of 2 transactions", &h0, T1_T0).then(&[Point(5, 3)]),
+            Case::new("29, event 9 has no point", &h0, T1_T0).then(&[Point(5, 0)]),
+        ],
+    )
+}
+
+// Shows the question of the columns' lengths: 17.
+fn show_count(rt: &(impl Print + AllocGlobal)) -> io::Result<()> {
+    let h0 = h0_with(0);
+    let past = Case {
+        count: 11,
+        ..Case::new("17, a count past the columns", &h0, &[])
+    };
+    show(rt, &[past])
+}
+
+fn main(rt: HostRuntime) -> io::Result<()> {
+    show_examples(&rt)?;
+    show_length(&rt)?;
+    show_records(&rt)?;
+    show_places(&rt)?;
+    show_points(&rt)?;
+    show_count(&rt)
 }

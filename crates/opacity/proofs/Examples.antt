@@ -12,7 +12,7 @@ use Rattle.opacity.specs.Transactions.{status, allows, precedes, last_write, own
 use Rattle.opacity.specs.Justification.{Place, placed, before, outcome, written, contents, outcome_kept, preceded, legal_over, real_time_kept}
 use Rattle.opacity.specs.Lowest.{place, fits, lowest_place, continued, lowest_of}
 use Rattle.opacity.specs.Marking.{Marking, gap_of, place_of, others, between, no_writer_between, value_at_gap, Accepted, last_event, begin_of, rule_holds, broke, tries, verdict}
-use Rattle.opacity.specs.Scan.{Opaque, cause, scan}
+use Rattle.opacity.specs.Scan.{opaque, cause, scan}
 use Rattle.opacity.specs.Store.{put, writes_of, after_write, after_place, applied}
 
 -- an event that begins nothing, and the begin of t on the thread of its number
@@ -38,7 +38,7 @@ pair =
     begin 0 ∷ event 19 0 0 5 ∷ event 20 0 0 0 ∷ event 21 0 0 0
     ∷ begin 1 ∷ event 17 1 0 0 ∷ event 18 1 0 5 ∷ []
 
-pub pending-may-commit : scan (λ r. 0) pair ≡ Opaque
+pub pending-may-commit : scan (λ r. 0) pair ≡ opaque
 unfolding justification fits lowest_place continued lowest_of cause scan pair
 pending-may-commit = refl
 

@@ -15,7 +15,7 @@ use lib.Dec.{eqb}
 use lib.ListN.{length, take, get_or}
 use lib.Seq.{take-suc, take_all}
 use borrow.Author.Tests.{eqb-true, eq-eqb, eqb-false}
-use Rattle.lists.specs.Lists.{◌and◌, ◌or◌, or_else, any, keep, latest, first, last}
+use Rattle.lists.specs.Lists.{◌and◌, or_else, any, keep, latest, first, last}
 use Rattle.events.specs.declared.event.Event.{Event}
 use Rattle.events.specs.Events.{no_event, event_at, is_begin, is_write, is_end, by, has, begins}
 use Rattle.events.specs.Questions.{readable}

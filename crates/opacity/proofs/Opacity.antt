@@ -15,7 +15,7 @@ use Rattle.events.specs.declared.event.Event.{Event}
 use Rattle.events.specs.Events.{no_event, event_at, begins}
 use Rattle.opacity.specs.Justification.{Place, distinct, is_order, Justified}
 use Rattle.opacity.specs.Lowest.{lowest_of}
-use Rattle.opacity.specs.Scan.{Opaque, Faulted, answer, scan, AllJustified, FaultsAt, cause}
+use Rattle.opacity.specs.Scan.{Fault, Cause, opaque, fault, answer, scan, AllJustified, FaultsAt, cause}
 use Rattle.lists.proofs.ListLaws.{none_first, first-none, is_none-none, none-is_none, First, first_some, none-some}
 use Rattle.events.proofs.EventLaws.{begins-take}
 use Rattle.opacity.proofs.Least.{lowest-justifies, lowest-least, none-iff}
@@ -46,7 +46,13 @@ empty-justified start =
       store = λ t l. absurd (omega arith);
     }
 
-answer-e : (h : List Event) (o : Option ℕ) → answer h o ≡ Opaque → o ≡ none
+-- an answer tells its event and its cause
+pub fault-same : {i j : ℕ} {c d : Cause} → fault i c ≡ fault j d → (i ≡ j) × (c ≡ d)
+fault-same {i = i} {j = j} {c = c} {d = d} e =
+    let w : ◌≡◌ {A = Fault} record { event = i; cause = c } record { event = j; cause = d } = cc in
+    (ap (λ (f : Fault). f.event) w, ap (λ (f : Fault). f.cause) w)
+
+answer-e : (h : List Event) (o : Option ℕ) → answer h o ≡ opaque → o ≡ none
 answer-e h none e = refl
 answer-e h (some i) e = let z : ◌≡◌ {A = ℕ} 0 1 = cc in absurd (omega arith)
 
@@ -55,21 +61,21 @@ is_none-false none e = absurd (true≢false e)
 is_none-false (some a) e = (a, refl)
 
 module _ (start : ℕ → ℕ) (h : List Event) (b : Begun h) where
-  pub opaque-prefixes : scan start h ≡ Opaque → AllJustified start h
+  pub opaque-prefixes : scan start h ≡ opaque → AllJustified start h
   unfolding scan
   opaque-prefixes e zero l = ([], empty-justified start)
   opaque-prefixes e (suc i) l =
       let o = is_none-false _ (first-none (λ k. is_none (lowest_of start (take (suc k) h))) _ (answer-e h _ e) i l) in
       (o.0, lowest-justifies start (take (suc i) h) (begun-prefix h b (suc i) l) o.1)
 
-  pub prefixes-opaque : AllJustified start h → scan start h ≡ Opaque
+  pub prefixes-opaque : AllJustified start h → scan start h ≡ opaque
   unfolding scan
   prefixes-opaque f =
       ap (answer h)
       (none_first (λ k. is_none (lowest_of start (take (suc k) h))) _ (λ k l. ap is_none (lowest-least start (take (suc k) h) (f (suc k) l).1).1))
 
   -- the scan names the last event of the first prefix without a justification
-  pub faulted-prefix : (i c : ℕ) → scan start h ≡ Faulted i c → FaultsAt start h i c
+  pub faulted-prefix : (i : ℕ) (c : Cause) → scan start h ≡ fault i c → FaultsAt start h i c
   unfolding scan
   faulted-prefix i c e = go (first bad (length h)) refl e
     where
@@ -92,19 +98,20 @@ module _ (start : ℕ → ℕ) (h : List Event) (b : Begun h) where
             shorter = earlier f;
           }
 
-      go : (o : Option ℕ) → first bad (length h) ≡ o → answer h o ≡ Faulted i c → FaultsAt start h i c
+      go : (o : Option ℕ) → first bad (length h) ≡ o → answer h o ≡ fault i c → FaultsAt start h i c
       go none q a = let z : ◌≡◌ {A = ℕ} 0 1 = cc in absurd (omega arith)
       go (some k) q a =
-          let x : k ≡ i = cc in
-          let y : cause (event_at h k) ≡ c = cc in
+          let w = fault-same a in
+          let x : k ≡ i = w.0 in
+          let y : cause (event_at h k) ≡ c = w.1 in
           found (first_some bad (length h) (q ∙ ap some x)) (sym y ∙ ap (λ (m : ℕ). cause (event_at h m)) x)
 
   -- and the other way: no other event is so
-  pub prefix-faulted : (i c : ℕ) → FaultsAt start h i c → scan start h ≡ Faulted i c
+  pub prefix-faulted : (i : ℕ) (c : Cause) → FaultsAt start h i c → scan start h ≡ fault i c
   unfolding scan
   prefix-faulted i c f =
       ap (answer h) (first_found bad (length h) i (record { inside = f.inside; passes = here; least = found }))
-      ∙ ap (Faulted i) (sym f.why)
+      ∙ ap (fault i) (sym f.why)
     where
       bad : ℕ → Bool
       bad k = is_none (lowest_of start (take (suc k) h))

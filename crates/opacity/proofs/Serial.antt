@@ -20,7 +20,7 @@ use Rattle.opacity.specs.Store.{Store, put}
 use Rattle.opacity.specs.Serial.{does, events_of, run, reads_right, after, serial_store, runs_right, Serial, AllSerial}
 use Rattle.lists.proofs.ListLaws.{and_l, and_r, and_i, imp-e, imp-i, every-e}
 use Rattle.opacity.proofs.Orders.{before_here, distinct-at, Split, split}
-use Rattle.opacity.specs.Scan.{scan, Opaque}
+use Rattle.opacity.specs.Scan.{scan, opaque}
 use Rattle.events.proofs.EventLaws.{begins-take}
 use Rattle.opacity.proofs.Opacity.{Begun, begun-prefix, opaque-prefixes, prefixes-opaque}
 
@@ -210,7 +210,7 @@ module _ (start : Store) (h : List Event) (b : Begun h) where
   prefix-is-serial n l J = known-serial start (take n h) J (begun-prefix h b n l)
 
   -- The scan says opaque exactly if every prefix has an order that, run one at a time, gives every read its value.
-  pub opaque-is-serial : (scan start h ≡ Opaque) ↔ AllSerial start h
+  pub opaque-is-serial : (scan start h ≡ opaque) ↔ AllSerial start h
   opaque-is-serial = (
     λ e n l. let j = opaque-prefixes start h b e n l in (j.0, (prefix-is-serial n l j.0).0 j.1),
     λ f. prefixes-opaque start h b (λ n l. ((f n l).0, (prefix-is-serial n l (f n l).0).1 (f n l).1)),

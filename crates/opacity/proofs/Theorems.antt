@@ -24,7 +24,7 @@ use Rattle.opacity.specs.Explains.{Explains}
 use Rattle.opacity.specs.Marking.{Marking, ReadableFor, marked, gap_of, no_writer_between, Rule, A, B, D, Accepted, Broken}
 use Rattle.opacity.specs.Marking.{verdict, rule_holds, named_event, named_transaction}
 use Rattle.opacity.specs.Verdicts.{Holds, AllHold, FirstBroken, LastOf, BeginOf, RuleD, WriterBetween}
-use Rattle.opacity.specs.Scan.{scan, Opaque, Faulted, AllJustified, FaultsAt}
+use Rattle.opacity.specs.Scan.{Cause, Other, scan, opaque, fault, AllJustified, FaultsAt}
 use Rattle.opacity.proofs.Orders.{fills, filled, one_place}
 use Rattle.opacity.proofs.Steps.{steps, known-apart, justified, justified-test}
 use Rattle.opacity.proofs.Compare.{orders-ordered}
@@ -180,18 +180,18 @@ module _ (start : ℕ → ℕ) (h : List Event) (r : readable h ≡ true) where
   -- ---- the scan
 
   -- Opaque exactly if every prefix has a justification;
-  pub opaque-iff : (scan start h ≡ Opaque) ↔ AllJustified start h
+  pub opaque-iff : (scan start h ≡ opaque) ↔ AllJustified start h
   opaque-iff = (opaque-prefixes start h (begun h r), prefixes-opaque start h (begun h r))
 
   -- faulted at i exactly if the prefix that ends with i has none and every shorter one has, with the cause of i's kind.
-  pub faulted-iff : (i c : ℕ) → (scan start h ≡ Faulted i c) ↔ FaultsAt start h i c
+  pub faulted-iff : (i : ℕ) (c : Cause) → (scan start h ≡ fault i c) ↔ FaultsAt start h i c
   faulted-iff i c = (faulted-prefix start h (begun h r) i c, prefix-faulted start h (begun h r) i c)
 
   -- The same in the words of orders run one at a time.
-  pub opaque-iff-serial : (scan start h ≡ Opaque) ↔ AllSerial start h
+  pub opaque-iff-serial : (scan start h ≡ opaque) ↔ AllSerial start h
   opaque-iff-serial = opaque-is-serial start h (begun h r)
 
-  pub faulted-iff-serial : (i c : ℕ) → (scan start h ≡ Faulted i c) ↔ SerialFaultsAt start h i c
+  pub faulted-iff-serial : (i : ℕ) (c : Cause) → (scan start h ≡ fault i c) ↔ SerialFaultsAt start h i c
   faulted-iff-serial i c = (
     λ e.
         let f = (faulted-iff i c).0 e in
@@ -215,5 +215,5 @@ module _ (start : ℕ → ℕ) (h : List Event) (r : readable h ≡ true) where
       serial = prefix-is-serial start h (begun h r)
 
   -- No history is faulted by a begin, a call, a returned write or a lone write.
-  pub cause-never-four : (i : ℕ) → scan start h ≡ Faulted i 4 → ⊥
+  pub cause-never-four : (i : ℕ) → scan start h ≡ fault i Other → ⊥
   cause-never-four i = never-four start h r i

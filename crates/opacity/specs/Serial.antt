@@ -9,7 +9,7 @@ use Rattle.events.specs.Events.{event_at, is_read, is_write, begins}
 use Rattle.opacity.specs.Justification.{Place, is_order, outcome_kept, real_time_kept}
 use Rattle.opacity.specs.Lowest.{lower}
 use Rattle.opacity.specs.Store.{Store, put}
-use Rattle.opacity.specs.Scan.{cause}
+use Rattle.opacity.specs.Scan.{Cause, cause}
 
 -- what an event does to the view of its transaction: a write puts its value there, the others change nothing
 unfoldable pub does : Event → Store → Store
@@ -61,7 +61,7 @@ abbrev pub AllSerial : Store → List Event → Type 0
 AllSerial start h = (n : ℕ) → n ≤ length h → (J : List Place) × Serial start (take n h) J
 
 -- event i is the last of the first prefix that has none, and c is the cause of its kind
-pub record SerialFaultsAt (start : Store) (h : List Event) (i c : ℕ) : Type 0 where
+pub record SerialFaultsAt (start : Store) (h : List Event) (i : ℕ) (c : Cause) : Type 0 where
   pub inside : i < length h
   pub why : c ≡ cause (event_at h i)
   pub none_here : (J : List Place) → Serial start (take (suc i) h) J → ⊥

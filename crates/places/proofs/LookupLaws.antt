@@ -1,14 +1,14 @@
 -- Laws of the lookup: the last writes of a table of facts as a history, and the last place that wrote.
 -- Assumes nothing.
 use mathlib.Core.Path.{◌≡◌, refl, sym, ap, ◌∙◌}
-use Prim.Native.Nat.{ℕ, zero, suc, ◌+◌, ◌-◌, ◌/◌, ◌%◌, ◌≤◌, ◌<◌}
+use Prim.Native.Nat.{ℕ, zero, suc, ◌+◌, ◌-◌, ◌/◌, ◌%◌, ◌<◌}
 use native.Mathlib.Omega.{arith}
 use mathlib.Core.Bool.{Bool, true, false, cond}
 use mathlib.Core.List.{List, [], ◌∷◌, ◌++◌}
 use mathlib.Core.Option
 use mathlib.Core.Option.{Option, none, some}
-use lib.ListN.{drop, get_or}
-use lib.Seq.{get_or-drop}
+use lib.ListN.{length, drop, get_or, length-append, get_or-append}
+use lib.Seq.{get_or-drop, get_or-append_seam}
 use lib.Dec.{eqb}
 use borrow.Author.Tests.{eq-eqb, ne_eqb}
 use Rattle.lists.specs.Lists.{◌and◌, ◌or◌, or_else, latest}
@@ -116,6 +116,17 @@ unfolding write_of written
 committed-wrote w r code f = let a : eqb (code % 2) 1 ≡ true = eq-eqb (code % 2) 1 (omega arith) in rw a (held (code / 2) r w)
 
 -- ---- the places from the last one back
+
+-- places of at most ten transactions
+abbrev pub Codes : List ℕ → Type 0
+Codes p = (i : ℕ) → i < length p → get_or p i 0 < 20
+
+-- the last of them, and those before it
+pub codes-split : (p q : List ℕ) (c : ℕ) → p ≡ q ++ (c ∷ []) → Codes p → (c < 20) × Codes q
+codes-split p q c e h = (rw (get_or-append_seam q c [] 0) at (all (length q) (omega arith)), λ i l. rw (get_or-append q (c ∷ []) 0 i l) at (all i (omega arith)))
+  where
+    all : (i : ℕ) → i < length q + 1 → get_or (q ++ (c ∷ [])) i 0 < 20
+    all i l = rw e at (h i (rw e (omega (arith, length-append q (c ∷ [])))))
 
 pub decode-append : (p q : List ℕ) → decode (p ++ q) ≡ decode p ++ decode q
 unfolding decode

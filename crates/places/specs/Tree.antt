@@ -1,7 +1,7 @@
 -- Vocabulary between crates: it need not be believed, the public contracts end in the paper's definitions.
 -- The tree of orders and outcomes that the search goes through, and its first leaf that meets the constraints.
 -- Assumes nothing.
-use Rattle.std.specs.Prelude.{◌≡◌, ℕ, zero, suc, ◌+◌, ◌*◌, ◌-◌, ◌^◌, ◌≤◌, ◌<◌, List, [], ◌∷◌, ◌++◌, Bool, true, false, cond, eqb}
+use Rattle.std.specs.Prelude.{◌≡◌, ℕ, zero, suc, ◌+◌, ◌*◌, ◌-◌, ◌^◌, ◌≤◌, ◌<◌, List, [], ◌∷◌, ◌++◌, Bool, true, false, cond, eqb, Option as Answer, Some, None, IfSome}
 use Rattle.std.proofs.Math.Option.{Option, none, some}
 use Rattle.lists.specs.Lists.{or_else, all}
 use Rattle.lists.specs.Bits.{bit_at, members}
@@ -106,18 +106,19 @@ placing_all D (suc n) p u c = first_of (try_both D (λ p' u'. placing_all D n p'
 unfoldable pub first_whole : Constraints → ℕ → Completion
 first_whole D n = placing_all D n [] (up_from 0 n) (up_from 0 n)
 
--- an answer with n places, or 0 for none
-abbrev pub read_answer : ℕ → ℕ → Completion
-read_answer n a = cond (eqb a 0) none (some (codes_of n a))
+-- an answer with n places, or none
+abbrev pub read_answer : ℕ → Answer ℕ → Completion
+read_answer n None = none
+read_answer n (Some a) = some (codes_of n a)
 
 -- an answer reads as the completion x, and has no more than n places behind its leading 1
-pub record Answers (n a : ℕ) (x : Completion) : Type 0 where
+pub record Answers (n : ℕ) (a : Answer ℕ) (x : Completion) : Type 0 where
   pub completion : read_answer n a ≡ x
-  pub room : a < 2 ^ (n * 5 + 1)
+  pub room : IfSome a (λ order. order < 2 ^ (n * 5 + 1))
 
 -- an answer reads as the completion x, whose places, no more than n, its leading 1 tells
-pub record Answered (n a : ℕ) (x : Completion) : Type 0 where
+pub record Answered (n : ℕ) (a : Answer ℕ) (x : Completion) : Type 0 where
   pub places : ℕ
   pub few : places ≤ n
-  pub led : (a ≡ 0 → ⊥) → 2 ^ (places * 5) ≤ a
+  pub led : IfSome a (λ order. 2 ^ (places * 5) ≤ order)
   pub answers : Answers places a x

@@ -1,7 +1,4 @@
 // The facts that the search is told: a row for each transaction, and one for the end of an order.
-ghost use Rattle.std.specs.Prelude.{◌≡◌, ◌<◌};
-ghost use Rattle.places.specs.Facts.{reads_asked};
-
 use events::before::Before;
 
 // The row of a transaction, or of the end: 67 numbers, in the columns below. It has nine lines of 64 bytes, so that the place of a row is
@@ -33,6 +30,7 @@ pub const REQUIRED: usize = 3;
 pub const WRITTEN: usize = 35;
 
 // Outcomes, and as rules the outcomes that a transaction may have: this one, either, or none.
+// Kept as numbers: a row of facts is an array of numbers, and `rule_next` and `fits_at` of the specs count them so.
 pub const ABORTED: u64 = 0;
 
 pub const COMMITTED: u64 = 1;
@@ -43,18 +41,3 @@ pub const NONE: u64 = 3;
 
 // All registers, one bit each.
 pub const ALL: u32 = 4294967295;
-
-// The same number in 64 bits.
-pub fn wide(x: u32) -> u64
-    ensures { result ≡ x }
-{
-    x as u64
-}
-
-// Those of the registers asked about that t reads from the store.
-pub fn reads_asked(facts: &[Facts; 11], t: usize, asked: u32) -> u32
-    requires { t < 11 }
-    ensures { result ≡ reads_asked facts.now asked t }
-{
-    (facts[t][READS] & wide(asked)) as u32
-}

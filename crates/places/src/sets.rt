@@ -1,8 +1,10 @@
-// Sets of transactions, one bit each in a u64.
-ghost use Rattle.std.specs.Prelude.{◌≡◌, ◌-◌, ◌^◌, ◌<◌, eqb};
+// Sets of transactions or registers, one bit each in a u64.
+ghost use Rattle.std.specs.Prelude.{◌≡◌, ◌-◌, ◌^◌, ◌<◌, eqb, MatchOption};
+ghost use Rattle.std.specs.Iterator.{item_count};
 ghost use Rattle.std.specs.Int.Bits.{bit_or};
 ghost use Rattle.std.specs.Int.Count.{ones, count_trailing_zeros};
-ghost use Rattle.lists.specs.Bits.{bit_at};
+ghost use Rattle.lists.specs.Bits.{bit_at, members};
+ghost use Rattle.places.specs.Sets.{Lowest};
 
 // The set that holds t alone.
 pub fn bit(t: usize) -> u64
@@ -48,4 +50,34 @@ pub fn with(set: u64, t: usize) -> u64
     ensures { result ≡ bit_or set (2 ^ t) }
 {
     set | bit(t)
+}
+
+// A walk over the members of a set, lowest first, by the set of those that are left.
+#[derive(Clone, Copy)]
+pub struct Walk {
+    pub left: u64,
+}
+
+impl Iterator for Walk {
+    type Item = usize;
+
+    ghost next_gives = { λ s given rest. MatchOption given ((s.left ≡ 0) × (rest.left ≡ 0)) (λ t. Lowest s.left t rest.left) };
+
+    ghost remaining = { item_count (λ s. members s.left) };
+
+    fn next(&mut self) -> Option<usize> {
+        if self.left == 0 {
+            return None;
+        }
+        let t = lowest(self.left);
+        self.left = without(self.left, t);
+        Some(t)
+    }
+}
+
+// The members of a set, lowest first.
+pub fn members(set: u64) -> Walk
+    ensures { result.left ≡ set }
+{
+    Walk { left: set }
 }

@@ -2,6 +2,11 @@
 -- accepted, all notes are told, and no lent buffer changes where a call is not done, nor behind what it gives where it is. A number is read as the header says
 -- (`decoded`); `count ≤ most` is what the type of a count says.
 -- Assumes nothing.
+use Rattle.reader.specs.Reading.{reading, edition_read, starts_read}
+use Rattle.opacity.specs.Scan.{fault, cause_number}
+use Rattle.opacity.specs.declared.verdict.Cause.{Cause}
+use Rattle.std.specs.Prelude.{Option, Result, Ok, Err, Some, None}
+use Rattle.events.specs.declared.refusal.Refusal.{Refusal}
 use Prim.Native.Nat.{ℕ, ◌+◌, ◌*◌, ◌≤◌, ◌<◌}
 use native.Mathlib.Omega.{arith}
 use mathlib.Core.Path.{◌≡◌, refl, sym, ap, subst, ◌∙◌}
@@ -18,27 +23,26 @@ use Rattle.lists.specs.Lists.{range}
 use Rattle.records.proofs.BufferLaws.{drop-over}
 use Rattle.event_log.proofs.ColumnLaws.{history-length}
 use Rattle.lists.proofs.ListLaws.{keep-length, range_length}
-use Rattle.reader.specs.declared.Reading.{Reading}
 use Rattle.reader.specs.declared.HistoryRead.{HistoryRead}
-use Rattle.reader.specs.Reading.{read_answer, history_read, said_of, said as read_said}
-use Rattle.writer.specs.declared.Writing.{Writing}
+use Rattle.reader.specs.Reading.{read_answer, history_read, said as read_said}
+use Rattle.writer.specs.Writing.{Writing}
 use Rattle.writer.proofs.FileLaws.{length-file, length_most}
 use Rattle.writer.proofs.StartLaws.{starts-most}
 use Rattle.writer.specs.Writing.{file_of, WrittenAnswer, SameEntries, written_answer, said as written_said}
 use Rattle.writer.proofs.RoundTrip.{was_read, read-written, written_read, nothing-behind, refused-unread, refused-unwritten}
-use Rattle.finder.specs.declared.Finding.{Finding}
+use Rattle.finder.specs.Answer.{Finding}
 use Rattle.finder.specs.Answer.{marking_size, found_answer, said as found_said}
 use Rattle.finder.proofs.AnswerLaws.{said-marking}
 use Rattle.finder.proofs.Theorems.{written, refused-unchanged, none-unchanged}
 use Rattle.opacity.specs.declared.verdict.Rule.TheVariants.{D}
-use Rattle.opacity.specs.declared.verdict.Scanned.{Scanned}
+use Rattle.opacity.specs.Scan.{Scanned}
 use Rattle.opacity.specs.Counts.{counts}
 use Rattle.opacity.specs.Transactions.{is_store_read, store_reads}
 use Rattle.scan.specs.Answer.{scan_answer, said as scan_said}
-use Rattle.scan.proofs.AnswerLaws.{said-scanned}
+use Rattle.scan.proofs.AnswerLaws.{said-fault}
 use Rattle.scan.proofs.Theorems.{no-cause-four}
 use Rattle.marking.specs.Answer.{verdict_answer, said as check_said}
-use Rattle.straighten.specs.declared.Straightening.{Straightening}
+use Rattle.straighten.specs.declared.Straightening.TheVariants.{Straightened, Broken}
 use Rattle.straighten.specs.Answer.{straightened_answer, said as straight_said}
 use Rattle.straighten.proofs.AnswerLaws.{answer-means as straight-means}
 use Rattle.straighten.proofs.Theorems.{said-straightened, said-broken, never-broken-D, untouched, written_behind, written-accepted}
@@ -46,7 +50,6 @@ use Rattle.counts.specs.declared.tally.Tally.{Tally}
 use Rattle.counts.proofs.SaidLaws.{transactions-exactly, tallied-exactly}
 use Rattle.counts.proofs.Theorems.{adds-up}
 use Rattle.notes.specs.declared.Note.{Note}
-use Rattle.notes.specs.declared.NextNote.{NextNote}
 use Rattle.notes.specs.Notes.{notes_of, next_note, said as note_said, Stands, IsNext, first_of}
 use Rattle.notes.specs.Without.{without_notes}
 use Rattle.notes.proofs.NoteLaws.{next-is, next-none, next-first, next-again, events-most}
@@ -59,28 +62,29 @@ use Rattle.promises.proofs.FinderAccepted.{found-accepted}
 
 -- ---- what an answer is, by what its number says
 
-said_read : (a : HistoryRead) (n edition : ℕ) → read_said a ≡ done (n ∷ edition ∷ []) → (a.reading ≡ Reading.Read n) × (a.edition ≡ edition)
+-- what the number of a history read tells
+abbrev Read : Result HistoryRead Refusal → ℕ → ℕ → Type 0
+Read a n edition = (reading a ≡ Ok n) × (edition_read a ≡ edition)
+
+said_read : (a : Result HistoryRead Refusal) (n edition : ℕ) → read_said a ≡ done (n ∷ edition ∷ []) → Read a n edition
 unfolding read_said
-said_read a n edition e = go a.reading refl e
-  where
-    go : (r : Reading) → a.reading ≡ r → said_of a.edition r ≡ done (n ∷ edition ∷ []) → (a.reading ≡ Reading.Read n) × (a.edition ≡ edition)
-    go (Reading.Read k) w x = let i : k ≡ n = cc in let j : a.edition ≡ edition = cc in (w ∙ ap Reading.Read i, j)
-    go (Reading.Refused r) w x = absurd (let z : ◌≡◌ {A = ℕ} 0 1 = cc in omega arith)
+said_read (Ok r) n edition x = let i : r.count ≡ n = cc in let j : r.edition ≡ edition = cc in (ap Ok i, j)
+said_read (Err r) n edition x = absurd (let z : ◌≡◌ {A = ℕ} 0 1 = cc in omega arith)
 
-said-written : (a : Writing) (n : ℕ) → written_said a ≡ done (n ∷ []) → a ≡ Writing.Written n
+said-written : (a : Writing) (n : ℕ) → written_said a ≡ done (n ∷ []) → a ≡ Ok n
 unfolding written_said
-said-written (Writing.Written k) n e = cc
-said-written (Writing.Refused r) n e = absurd (let z : ◌≡◌ {A = ℕ} 0 1 = cc in omega arith)
+said-written (Ok k) n e = cc
+said-written (Err r) n e = absurd (let z : ◌≡◌ {A = ℕ} 0 1 = cc in omega arith)
 
-said-next : (a : NextNote) → note_said a ≡ done [] → (x : Note) × (a ≡ NextNote.Next x)
+said-next : (a : Option Note) → note_said a ≡ done [] → (x : Note) × (a ≡ Some x)
 unfolding note_said
-said-next (NextNote.Next x) e = (x, refl)
-said-next NextNote.None e = absurd (let z : ◌≡◌ {A = ℕ} 0 1 = cc in omega arith)
+said-next (Some x) e = (x, refl)
+said-next None e = absurd (let z : ◌≡◌ {A = ℕ} 0 1 = cc in omega arith)
 
-said-none : (a : NextNote) → note_said a ≡ nothing → a ≡ NextNote.None
+said-none : (a : Option Note) → note_said a ≡ nothing → a ≡ None
 unfolding note_said
-said-none (NextNote.Next x) e = absurd (let z : ◌≡◌ {A = ℕ} 0 1 = cc in omega arith)
-said-none NextNote.None e = refl
+said-none (Some x) e = absurd (let z : ◌≡◌ {A = ℕ} 0 1 = cc in omega arith)
+said-none None e = refl
 
 -- ---- read
 
@@ -91,19 +95,23 @@ module _ (file lent : List ℕ) (c : Columns) where
 
   pub read_keeps : (code_of (read_call file lent c).number ≡ 0 → ⊥) → ((read_call file lent c).starts ≡ lent) × ((read_call file lent c).columns ≡ c)
   unfolding read_call read_said starts_after
-  read_keeps n = go (read_answer file c).result.reading refl
+  read_keeps n = go (read_answer file c).result refl
     where
-      go : (r : Reading) → (read_answer file c).result.reading ≡ r → (starts_after (read_answer file c).result lent ≡ lent) × ((read_answer file c).columns ≡ c)
-      go (Reading.Read k) w = absurd (n (done-code two_values always (read-decodable file c) _ (ap (said_of (read_answer file c).result.edition) w)))
-      go (Reading.Refused r) w = (rw w, (refused-unread file c r.question r.at w).0)
+      go : (r : Result HistoryRead Refusal) → (read_answer file c).result ≡ r → (starts_after (read_answer file c).result lent ≡ lent) × ((read_answer file c).columns ≡ c)
+      go (Ok k) w = absurd (n (done-code two_values always (read-decodable file c) _ (ap read_said w)))
+      go (Err r) w = (ap (λ (x : Result HistoryRead Refusal). starts_after x lent) w, (refused-unread file c r.question r.at (ap reading w)).0)
 
   module _ (n edition : ℕ) (read : decoded two_values always (read_call file lent c).number ≡ done (n ∷ edition ∷ [])) where
-    is_read : ((read_answer file c).result.reading ≡ Reading.Read n) × ((read_answer file c).result.edition ≡ edition)
+    is_read : (reading (read_answer file c).result ≡ Ok n) × ((edition_read (read_answer file c).result) ≡ edition)
     is_read = said_read (read_answer file c).result n edition (sym read-says ∙ read)
 
-    starts-read : (read_call file lent c).starts ≡ (read_answer file c).result.starts
+    starts-read : (read_call file lent c).starts ≡ (starts_read (read_answer file c).result)
     unfolding read_call starts_after
-    starts-read = let r = is_read.0 in rw r
+    starts-read = go (read_answer file c).result is_read.0
+      where
+        go : (r : Result HistoryRead Refusal) → reading r ≡ Ok n → starts_after r lent ≡ starts_read r
+        go (Ok r) w = refl
+        go (Err r) w = absurd (let z : ◌≡◌ {A = ℕ} 0 1 = cc in omega arith)
 
     -- writing what was read gives the file without its notes back, and nothing behind it changes
     pub read-then-write : (out : List ℕ) → Bytes file → length (without_notes file) ≤ length out
@@ -147,11 +155,11 @@ module _ (edition : ℕ) (starts : List ℕ) (c : Columns) (count : ℕ) (small 
   write_keeps n = go (written_answer edition starts c count out).result refl
     where
       go : (r : Writing) → (written_answer edition starts c count out).result ≡ r → (written_answer edition starts c count out).output ≡ out
-      go (Writing.Written k) w = absurd (n (done-code one_value never (write-decodable edition starts c count small out) _ (ap written_said w)))
-      go (Writing.Refused r) w = refused-unwritten edition starts c count out r w
+      go (Ok k) w = absurd (n (done-code one_value never (write-decodable edition starts c count small out) _ (ap written_said w)))
+      go (Err r) w = refused-unwritten edition starts c count out r w
 
   module _ (len : ℕ) (done-so : decoded one_value never (write_call edition starts c count out).number ≡ done (len ∷ [])) where
-    is-written : (written_answer edition starts c count out).result ≡ Writing.Written len
+    is-written : (written_answer edition starts c count out).result ≡ Ok len
     is-written = said-written _ len (sym write-says ∙ done-so)
 
     -- reading what was written gives the count, the edition, the start values and the entries back
@@ -163,7 +171,7 @@ module _ (edition : ℕ) (starts : List ℕ) (c : Columns) (count : ℕ) (small 
     write-then-read lent d small-starts fit room =
         let r = read-written edition starts c d count out len small-starts fit is-written room in (
           read-says (take len (written_answer edition starts c count out).output) lent d ∙ ap read_said r.0,
-          ap (λ (a : HistoryRead). starts_after a lent) r.0,
+          ap (λ (a : Result HistoryRead Refusal). starts_after a lent) r.0,
           r.1,
         )
 
@@ -183,12 +191,12 @@ module _ (edition : ℕ) (starts : List ℕ) (c : Columns) (count prefix : ℕ) 
   find-keeps n = go (found_answer edition starts c count prefix out).result refl
     where
       go : (r : Finding) → (found_answer edition starts c count prefix out).result ≡ r → (found_answer edition starts c count prefix out).output ≡ out
-      go (Finding.Marking k) w = absurd (n (done-code one_value never (find-decodable edition starts c count small prefix out) _ (ap found_said w)))
-      go Finding.None w = none-unchanged edition starts c count prefix out w
-      go (Finding.Refused r) w = refused-unchanged edition starts c count prefix out r w
+      go (Ok (Some k)) w = absurd (n (done-code one_value never (find-decodable edition starts c count small prefix out) _ (ap found_said w)))
+      go (Ok None) w = none-unchanged edition starts c count prefix out w
+      go (Err r) w = refused-unchanged edition starts c count prefix out r w
 
   module _ (n : ℕ) (found : decoded one_value never (find_call edition starts c count prefix out).number ≡ done (n ∷ [])) where
-    is_found : (found_answer edition starts c count prefix out).result ≡ Finding.Marking n
+    is_found : (found_answer edition starts c count prefix out).result ≡ Ok (Some n)
     is_found = said-marking _ n (sym find-says ∙ found)
 
     -- the checker, called on exactly the bytes found with the prefix as the count, accepts them
@@ -215,7 +223,7 @@ module _ (edition : ℕ) (starts : List ℕ) (c : Columns) (count : ℕ) (small 
       (λ k l w. n (done-code two_values of_marking (straighten-decodable edition starts c count small file out list) _ (ap straight_said w)))
 
   module _ (n k : ℕ) (straight : decoded two_values of_marking (straighten_call edition starts c count file out list).number ≡ done (n ∷ k ∷ [])) where
-    is-straight : (straightened_answer edition starts c count file out list).result ≡ Straightening.Straightened n k
+    is-straight : (straightened_answer edition starts c count file out list).result ≡ Straightened n k
     is-straight = said-straightened _ n k (sym straighten-says ∙ straight)
 
     pub straighten-then-check : check_call edition starts c count (take n (straighten_call edition starts c count file out list).output) ≡ coded (done [])
@@ -233,14 +241,21 @@ pub scan-never-104 : (edition : ℕ) (starts : List ℕ) (c : Columns) (count : 
 unfolding scan_call
 scan-never-104 edition starts c count small e x =
     let s : scan_said (scan_answer edition starts c count) ≡ faulted e 4 = sym (decodes no_value never _ (scan-decodable edition starts c count small)) ∙ x in
-    no-cause-four edition starts c count e (said-scanned (scan_answer edition starts c count) (Scanned.Faulted e 4) s)
+    let f = said-fault (scan_answer edition starts c count) e 4 s in
+    go f.0 f.1.0 f.1.1
+  where
+    go : (k : Cause) → cause_number k ≡ 4 → scan_answer edition starts c count ≡ Ok (fault e k) → ⊥
+    go Cause.Read n y = omega (arith, n)
+    go Cause.Commit n y = omega (arith, n)
+    go Cause.Abort n y = omega (arith, n)
+    go Cause.Other n y = no-cause-four edition starts c count e y
 
 -- and 204 never of a straightening
 pub straighten-never-204 : (edition : ℕ) (starts : List ℕ) (c : Columns) (count : ℕ) → count ≤ most → (file out list : List ℕ) (e t : ℕ)
     → decoded two_values of_marking (straighten_call edition starts c count file out list).number ≡ broken 4 e t → ⊥
 straighten-never-204 edition starts c count small file out list e t x =
     let s = said-broken _ D e t (sym (straighten-says edition starts c count small file out list) ∙ x) in
-    let w = (straight-means edition starts c count file out list (Straightening.Broken D e t) s).0 in
+    let w = (straight-means edition starts c count file out list (Broken D e t) s).0 in
     never-broken-D edition starts c count file out list w.0 w.1 e t s
 
 -- ---- the tally
@@ -266,9 +281,9 @@ module _ (file : List ℕ) (from : ℕ) (lent : List ℕ) where
   unfolding next_note_call note_said note_after
   next-note-keeps n = go (next_note file from) refl
     where
-      go : (a : NextNote) → next_note file from ≡ a → note_after (next_note file from) lent ≡ lent
-      go (NextNote.Next x) w = absurd (n (done-code no_value never (note-decodable (next_note file from)) [] (ap note_said w)))
-      go NextNote.None w = ap (λ (a : NextNote). note_after a lent) w
+      go : (a : Option Note) → next_note file from ≡ a → note_after (next_note file from) lent ≡ lent
+      go (Some x) w = absurd (n (done-code no_value never (note-decodable (next_note file from)) [] (ap note_said w)))
+      go None w = ap (λ (a : Option Note). note_after a lent) w
 
   -- where it is done, the three numbers are those of the next note, which stands in the file
   pub next-note-tells : decoded no_value never (next_note_call file from lent).number ≡ done []
@@ -277,7 +292,7 @@ module _ (file : List ℕ) (from : ℕ) (lent : List ℕ) where
   next-note-tells told =
       let a = said-next (next_note file from) (sym next-note-says ∙ told) in
       let w = next-is file from a.0 a.1 in
-      (a.0, w.next, w.stands, ap (λ (y : NextNote). note_after y lent) a.1)
+      (a.0, w.next, w.stands, ap (λ (y : Option Note). note_after y lent) a.1)
 
   -- and where there is none, every note of a file that is not too long is before the byte
   pub next-note-none : decoded no_value never (next_note_call file from lent).number ≡ nothing → length file ≤ 32768

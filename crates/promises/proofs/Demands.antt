@@ -2,13 +2,16 @@
 -- each proof is a citation. `ensures` of each function says that its result and every lent buffer are such an answer; no public function
 -- requires anything.
 -- Assumes nothing.
+use Rattle.reader.specs.Reading.{reading, edition_read, starts_read}
+use Rattle.opacity.specs.declared.verdict.Cause.{Cause}
+use Rattle.opacity.specs.Scan.{cause_number}
+use Rattle.std.specs.Prelude.{Ok, Err}
 use Prim.Native.Nat.{ℕ, ◌≤◌, ◌<◌}
 use mathlib.Core.Path.{◌≡◌}
 use mathlib.Core.Logic.{◌↔◌, ◌⊎◌}
 use mathlib.Core.Bool.{true}
 use mathlib.Core.List.{List, [], ◌∷◌}
 use lib.ListN.{length, take, drop}
-use Rattle.event_log.specs.declared.admit.Checked.TheVariants.{Readable, Refused}
 use Rattle.records.specs.Bytes.{Bytes, over}
 use Rattle.event_log.specs.Columns.{Columns, history, hold, Fitting}
 use Rattle.events.specs.Said.{done, nothing, faulted, broken, at_event, at_byte, refuse, number}
@@ -21,10 +24,8 @@ use Rattle.opacity.specs.Lowest.{LowestJustified}
 use Rattle.opacity.specs.Marking.{Marking, marked, marking_bytes, rule_number}
 use Rattle.opacity.specs.Scan.{AllJustified, FaultsAt}
 use Rattle.opacity.specs.Verdicts.{AllHold}
-use Rattle.reader.specs.declared.Reading.TheVariants.{Read}
 use Rattle.reader.specs.Reading.{Log, TooShort, history_of, readable, refused, events_in, history_read, read_answer, said as read_said}
 use Rattle.notes.specs.Without.{without_notes, short_notes}
-use Rattle.writer.specs.declared.Writing.TheVariants.{Written}
 use Rattle.writer.specs.Writing.{SameEntries, file_of, answered, written_answer, said as written_said}
 use Rattle.reader.proofs.SaidLaws as reader
 use Rattle.notes.proofs.Theorems as notes
@@ -60,28 +61,28 @@ unreadable-history = reader.read-refused
 module _ (edition : ℕ) (starts : List ℕ) (c : Columns) (count : ℕ) where
   -- columns: 17, 3 or an event's own question; or, of the writer, 15 with the count
   pub unwritable-history : (output : List ℕ) (q e : ℕ) → (written_said (written_answer edition starts c count output).result ≡ at_event q e)
-      ↔ ((history_answer edition starts c count ≡ Refused (refuse q e))
-      ⊎ ((history_answer edition starts c count ≡ Readable) × (length output < length (file_of edition starts (history c count))) × (refuse q e ≡ refuse 15 count)))
+      ↔ ((history_answer edition starts c count ≡ Err (refuse q e))
+      ⊎ ((history_answer edition starts c count ≡ Ok tt) × (length output < length (file_of edition starts (history c count))) × (refuse q e ≡ refuse 15 count)))
   unwritable-history output = writer.written-refused edition starts c count output
 
-  pub uncheckable-history : (file : List ℕ) (q e : ℕ) → (check_said (verdict_answer edition starts c count file) ≡ at_event q e) ↔ (history_answer edition starts c count ≡ Refused (refuse q e))
+  pub uncheckable-history : (file : List ℕ) (q e : ℕ) → (check_said (verdict_answer edition starts c count file) ≡ at_event q e) ↔ (history_answer edition starts c count ≡ Err (refuse q e))
   uncheckable-history file = checker.history-said edition starts c count file
 
   -- a marking's file: the first question that says no, at its byte
   pub unreadable-marking : (file : List ℕ) (q b : ℕ) → (check_said (verdict_answer edition starts c count file) ≡ at_byte q b)
-      ↔ ((history_answer edition starts c count ≡ Readable) × (file_read (known (history c count)) file ≡ unread q b))
+      ↔ ((history_answer edition starts c count ≡ Ok tt) × (file_read (known (history c count)) file ≡ unread q b))
   unreadable-marking file = checker.marking-said edition starts c count file
 
   -- of the straightening 15 too, of the finder 18, 31 and 32, of the scan 31
   pub unstraightened : (file output list : List ℕ) (q e : ℕ) → (straight_said (straightened_answer edition starts c count file output list).result ≡ at_event q e)
-      ↔ ((history_answer edition starts c count ≡ Refused (refuse q e)) ⊎ (Short edition starts c count file output list × (refuse q e ≡ refuse 15 count)))
+      ↔ ((history_answer edition starts c count ≡ Err (refuse q e)) ⊎ (Short edition starts c count file output list × (refuse q e ≡ refuse 15 count)))
   unstraightened file output list = straighten.refused-said edition starts c count file output list
 
   pub unsearched : (prefix : ℕ) (output : List ℕ) (q e : ℕ) → (found_said (found_answer edition starts c count prefix output).result ≡ at_event q e)
-      ↔ (find_refusal edition starts c count prefix (length output) ≡ Refused (refuse q e))
+      ↔ (find_refusal edition starts c count prefix (length output) ≡ Err (refuse q e))
   unsearched prefix output = finder.refused-said edition starts c count prefix output
 
-  pub unscanned : (q e : ℕ) → (scan_said (scan_answer edition starts c count) ≡ at_event q e) ↔ (scan_refusal edition starts c count ≡ Refused (refuse q e))
+  pub unscanned : (q e : ℕ) → (scan_said (scan_answer edition starts c count) ≡ at_event q e) ↔ (scan_refusal edition starts c count ≡ Err (refuse q e))
   unscanned = scan.refused-said edition starts c count
 
   -- "no lent buffer changes;" (checker, scan, counts and tally are lent none; "every call ends on every input": every function is proved to return)
@@ -104,15 +105,15 @@ nothing_read = kept.reader-keeps
 
 -- (`FittingStarts`, `Fitting` and `Bytes` are what the types of the numbers say)
 pub read-what-was-written : (edition : ℕ) (starts : List ℕ) (c d : Columns) (n : ℕ) (out : List ℕ) (len : ℕ) → FittingStarts starts → Fitting c
-    → (written_answer edition starts c n out).result ≡ Written len → hold d n ≡ true
+    → (written_answer edition starts c n out).result ≡ Ok len → hold d n ≡ true
     → ((read_answer (take len (written_answer edition starts c n out).output) d).result ≡ history_read n edition starts)
     × SameEntries n (read_answer (take len (written_answer edition starts c n out).output) d).columns c
 read-what-was-written = round.read-written
 
 -- (notes are no part of a history, and are not written)
-pub write-what-was-read : (s : List ℕ) (c : Columns) (n : ℕ) (out : List ℕ) → Bytes s → (read_answer s c).result.reading ≡ Read n → length (without_notes s) ≤ length out
-    → written_answer (read_answer s c).result.edition (read_answer s c).result.starts (read_answer s c).columns n out
-    ≡ answered (Written (length (without_notes s))) (over (without_notes s) out)
+pub write-what-was-read : (s : List ℕ) (c : Columns) (n : ℕ) (out : List ℕ) → Bytes s → reading (read_answer s c).result ≡ Ok n → length (without_notes s) ≤ length out
+    → written_answer (edition_read (read_answer s c).result) (starts_read (read_answer s c).result) (read_answer s c).columns n out
+    ≡ answered (Ok (length (without_notes s))) (over (without_notes s) out)
 write-what-was-read = round.written_read
 
 -- (a file is read exactly if it is not too long, no note is, and the same file without notes is read; and it is read as that one)
@@ -120,13 +121,13 @@ pub notes-passed-over : (s : List ℕ) (l : Log) → (history_of s ≡ readable 
 notes-passed-over = notes.readable-exactly
 
 pub no-note-written : (edition : ℕ) (starts : List ℕ) (c : Columns) (n : ℕ) (out : List ℕ) (len : ℕ) → FittingStarts starts → Fitting c
-    → (written_answer edition starts c n out).result ≡ Written len
+    → (written_answer edition starts c n out).result ≡ Ok len
     → without_notes (take len (written_answer edition starts c n out).output) ≡ take len (written_answer edition starts c n out).output
 no-note-written = bare.writes-no-notes
 
 module _ (edition : ℕ) (starts : List ℕ) (c : Columns) (n : ℕ) (file : List ℕ) where
   -- "The checker accepts a readable marking exactly when the five rules hold,"
-  pub accepts-by-rules : (m : Marking) → history_answer edition starts c n ≡ Readable → file_read (known (history c n)) file ≡ content m
+  pub accepts-by-rules : (m : Marking) → history_answer edition starts c n ≡ Ok tt → file_read (known (history c n)) file ≡ content m
       → (check_said (verdict_answer edition starts c n file) ≡ done []) ↔ AllHold (start_of starts) (history c n) m
   accepts-by-rules = checker.rules-said edition starts c n file
 
@@ -152,17 +153,18 @@ module _ (edition : ℕ) (starts : List ℕ) (c : Columns) (count : ℕ) where
   opaque-exactly = words.opaque-in-words edition starts c count
 
   -- "event e exactly when the prefix ending with e is the first without one;"
-  pub faulted-exactly : (e w : ℕ) → (scan_said (scan_answer edition starts c count) ≡ faulted e w) ↔ (Passed edition starts c count × FaultsAt (start_of starts) (history c count) e w)
+  pub faulted-exactly : (e w : ℕ) → (scan_said (scan_answer edition starts c count) ≡ faulted e w)
+      ↔ (Passed edition starts c count × ((k : Cause) × ((cause_number k ≡ w) × FaultsAt (start_of starts) (history c count) e k)))
   faulted-exactly = scan.faulted-said edition starts c count
 
 -- "the finder gives the marking of the lowest justification exactly when there is one, else none, and the checker accepts it.": from the
 -- bytes of a readable file on, for every prefix of at most 10 transactions and an output as long as the paper says
 module _ (file : List ℕ) (c : Columns) (count prefix : ℕ) (output : List ℕ) (d : FromFile file c count prefix output) where
   abbrev edition : ℕ
-  edition = (read_answer file c).result.edition
+  edition = (edition_read (read_answer file c).result)
 
   abbrev starts : List ℕ
-  starts = (read_answer file c).result.starts
+  starts = (starts_read (read_answer file c).result)
 
   abbrev filled : Columns
   filled = (read_answer file c).columns

@@ -1,6 +1,8 @@
 -- Demand 3 on its own domain: from the bytes of a readable file on, for every prefix of at most 10 transactions and an output as long as
 -- the paper says.
 -- Assumes nothing.
+use Rattle.reader.specs.Reading.{edition_read, starts_read}
+use Rattle.std.specs.Prelude.{None}
 use Prim.Native.Nat.{ℕ, ◌≤◌}
 use mathlib.Core.Path.{◌≡◌, sym, ap, subst, ◌∙◌}
 use mathlib.Core.Logic.{◌↔◌}
@@ -30,10 +32,10 @@ use Rattle.promises.proofs.FinderAccepted.{found-accepted}
 module _ (file : List ℕ) (c : Columns) (count prefix : ℕ) (output : List ℕ) (d : FromFile file c count prefix output) where
   -- what the reader tells, and the columns as it fills them
   abbrev edition : ℕ
-  edition = (read_answer file c).result.edition
+  edition = (edition_read (read_answer file c).result)
 
   abbrev starts : List ℕ
-  starts = (read_answer file c).result.starts
+  starts = (starts_read (read_answer file c).result)
 
   abbrev filled : Columns
   filled = (read_answer file c).columns

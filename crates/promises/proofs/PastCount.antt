@@ -1,22 +1,22 @@
 -- What stands in the columns past the count, and what a buffer held before, make no difference to an answer: for the reader, the writer,
 -- the checker, the counts and the tally. For the finder, the scan and the straightening this is `past-count` in their own Theorems.
 -- Assumes nothing.
+use Rattle.std.specs.Prelude.{Result, Ok, Err}
+use Rattle.events.specs.declared.refusal.Refusal.{Refusal}
 use Prim.Native.Nat.{ℕ}
 use mathlib.Core.Path.{◌≡◌, refl, sym, ap, ◌∙◌}
 use mathlib.Core.Bool.{Bool, true, false, cond}
 use mathlib.Core.List.{List}
 use lib.Dec.{leb}
 use lib.ListN.{length}
-use Rattle.event_log.specs.declared.admit.Checked.{Checked}
-use Rattle.event_log.specs.declared.admit.Checked.TheVariants.{Readable, Refused as Refuses}
+use Rattle.event_log.specs.Checked.{Checked}
 use Rattle.events.specs.Said.{refuse}
 use Rattle.records.specs.Bytes.{over}
 use Rattle.event_log.specs.Columns.{Columns, history, hold, filled_with}
 use Rattle.event_log.specs.Answer.{history_answer}
 use Rattle.reader.specs.declared.HistoryRead.{HistoryRead}
 use Rattle.reader.specs.Reading.{Log, Outcome, readable, refused, history_of, history_read, not_read, answered as filled_in, filled, read_answer}
-use Rattle.writer.specs.declared.Writing.{Writing}
-use Rattle.writer.specs.declared.Writing.TheVariants.{Written, Refused as Unwritten}
+use Rattle.writer.specs.Writing.{Writing}
 use Rattle.writer.specs.Writing.{file_of, answered, written_after, written_answer}
 use Rattle.marking.specs.Answer.{verdict_answer}
 use Rattle.counts.specs.Answer.{transactions_answer, store_reads_answer, tally_answer}
@@ -54,27 +54,27 @@ module _ (c d : Columns) (count : ℕ) (same-room : hold c count ≡ hold d coun
       file x = file_of edition starts (history x count)
 
       fits : Bool → ℕ → Writing
-      fits true n = Written n
-      fits false n = Unwritten (refuse 15 count)
+      fits true n = Ok n
+      fits false n = Err (refuse 15 count)
 
       room_for : ℕ → List ℕ → Checked → Writing
-      room_for room f Readable = fits (leb (length f) room) (length f)
-      room_for room f (Refuses r) = Unwritten r
+      room_for room f (Ok tt) = fits (leb (length f) room) (length f)
+      room_for room f (Err r) = Err r
 
-      by-room : (f o : List ℕ) (b : Bool) → (cond b (answered (Written (length f)) (over f o)) (answered (Unwritten (refuse 15 count)) o)).result ≡ fits b (length f)
+      by-room : (f o : List ℕ) (b : Bool) → (cond b (answered (Ok (length f)) (over f o)) (answered (Err (refuse 15 count)) o)).result ≡ fits b (length f)
       by-room f o true = refl
       by-room f o false = refl
 
       said : (f o : List ℕ) (v : Checked) → (written_after f count o v).result ≡ room_for (length o) f v
-      said f o Readable = by-room f o (leb (length f) (length o))
-      said f o (Refuses r) = refl
+      said f o (Ok tt) = by-room f o (leb (length f) (length o))
+      said f o (Err r) = refl
 
 -- The reader's result asks of the columns only how long they are.
 pub reader-held : (file : List ℕ) (c d : Columns) → ((n : ℕ) → hold c n ≡ hold d n) → (read_answer file c).result ≡ (read_answer file d).result
 unfolding read_answer
 reader-held file c d e = go (history_of file)
   where
-    tells : Bool → Log → HistoryRead
+    tells : Bool → Log → Result HistoryRead Refusal
     tells b l = cond b (history_read (length l.events) l.edition l.starts) (not_read 14 (length file))
 
     by-room : (l : Log) (x : Columns) (b : Bool)

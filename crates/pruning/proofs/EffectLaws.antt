@@ -7,7 +7,7 @@ use mathlib.Core.List.{List, [], ◌∷◌, ◌++◌}
 use mathlib.Core.Bool.{Bool, true, false, cond}
 use mathlib.Core.Option
 use mathlib.Core.Option.{Option, none, some}
-use lib.ListN.{length, length-set, get_or, set, replicate, get_or-replicate}
+use lib.ListN.{length, get_or, set, replicate, get_or-replicate}
 use lib.Seq.{get_or-set_same, get_or-set_other}
 use lib.Bits.{bit_and, bit_or, and_le_l, and_le_r, or_add_and, or_mod}
 use lib.Dec.{eqb}
@@ -20,7 +20,7 @@ use Rattle.lists.specs.Bits.{bit_at, members}
 use Rattle.places.specs.Facts.{required_of, written_of}
 use Rattle.places.specs.Places.{coded, decode, plus, writes_in, write_of}
 use Rattle.places.specs.Tree.{asking, legal_at, legal_reads}
-use Rattle.pruning.specs.Runs.{Effect, Effects, Writes, Written, Renewed, Stays}
+use Rattle.pruning.specs.Runs.{Effect, Effects, Writes, Renewed, Stays}
 use Rattle.lists.proofs.BitLaws.{member-lt, member-and, bit-with}
 use Rattle.places.proofs.SetLaws.{member-passes, members-pass, fewer-pass}
 use Rattle.places.proofs.LookupLaws.{committed-wrote, decode-snoc}
@@ -143,39 +143,24 @@ writes-on F x m i n w e = record { has = λ r l f. rw e (go r l f (eqb (written_
     go r l f false q true p = bit-with r i m ∙ (rw p)
     go r l f false q false p = bit-with r i m ∙ (rw p (old r l (λ z. eqb-false _ _ p (sym z)) f))
 
--- the table has them for each below t
-pub record WrittenBelow (F : List (List ℕ)) (m : List ℕ) (t : ℕ) : Type 0 where
-  pub long : length m ≡ 10
-  pub at : (k : ℕ) → k < t → Writes F k (get_or m k 0)
+-- ---- tables
 
-pub written_on : (F : List (List ℕ)) (m : List ℕ) (t n : ℕ) → t < 10 → WrittenBelow F m t → Writes F t n → WrittenBelow F (set m t n) (t + 1)
-written_on F m t n low w f = record { long = length-set m t n ∙ w.long; at = λ k l. go k l (eqb k t) refl }
+-- one entry more is right
+pub one_entry : {A : Type 0} (P : ℕ → A → Type 0) (m : List A) (d : A) (i : ℕ) (v : A) → i < length m → P i v
+    → ((k : ℕ) → k < i → P k (get_or m k d)) → (k : ℕ) → k < i + 1 → P k (get_or (set m i v) k d)
+one_entry P m d i v low here before k l = go (eqb k i) refl
   where
-    go : (k : ℕ) → k < t + 1 → (b : Bool) → eqb k t ≡ b → Writes F k (get_or (set m t n) k 0)
-    go k l true q = let e : k ≡ t = eqb-true _ _ q in rw (e, get_or-set_same m t n 0 (omega (arith, w.long))) f
-    go k l false q = let other : k ≡ t → ⊥ = eqb-false _ _ q in rw (get_or-set_other m t k n 0 other) (w.at k (omega arith))
-
--- ---- the table of effects
+    go : (b : Bool) → eqb k i ≡ b → P k (get_or (set m i v) k d)
+    go true q = let e : k ≡ i = eqb-true _ _ q in rw (e, get_or-set_same m i v d low) here
+    go false q = let other : k ≡ i → ⊥ = eqb-false _ _ q in rw (get_or-set_other m i k v d other) (before k (omega arith))
 
 -- where all may help nothing is known
-pub nothing_known : (F : List (List ℕ)) (asked : ℕ) → Effects F asked (replicate 100 4294967296)
+pub nothing_known : (F : List (List ℕ)) (asked : ℕ) → Effects F asked (replicate 10 (replicate 10 4294967296))
 nothing_known F asked =
     record {
       at = λ x t low ten.
-          let all : List ℕ = replicate 100 4294967296 in
-          let e : get_or all (x * 10 + t) 0 ≡ 4294967296 = get_or-replicate 100 (x * 10 + t) 4294967296 0 (omega arith) in
+          let row : get_or (replicate 10 (replicate 10 4294967296)) x [] ≡ replicate 10 4294967296 = get_or-replicate 10 x (replicate 10 4294967296) [] low in
+          let e : get_or (get_or (replicate 10 (replicate 10 4294967296)) x []) t 0 ≡ 4294967296 = ap (λ (m : List ℕ). get_or m t 0) row
+          ∙ get_or-replicate 10 t 4294967296 0 ten in
           record { untouched = λ z o p h. absurd (omega arith); spoilt = λ z o p h. absurd (z (ap (λ (k : ℕ). k % 4294967296) e)) };
     }
-
--- one more is known
-pub known_on : (F : List (List ℕ)) (asked : ℕ) (m : List ℕ) (i e : ℕ) → length m ≡ 100 → i < 100 → Effects F asked m
-    → Effect (λ (o p : List ℕ). legal_reads (asking o F asked) p (i % 10)) (i / 10) e → Effects F asked (set m i e)
-known_on F asked m i e long low f g = record { at = λ x t a b. go x t a b (eqb (x * 10 + t) i) refl }
-  where
-    go : (x t : ℕ) → x < 10 → t < 10 → (d : Bool) → eqb (x * 10 + t) i ≡ d → Effect (λ (o p : List ℕ). legal_reads (asking o F asked) p t) x (get_or (set m i e) (x * 10 + t) 0)
-    go x t a b true q =
-        let same : x * 10 + t ≡ i = eqb-true _ _ q in
-        let tens : i / 10 ≡ x = omega arith in
-        let ones : i % 10 ≡ t = omega arith in
-        rw (same, get_or-set_same m i e 0 (omega arith)) (rw (tens, ones) at g)
-    go x t a b false q = rw (get_or-set_other m i (x * 10 + t) e 0 (eqb-false _ _ q)) (f.at x t a b)

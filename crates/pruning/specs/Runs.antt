@@ -48,9 +48,13 @@ pub record Effect (legal : List ℕ → List ℕ → Bool) (x e : ℕ) : Type 0 
   pub untouched : e ≡ 0 → (o p : List ℕ) → legal o (p ++ ((x * 2 + 1) ∷ [])) ≡ true → legal o p ≡ true
   pub spoilt : (e % 4294967296 ≡ 0 → ⊥) → (o p : List ℕ) → legal o (p ++ ((x * 2 + 1) ∷ [])) ≡ true → ⊥
 
--- the table has at 10 * x + t what that of x does to those of t
-pub record Effects (f : List (List ℕ)) (asked : ℕ) (effects : List ℕ) : Type 0 where
-  pub at : (x t : ℕ) → x < 10 → t < 10 → Effect (λ (o p : List ℕ). legal_reads (asking o f asked) p t) x (get_or effects (x * 10 + t) 0)
+-- the row has at t what that of x does to those of t
+pub record RowEffects (f : List (List ℕ)) (asked x : ℕ) (row : List ℕ) : Type 0 where
+  pub at : (t : ℕ) → t < 10 → Effect (λ (o p : List ℕ). legal_reads (asking o f asked) p t) x (get_or row t 0)
+
+-- the table has in row x at t what that of x does to those of t
+pub record Effects (f : List (List ℕ)) (asked : ℕ) (effects : List (List ℕ)) : Type 0 where
+  pub at : (x t : ℕ) → x < 10 → t < 10 → Effect (λ (o p : List ℕ). legal_reads (asking o f asked) p t) x (get_or (get_or effects x []) t 0)
 
 -- k is not one, other than t, that may commit and writes this to r
 abbrev pub NoSource : List (List ℕ) → ℕ → ℕ → ℕ → ℕ → Type 0

@@ -7,13 +7,15 @@ ghost use Rattle.std.specs.Int.Bits.{bit_and};
 ghost use Rattle.lists.specs.Bits.{bit_at};
 ghost use Rattle.places.specs.Facts.{end_row, after_of};
 ghost use Rattle.places.specs.State.{placed_of, Sound, Placeable, Keeps};
-ghost use Rattle.places.specs.Tree.{asking, legal_reads};
+ghost use Rattle.places.specs.Told.{told};
+ghost use Rattle.places.specs.Tree.{legal_reads};
 ghost use Rattle.places.specs.Choice.{among};
-ghost use Rattle.pruning.specs.Runs.{Hope, HopeBy, Ready, Renewed, Stays, Effects, Orphaned, other_than, StillNeeded};
+ghost use Rattle.pruning.specs.Runs.{Hope, HopeBy, Ready, Renewed, Stays, Orphaned, other_than, StillNeeded};
 
 use crate::effects::{HELPED, orphaned};
-use places::facts::{ABORTED, AFTER, ALLOWED, COMMITTED, END, Facts, SEARCHED};
-use places::lookup::legal_reads;
+use crate::tree::Tree;
+use places::facts::{ABORTED, AFTER, ALLOWED, COMMITTED, END, Facts};
+use places::lookup::Constraints;
 use places::sets;
 use places::state::{Search, code_at};
 
@@ -38,35 +40,23 @@ fn kept(set: u64, t: usize, passes: bool) -> u64
 }
 
 // The unplaced whose store reads are legal after the places filled.
-fn ready_among(starts: &[u32; 32], facts: &[Facts; 11], asked: u32, s: Search) -> u64
+fn ready_among(constraints: &Constraints, s: Search) -> u64
     requires { Sound s }
-    ensures { Ready (asking starts.now facts.now asked) s result }
+    ensures { Ready (told constraints.now) s result }
 {
     let mut ready = s.unplaced;
-    let mut left = s.unplaced;
-    while left != 0 {
-        let t = sets::lowest(left);
-        ready = kept(ready, t, legal_reads(starts, facts, asked, s, t));
-        left = sets::without(left, t);
+    for t in sets::members(s.unplaced) {
+        ready = kept(ready, t, constraints.legal_reads(s, t));
     }
     ready
 }
 
 // May t be ready, now that a commit with this effect on it is the last place of s? It may if it was before, unless a read of it is
 // spoilt; if it was not, it may be only where something that it reads was written.
-fn still_ready(
-    starts: &[u32; 32],
-    facts: &[Facts; 11],
-    asked: u32,
-    s: Search,
-    ready: u64,
-    t: usize,
-    effect: u64,
-) -> bool
+fn still_ready(constraints: &Constraints, s: Search, ready: u64, t: usize, effect: u64) -> bool
     requires sound { Sound s }
     requires t_bound { t < 10 }
-    ensures { Stays
-        (legal_reads (asking starts.now facts.now asked) (placed_of s) t) ready t effect → result ≡ true }
+    ensures { Stays (legal_reads (told constraints.now) (placed_of s) t) ready t effect → result ≡ true }
 {
     if effect % HELPED != 0 {
         return false;
@@ -77,35 +67,7 @@ fn still_ready(
     if effect == 0 {
         return false;
     }
-    legal_reads(starts, facts, asked, s, t)
-}
-
-// The unplaced whose store reads may be legal after the places filled, from those before the last, which is x committed.
-fn ready_after(
-    starts: &[u32; 32],
-    facts: &[Facts; 11],
-    effects: &[u64; 100],
-    asked: u32,
-    s: Search,
-    x: usize,
-    ready: u64,
-) -> u64
-    requires sound { Sound s }
-    requires x_bound { x < 10 }
-    requires effects { Effects facts.now asked effects.now }
-    ensures { Keeps
-        (Renewed (legal_reads (asking starts.now facts.now asked)) (placed_of s) x ready) s.unplaced result }
-{
-    let mut after = s.unplaced;
-    let mut left = s.unplaced;
-    while left != 0 {
-        let t = sets::lowest(left);
-        let effect = effects[x * SEARCHED + t];
-        let passes = still_ready(starts, facts, asked, s, ready, t, effect);
-        after = kept(after, t, passes);
-        left = sets::without(left, t);
-    }
-    after
+    constraints.legal_reads(s, t)
 }
 
 // May t come next with another outcome than this, where no one counts but those that are needed?
@@ -124,113 +86,21 @@ fn still_needed(facts: &[Facts; 11], need: u64, ready: u64) -> u64
     requires { ready < 1024 }
     ensures { StillNeeded facts.now ready need result }
 {
-    let mut left = need & ready;
-    while left != 0 {
-        let t = sets::lowest(left);
+    for t in sets::members(need & ready) {
         if other_than(facts, need, t, COMMITTED) {
             return still_needed(facts, sets::without(need, t), ready);
         }
-        left = sets::without(left, t);
     }
     need
 }
 
-// Can all that are needed be placed after the places of s, with commits of the unplaced in between?
-#[cycle(leads_possible)]
-fn possible(
-    starts: &[u32; 32],
-    facts: &[Facts; 11],
-    effects: &[u64; 100],
-    asked: u32,
-    s: Search,
-    need: u64,
-    ready: u64,
-) -> bool
-    requires sound { Sound s }
-    requires ready { Ready (asking starts.now facts.now asked) s ready }
-    requires effects { Effects facts.now asked effects.now }
-    ensures { Hope (asking starts.now facts.now asked) s need result }
-{
-    let rest = still_needed(facts, need, ready);
-    if rest == 0 {
-        return true;
-    }
-    let mut left = ready;
-    while left != 0 {
-        let t = sets::lowest(left);
-        if leads(starts, facts, effects, asked, s, rest, ready, t) {
-            return true;
-        }
-        left = sets::without(left, t);
-    }
-    false
-}
-
-// Can they, if t commits next?
-#[cycle(leads_possible)]
-fn leads(
-    starts: &[u32; 32],
-    facts: &[Facts; 11],
-    effects: &[u64; 100],
-    asked: u32,
-    s: Search,
-    need: u64,
-    ready: u64,
-    t: usize,
-) -> bool
-    requires placeable { Placeable s t }
-    requires ready { Ready (asking starts.now facts.now asked) s ready }
-    requires effects { Effects facts.now asked effects.now }
-    ensures { HopeBy (asking starts.now facts.now asked) s need t result }
-{
-    if !other_than(facts, need, t, ABORTED) {
-        return false;
-    }
-    let next = s.place(t, COMMITTED);
-    let rest = need & next.unplaced;
-    if orphaned(starts, facts, effects, asked, next, rest, t) {
-        return false;
-    }
-    let after = ready_after(starts, facts, effects, asked, next, t, ready);
-    possible(starts, facts, effects, asked, next, rest, after)
-}
-
 // Is there one of these that needs a value which is not there, and which nobody unplaced could write?
-pub fn stranded(starts: &[u32; 32], facts: &[Facts; 11], asked: u32, s: Search, need: u64) -> bool
+pub fn stranded(constraints: &Constraints, s: Search, need: u64) -> bool
     requires sound { Sound s }
     requires need_bound { need < 1024 }
-    ensures { result ≡ true → Orphaned (asking starts.now facts.now asked) s need }
+    ensures { result ≡ true → Orphaned (told constraints.now) s need }
 {
-    let all = [OVERWRITES_ALL; 100];
-    orphaned(starts, facts, &all, asked, s, need, 0)
-}
-
-// Is there one now, by the last place? A commit has overwritten what it has, one that could have committed leaves others without its
-// writes, and any other place takes nothing away. Who is stranded before any place is filled has been asked already.
-fn bereft(
-    starts: &[u32; 32],
-    facts: &[Facts; 11],
-    effects: &[u64; 100],
-    asked: u32,
-    s: Search,
-    need: u64,
-) -> bool
-    requires sound { Sound s }
-    requires need_bound { need < 1024 }
-    ensures { result ≡ true → Orphaned (asking starts.now facts.now asked) s need }
-{
-    if s.filled == 0 {
-        return false;
-    }
-    let last = code_at(s.placed, 0);
-    let x = last / 2;
-    if last % 2 == 1 {
-        return orphaned(starts, facts, effects, asked, s, need, x);
-    }
-    if facts[x][ALLOWED] == ABORTED {
-        return false;
-    }
-    stranded(starts, facts, asked, s, need)
+    orphaned(constraints, &[OVERWRITES_ALL; 10], s, need)
 }
 
 // Those of a set that must come before the end.
@@ -240,33 +110,102 @@ pub fn before_end(facts: &[Facts; 11], set: u64) -> u64
     set & facts[END][AFTER]
 }
 
-// Is there hope? It is asked once for a state, before its first candidate is tried, and only where there is much to try.
-pub fn hopeful(
-    starts: &[u32; 32],
-    facts: &[Facts; 11],
-    effects: &[u64; 100],
-    asked: u32,
-    s: Search,
-    candidates: u64,
-) -> bool
-    requires sound { Sound s }
-    requires effects { Effects facts.now asked effects.now }
-    ensures { result ≡ false → among (asking starts.now facts.now asked) s candidates ≡ none }
-{
-    if candidates < LOWEST_FOUR {
-        return true;
+impl<'a> Tree<'a> {
+    // The unplaced whose store reads may be legal after the places filled, from those before the last, which is x committed.
+    fn ready_after(&self, s: Search, x: usize, ready: u64) -> u64
+        requires sound { Sound s }
+        requires x_bound { x < 10 }
+        ensures { Keeps (Renewed (legal_reads (told self.now.constraints)) (placed_of s) x ready) s.unplaced result }
+    {
+        let effects = &self.effects[x];
+        let mut after = s.unplaced;
+        for t in sets::members(s.unplaced) {
+            let passes = still_ready(&self.constraints, s, ready, t, effects[t]);
+            after = kept(after, t, passes);
+        }
+        after
     }
-    if candidates != s.unplaced {
-        return true;
+
+    // Can all that are needed be placed after the places of s, with commits of the unplaced in between?
+    #[cycle(leads_possible)]
+    fn possible(&self, s: Search, need: u64, ready: u64) -> bool
+        requires sound { Sound s }
+        requires ready { Ready (told self.now.constraints) s ready }
+        ensures { Hope (told self.now.constraints) s need result }
+    {
+        let rest = still_needed(self.constraints.facts, need, ready);
+        if rest == 0 {
+            return true;
+        }
+        for t in sets::members(ready) {
+            if self.leads(s, rest, ready, t) {
+                return true;
+            }
+        }
+        false
     }
-    if sets::count(candidates) < FEW {
-        return true;
+
+    // Can they, if t commits next?
+    #[cycle(leads_possible)]
+    fn leads(&self, s: Search, need: u64, ready: u64, t: usize) -> bool
+        requires placeable { Placeable s t }
+        requires ready { Ready (told self.now.constraints) s ready }
+        ensures { HopeBy (told self.now.constraints) s need t result }
+    {
+        if !other_than(self.constraints.facts, need, t, ABORTED) {
+            return false;
+        }
+        let next = s.place(t, COMMITTED);
+        let rest = need & next.unplaced;
+        if orphaned(&self.constraints, &self.effects[t], next, rest) {
+            return false;
+        }
+        let after = self.ready_after(next, t, ready);
+        self.possible(next, rest, after)
     }
-    let ready = ready_among(starts, facts, asked, s);
-    let unready = before_end(facts, s.unplaced ^ ready);
-    if bereft(starts, facts, effects, asked, s, unready) {
-        return false;
+
+    // Is there one stranded now, by the last place? A commit has overwritten what it has, one that could have committed leaves others
+    // without its writes, and any other place takes nothing away. Who is stranded before any place is filled has been asked already.
+    fn bereft(&self, s: Search, need: u64) -> bool
+        requires sound { Sound s }
+        requires need_bound { need < 1024 }
+        ensures { result ≡ true → Orphaned (told self.now.constraints) s need }
+    {
+        if s.filled == 0 {
+            return false;
+        }
+        let last = code_at(s.placed, 0);
+        let x = last / 2;
+        if last % 2 == 1 {
+            return orphaned(&self.constraints, &self.effects[x], s, need);
+        }
+        if self.constraints.facts[x][ALLOWED] == ABORTED {
+            return false;
+        }
+        stranded(&self.constraints, s, need)
     }
-    let need = before_end(facts, candidates);
-    possible(starts, facts, effects, asked, s, need, ready)
+
+    // Is there hope? It is asked once for a state, before its first candidate is tried, and only where there is much to try.
+    pub fn hopeful(&self, s: Search, candidates: u64) -> bool
+        requires { Sound s }
+        ensures { result ≡ false → among (told self.now.constraints) s candidates ≡ none }
+    {
+        if candidates < LOWEST_FOUR {
+            return true;
+        }
+        if candidates != s.unplaced {
+            return true;
+        }
+        if sets::count(candidates) < FEW {
+            return true;
+        }
+        let facts = self.constraints.facts;
+        let ready = ready_among(&self.constraints, s);
+        let unready = before_end(facts, s.unplaced ^ ready);
+        if self.bereft(s, unready) {
+            return false;
+        }
+        let need = before_end(facts, candidates);
+        self.possible(s, need, ready)
+    }
 }

@@ -2,8 +2,8 @@
 ghost use Rattle.std.specs.Prelude.{◌≡◌};
 ghost use Rattle.pruning.specs.Runs.{Written, WrittenByAny, Asked};
 
-use places::facts::{ALL, Facts, SEARCHED};
-use places::lookup::legal_reads;
+use places::facts::{ALL, END, Facts};
+use places::lookup::Constraints;
 use places::state::Search;
 
 // The registers that somebody writes.
@@ -11,10 +11,8 @@ fn written_by_any(writes: &[u32; 10]) -> u32
     ensures { WrittenByAny writes.now result }
 {
     let mut any = 0u32;
-    let mut t: usize = 0;
-    while t < SEARCHED {
-        any = any | writes[t];
-        t += 1;
+    for registers in writes {
+        any |= *registers;
     }
     any
 }
@@ -26,17 +24,20 @@ pub fn registers_asked(starts: &[u32; 32], facts: &[Facts; 11], writes: &[u32; 1
     ensures { Asked starts.now facts.now result }
 {
     let any = written_by_any(writes);
+    let others = Constraints {
+        starts,
+        facts,
+        asked: ALL ^ any,
+    };
     let nothing = Search {
         unplaced: 0,
         filled: 0,
         placed: 1,
     };
-    let mut t: usize = 0;
-    while t <= SEARCHED {
-        if !legal_reads(starts, facts, ALL ^ any, nothing, t) {
+    for t in 0..=END {
+        if !others.legal_reads(nothing, t) {
             return ALL;
         }
-        t += 1;
     }
     any
 }

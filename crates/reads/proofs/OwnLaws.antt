@@ -1,15 +1,16 @@
 -- The last write of each transaction to each register, event by event, and what it says of a read.
 -- Assumes nothing.
-use Prim.Native.Nat.{ℕ, zero, suc, ◌+◌, ◌*◌, ◌≤◌, ◌<◌}
+use Prim.Native.Nat.{ℕ, zero, suc, ◌+◌, ◌≤◌, ◌<◌}
 use native.Mathlib.Nat.{not-suc-le-zero}
 use native.Mathlib.Numerals.{add-one}
 use native.Mathlib.Omega.{arith}
 use mathlib.Core.Path.{◌≡◌, refl, sym, ap, ◌∙◌, subst}
 use mathlib.Core.Logic.{⊎_elim}
 use mathlib.Core.Bool.{Bool, true, false, not, cond}
-use mathlib.Core.List.{List, [], ◌∷◌, ◌++◌}
-use mathlib.Core.Option.{Option, none, some}
+use mathlib.Core.List.{List, []}
+use mathlib.Core.Option.{none, some}
 use lib.Dec.{eqb}
+use mir.Val.{bool_byte}
 use lib.ListN.{length, take, get_or, set, replicate, length-set, length-replicate, get_or-replicate}
 use lib.Seq.{take-suc, get_or-set_same, get_or-set_other}
 use borrow.Author.Tests.{eqb-true, eqb-false, ne_eqb}
@@ -21,27 +22,29 @@ use Rattle.events.specs.Questions.{readable}
 use Rattle.opacity.specs.Transactions.{last_write, own_write, is_own_read, is_store_read, store_reads, is_value, own_right}
 use Rattle.opacity.specs.Counts.{one}
 use Rattle.events.proofs.RegisterLaws.{register-low}
-use Rattle.opacity.proofs.Bounds.{transaction-known, transaction-low}
+use Rattle.opacity.proofs.Bounds.{transaction-known}
 use Rattle.opacity.proofs.HowMany.{how-many-more, how-many-low}
-use Rattle.reads.specs.Own.{Low, Blank, slot_of, noted_at, reads_store, value_before, OwnWrites}
+use Rattle.reads.specs.Own.{last_at, noted, noted_at, reads_store, value_before, OwnWrites}
 
-blank : (n k : ℕ) → ◌≡◌ {A = ℕ} (get_or (replicate n 0) k 0) 0
-blank zero k = refl
+blank : (n r : ℕ) → ◌≡◌ {A = ℕ} (get_or (replicate n 0) r 0) 0
+blank zero r = refl
 blank (suc n) zero = refl
-blank (suc n) (suc k) = blank n k
+blank (suc n) (suc r) = blank n r
+
+-- a table of rows of noughts
+none-noted : (n t r : ℕ) → last_at (replicate n (replicate 32 0)) t r ≡ 0
+none-noted zero t r = refl
+none-noted (suc n) zero r = blank 32 r
+none-noted (suc n) (suc t) r = none-noted n t r
+
+-- an event of one of the first b transactions and of a register
+pub record Low (b : ℕ) (e : Event) : Type 0 where
+  pub transaction : e.transaction < b
+  pub register : e.register < 32
 
 -- every event has a slot among those of the transactions begun, of which there are at most 64
 pub low : (h : List Event) → readable h ≡ true → (i : ℕ) → i < length h → Low (begins h) (event_at h i)
 low h r i l = record { transaction = transaction-known h r i l; register = register-low h r i l }
-
-pub low-64 : (h : List Event) → readable h ≡ true → (i : ℕ) → i < length h → Low 64 (event_at h i)
-low-64 h r i l = record { transaction = transaction-low h r i l; register = register-low h r i l }
-
-pub slot-room : {b : ℕ} {e : Event} (n : ℕ) → Low b e → b * 32 ≤ n → slot_of e < n
-slot-room n l r = omega (arith, l.transaction, l.register)
-
-pub replicate-blank : (n b : ℕ) → b * 32 ≤ n → Blank b (replicate n 0)
-replicate-blank n b r = record { room = omega (arith, length-replicate {A = ℕ} n 0); blank = blank n }
 
 -- the last write with one event more
 write-more : (h : List Event) (i : ℕ) → i < length h → (t r : ℕ)
@@ -66,91 +69,127 @@ noted-low e i x l = go (is_write e)
     go false = omega arith
 
 -- the table of last writes as the events before i leave it
-pub record Lasts (h : List Event) (b : ℕ) (last : List ℕ) (i : ℕ) : Type 0 where
+pub record Lasts (h : List Event) (b : ℕ) (rows : List (List ℕ)) (i : ℕ) : Type 0 where
   pub inside : i ≤ length h
-  pub room : b * 32 ≤ length last
-  pub early : (k : ℕ) → get_or last k 0 ≤ i
-  pub slots : (t r : ℕ) → t < b → r < 32 → value_before h (get_or last (t * 32 + r) 0) ≡ last_write (take i h) t r
+  pub room : b ≤ length rows
+  pub wide : (t : ℕ) → t < b → length (get_or rows t []) ≡ 32
+  pub early : (t r : ℕ) → last_at rows t r ≤ i
+  pub holds : (t r : ℕ) → t < b → r < 32 → value_before h (last_at rows t r) ≡ last_write (take i h) t r
 
-pub lasts-first : (h : List Event) (b : ℕ) (last : List ℕ) → Blank b last → Lasts h b last 0
+-- no event is noted in a table of noughts with rows for the transactions
+pub lasts-first : (h : List Event) (b n : ℕ) → b ≤ n → Lasts h b (replicate n (replicate 32 0)) 0
 unfolding last_write latest
-lasts-first h b last z =
+lasts-first h b n l =
     record {
       inside = omega arith;
-      room = z.room;
-      early = λ k. omega (arith, z.blank k);
-      slots = λ t r lt lr. rw (z.blank (t * 32 + r));
+      room = omega (arith, length-replicate {A = List ℕ} n (replicate 32 0));
+      wide = λ t m. ap length (get_or-replicate n t (replicate 32 0) [] (omega arith)) ∙ length-replicate {A = ℕ} 32 0;
+      early = λ t r. omega (arith, none-noted n t r);
+      holds = λ t r lt lr. rw (none-noted n t r);
     }
 
-module _ (h : List Event) (b : ℕ) (last : List ℕ) (i : ℕ) (w : Lasts h b last i) (l : i < length h) (low : Low b (event_at h i)) where
+module _ (h : List Event) (b : ℕ) (rows : List (List ℕ)) (i : ℕ) (w : Lasts h b rows i) (l : i < length h)
+    (low : Low b (event_at h i)) where
   abbrev T : ℕ
   T = (event_at h i).transaction
 
   abbrev R : ℕ
   R = (event_at h i).register
 
-  abbrev after : List ℕ
-  after = set last (T * 32 + R) (noted_at (event_at h i) i (get_or last (T * 32 + R) 0))
+  abbrev row : List ℕ
+  row = get_or rows T []
 
-  inside-table : T * 32 + R < length last
-  inside-table = slot-room (length last) low w.room
+  abbrev v : ℕ
+  v = noted_at (event_at h i) i (last_at rows T R)
 
-  early-more : (k : ℕ) → get_or after k 0 ≤ i + 1
-  early-more k = go (eqb k (T * 32 + R)) refl
+  abbrev after : List (List ℕ)
+  after = noted rows (event_at h i) i
+
+  inside-table : T < length rows
+  inside-table = omega (arith, low.transaction, w.room)
+
+  inside-row : R < length row
+  inside-row = omega (arith, low.register, w.wide T low.transaction)
+
+  new-row : get_or after T [] ≡ set row R v
+  new-row = get_or-set_same rows T (set row R v) [] inside-table
+
+  old-row : (t : ℕ) → (t ≡ T → ⊥) → get_or after t [] ≡ get_or rows t []
+  old-row t n = get_or-set_other rows T t (set row R v) [] n
+
+  here : last_at after T R ≡ v
+  here = ap (λ (x : List ℕ). get_or x R 0) new-row ∙ get_or-set_same row R v 0 inside-row
+
+  other-register : (r : ℕ) → (r ≡ R → ⊥) → last_at after T r ≡ last_at rows T r
+  other-register r n = ap (λ (x : List ℕ). get_or x r 0) new-row ∙ get_or-set_other row R r v 0 n
+
+  other : (t r : ℕ) → (t ≡ T → ⊥) → last_at after t r ≡ last_at rows t r
+  other t r n = ap (λ (x : List ℕ). get_or x r 0) (old-row t n)
+
+  wide-more : (t : ℕ) → t < b → length (get_or after t []) ≡ 32
+  wide-more t m = go (eqb t T) refl
     where
-      go : (b : Bool) → eqb k (T * 32 + R) ≡ b → get_or after k 0 ≤ i + 1
+      go : (x : Bool) → eqb t T ≡ x → length (get_or after t []) ≡ 32
       go true e =
-          let q : k ≡ T * 32 + R = eqb-true k (T * 32 + R) e in
-          rw (q, get_or-set_same last (T * 32 + R) (noted_at (event_at h i) i (get_or last (T * 32 + R) 0)) 0 inside-table)
-          (noted-low (event_at h i) i (get_or last (T * 32 + R) 0) (w.early (T * 32 + R)))
-      go false e =
-          rw (get_or-set_other last (T * 32 + R) k (noted_at (event_at h i) i (get_or last (T * 32 + R) 0)) 0 (eqb-false k (T * 32 + R) e))
-          (omega (arith, w.early k))
+          let q : t ≡ T = eqb-true t T e in
+          ap (λ (u : ℕ). length (get_or after u [])) q ∙ (ap length new-row ∙ (length-set row R v ∙ w.wide T low.transaction))
+      go false e = ap length (old-row t (eqb-false t T e)) ∙ w.wide t m
 
-  slots-more : (t r : ℕ) → t < b → r < 32 → value_before h (get_or after (t * 32 + r) 0) ≡ last_write (take (i + 1) h) t r
-  unfolding by ◌and◌
-  slots-more t r lt lr = go (eqb T t) refl (eqb R r) refl
+  -- what stands at a register of a transaction after the event: the event's, or what stood there
+  after-at : (P : ℕ → ℕ → ℕ → Type 0) → P T R v → ((t r : ℕ) → ((t ≡ T) × (r ≡ R) → ⊥) → P t r (last_at rows t r))
+      → (t r : ℕ) → P t r (last_at after t r)
+  after-at P new old t r = go (eqb t T) refl (eqb r R) refl
     where
-      other : (t * 32 + r ≡ T * 32 + R → ⊥) → (by is_write t (event_at h i) and eqb R r) ≡ false
-          → value_before h (get_or after (t * 32 + r) 0) ≡ last_write (take (i + 1) h) t r
-      other n f =
-          ap (value_before h) (get_or-set_other last (T * 32 + R) (t * 32 + r) _ 0 n)
-          ∙ (w.slots t r lt lr
-          ∙ sym (write-more h i l t r ∙ ap (λ (b : Bool). or_else (cond b (some (event_at h i).value) none) (last_write (take i h) t r)) f))
-
-      here : value_before h (get_or after (T * 32 + R) 0) ≡ last_write (take (i + 1) h) T R
-      here =
-          ap (value_before h) (get_or-set_same last (T * 32 + R) _ 0 inside-table)
-          ∙ (value-noted h i (get_or last (T * 32 + R) 0)
-          ∙ (ap (cond (is_write (event_at h i)) (some (event_at h i).value)) (w.slots T R low.transaction low.register)
-          ∙ (plain (is_write (event_at h i)) ∙ sym (write-more h i l T R))))
-        where
-          plain : (b : Bool) → cond b (some (event_at h i).value) (last_write (take i h) T R)
-              ≡ or_else (cond ((eqb T T and b) and eqb R R) (some (event_at h i).value) none) (last_write (take i h) T R)
-          plain true = rw (eqb-self T, eqb-self R)
-          plain false = rw (eqb-self T)
-
-      go : (a : Bool) → eqb T t ≡ a → (b : Bool) → eqb R r ≡ b → value_before h (get_or after (t * 32 + r) 0) ≡ last_write (take (i + 1) h) t r
-      go false p b q =
-          let d : T ≡ t → ⊥ = eqb-false T t p in
-          other (λ z. omega (arith, low.transaction, low.register)) (and-false-l _ (eqb R r) (and-false-l (eqb T t) (is_write (event_at h i)) p))
+      go : (x : Bool) → eqb t T ≡ x → (y : Bool) → eqb r R ≡ y → P t r (last_at after t r)
+      go false p y q =
+          let n : t ≡ T → ⊥ = eqb-false t T p in
+          subst (P t r) (sym (other t r n)) (old t r (λ z. n z.0))
       go true p false q =
-          let d : R ≡ r → ⊥ = eqb-false R r q in
-          let e : T ≡ t = eqb-true T t p in
-          other (λ z. omega arith) (and_false_r (by is_write t (event_at h i)) (eqb R r) q)
+          let n : r ≡ R → ⊥ = eqb-false r R q in
+          subst (λ (u : ℕ). P u r (last_at after u r)) (sym (eqb-true t T p))
+          (subst (P T r) (sym (other-register r n)) (old T r (λ z. n z.1)))
       go true p true q =
-          subst (λ (y : ℕ). value_before h (get_or after (t * 32 + y) 0) ≡ last_write (take (i + 1) h) t y) (eqb-true R r q)
-          (subst (λ (v : ℕ). value_before h (get_or after (v * 32 + R) 0) ≡ last_write (take (i + 1) h) v R) (eqb-true T t p) here)
+          subst (λ (u : ℕ). P u r (last_at after u r)) (sym (eqb-true t T p))
+          (subst (λ (y : ℕ). P T y (last_at after T y)) (sym (eqb-true r R q)) (subst (P T R) (sym here) new))
 
-  pub lasts-more : (e : Event) → e ≡ event_at h i → Lasts h b (set last (slot_of e) (noted_at e i (get_or last (slot_of e) 0))) (i + 1)
-  lasts-more e same =
-      rw same
-      (record {
+  -- the last write where the event stands is its own, if it writes, and elsewhere as before
+  write-here : value_before h v ≡ last_write (take (i + 1) h) T R
+  unfolding by ◌and◌
+  write-here =
+      value-noted h i (last_at rows T R)
+      ∙ (ap (cond (is_write (event_at h i)) (some (event_at h i).value)) (w.holds T R low.transaction low.register)
+      ∙ (plain (is_write (event_at h i)) ∙ sym (write-more h i l T R)))
+    where
+      plain : (b : Bool) → cond b (some (event_at h i).value) (last_write (take i h) T R)
+          ≡ or_else (cond ((eqb T T and b) and eqb R R) (some (event_at h i).value) none) (last_write (take i h) T R)
+      plain true = rw (eqb-self T, eqb-self R)
+      plain false = rw (eqb-self T)
+
+  write-elsewhere : (t r : ℕ) → ((t ≡ T) × (r ≡ R) → ⊥) → last_write (take i h) t r ≡ last_write (take (i + 1) h) t r
+  unfolding by
+  write-elsewhere t r n =
+      sym (write-more h i l t r
+      ∙ ap (λ (b : Bool). or_else (cond b (some (event_at h i).value) none) (last_write (take i h) t r)) none-here)
+    where
+      none-here : (by is_write t (event_at h i) and eqb R r) ≡ false
+      none-here = go (eqb T t) refl (eqb R r) refl
+        where
+          go : (x : Bool) → eqb T t ≡ x → (y : Bool) → eqb R r ≡ y → (by is_write t (event_at h i) and eqb R r) ≡ false
+          go false p y q = and-false-l _ (eqb R r) (and-false-l (eqb T t) (is_write (event_at h i)) p)
+          go true p false q = and_false_r _ (eqb R r) q
+          go true p true q = absurd (n (sym (eqb-true T t p), sym (eqb-true R r q)))
+
+  pub lasts-more : Lasts h b after (i + 1)
+  lasts-more =
+      record {
         inside = omega arith;
-        room = omega (arith, length-set last (T * 32 + R) (noted_at (event_at h i) i (get_or last (T * 32 + R) 0)), w.room);
-        early = early-more;
-        slots = slots-more;
-      })
+        room = omega (arith, length-set rows T (set row R v), w.room);
+        wide = wide-more;
+        early = after-at (λ t r x. x ≤ i + 1) (noted-low (event_at h i) i (last_at rows T R) (w.early T R))
+            (λ t r n. omega (arith, w.early t r));
+        holds = after-at (λ t r x. t < b → r < 32 → value_before h x ≡ last_write (take (i + 1) h) t r)
+            (λ lt lr. write-here) (λ t r n lt lr. w.holds t r lt lr ∙ write-elsewhere t r n);
+      }
 
 -- own writes of the events before i
 pub record Owned (h : List Event) (own : List ℕ) (i : ℕ) : Type 0 where
@@ -161,14 +200,14 @@ pub owned-none : (h : List Event) (own : List ℕ) → Owned h own 0
 owned-none h own = record { earlier = λ j l. absurd (not-suc-le-zero l); holds = λ j l. absurd (not-suc-le-zero l) }
 
 -- what stands in the table at the event's register is its own write
-module _ (h : List Event) (b : ℕ) (last : List ℕ) (i : ℕ) (w : Lasts h b last i) (low : Low b (event_at h i)) (x : ℕ)
-    (found : x ≡ get_or last (slot_of (event_at h i)) 0) where
+module _ (h : List Event) (b : ℕ) (rows : List (List ℕ)) (i : ℕ) (w : Lasts h b rows i) (low : Low b (event_at h i)) (x : ℕ)
+    (found : x ≡ last_at rows (event_at h i).transaction (event_at h i).register) where
   found_early : x ≤ i
-  found_early = omega (arith, w.early (slot_of (event_at h i)))
+  found_early = omega (arith, w.early (event_at h i).transaction (event_at h i).register)
 
   found-own : value_before h x ≡ own_write h i
   unfolding own_write
-  found-own = ap (value_before h) found ∙ w.slots _ _ low.transaction low.register
+  found-own = ap (value_before h) found ∙ w.holds _ _ low.transaction low.register
 
   pub owned-more : (own : List ℕ) → i < length own → Owned h own i → Owned h (set own i x) (i + 1)
   owned-more own room o =
@@ -256,6 +295,10 @@ module _ (h : List Event) (own : List ℕ) (o : OwnWrites h own) (i : ℕ) (l : 
 
 -- ---- how many there are
 
+pub one-byte : (b : Bool) → bool_byte b ≡ one b
+one-byte true = refl
+one-byte false = refl
+
 pub one-low : (b : Bool) → one b ≤ 1
 one-low true = omega arith
 one-low false = omega arith
@@ -270,7 +313,3 @@ reads-few h i = how-many-low (is_store_read h) i
 pub reads_all : (h : List Event) (i : ℕ) → i ≡ length h → length (keep (is_store_read h) (range i)) ≡ length (store_reads h)
 unfolding store_reads
 reads_all h i e = rw e
-
--- where the table has room for the transactions begun, it has for these many
-pub blank-few : (h : List Event) (n : ℕ) → begins h * 32 ≤ n → Blank (begins h) (replicate n 0)
-blank-few h n r = replicate-blank n (begins h) r

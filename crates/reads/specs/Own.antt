@@ -1,32 +1,29 @@
 -- Vocabulary between crates: it need not be believed, the public contracts end in the paper's definitions.
 -- The last write of each transaction to each register, as one past its event.
 -- Assumes nothing.
-use Rattle.std.specs.Prelude.{ℕ, zero, suc, ◌+◌, ◌*◌, ◌≤◌, ◌<◌, ◌≡◌, Bool, false, cond, List, eqb, length, get_or}
+use Rattle.std.specs.Prelude.{ℕ, zero, suc, ◌+◌, ◌≤◌, ◌<◌, ◌≡◌, Bool, false, cond, List, [], eqb, length, get_or, set}
 use Rattle.std.proofs.Math.Option.{Option, none, some}
 use Rattle.events.specs.declared.event.Event.{Event}
 use Rattle.events.specs.Events.{is_read, is_write, event_at}
 use Rattle.opacity.specs.Transactions.{own_write, is_store_read}
 
--- an event of one of the first b transactions and of a register
-pub record Low (b : ℕ) (e : Event) : Type 0 where
-  pub transaction : e.transaction < b
-  pub register : e.register < 32
-
-abbrev pub slot_of : Event → ℕ
-slot_of e = e.transaction * 32 + e.register
-
 -- one past event i, if it writes
 abbrev pub noted_at : Event → ℕ → ℕ → ℕ
 noted_at e i before = cond (is_write e) (i + 1) before
 
+-- what a table of last writes has at a register of a transaction
+abbrev pub last_at : List (List ℕ) → ℕ → ℕ → ℕ
+last_at rows t r = get_or (get_or rows t []) r 0
+
+-- the table with event i noted
+abbrev pub noted : List (List ℕ) → Event → ℕ → List (List ℕ)
+noted rows e i =
+    let row : List ℕ = get_or rows e.transaction [] in
+    set rows e.transaction (set row e.register (noted_at e i (get_or row e.register 0)))
+
 -- a read, where nothing stands for an own write
 abbrev pub reads_store : Event → ℕ → Bool
 reads_store e own = cond (eqb own 0) (is_read e) false
-
--- a table of last writes before any event, with slots for b transactions
-pub record Blank (b : ℕ) (last : List ℕ) : Type 0 where
-  pub room : b * 32 ≤ length last
-  pub blank : (k : ℕ) → get_or last k 0 ≡ 0
 
 -- the gap of an event: its transaction's place, if it reads the store, and else what stands for none
 abbrev pub gap_of : Bool → Event → List ℕ → ℕ

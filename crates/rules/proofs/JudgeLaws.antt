@@ -1,12 +1,12 @@
 -- From the tables to the verdict of the definition.
 -- Assumes nothing.
-use Prim.Native.Nat.{ℕ, ◌-◌, ◌≤◌, ◌<◌}
+use Prim.Native.Nat.{ℕ, ◌≤◌, ◌<◌}
 use native.Mathlib.Omega.{arith}
 use mathlib.Core.Path.{◌≡◌, refl, sym, ap, ◌∙◌, subst}
 use mathlib.Core.Bool.{Bool, true, false, not, cond}
 use mathlib.Core.List.{List}
-use mathlib.Core.Option
-use mathlib.Core.Option.{Option, none, some}
+use mathlib.Core.Option.{Option as Found, none, some, get_or as found_or}
+use Rattle.std.specs.Prelude.{Option, Some, None}
 use lib.Dec.{eqb, ltb}
 use lib.ListN.{length, get_or, take}
 use borrow.Author.Tests.{ltb-true}
@@ -17,32 +17,32 @@ use Rattle.opacity.specs.declared.verdict.Verdict.{Verdict}
 use Rattle.opacity.specs.declared.verdict.Verdict.TheVariants.{Accepted, Broken}
 use Rattle.opacity.specs.declared.verdict.Rule.{Rule}
 use Rattle.opacity.specs.declared.verdict.Rule.TheVariants.{A, B, C, D, E}
-use Rattle.opacity.specs.Transactions.{Status, committed, aborted, pending, live, status_number, status, allows, precedes, is_store_read, own_right}
+use Rattle.opacity.specs.Transactions.{Status, committed, aborted, pending, live, status, allows, precedes, is_store_read, own_right}
 use Rattle.opacity.specs.Justification.{Place, placed, before, written, outcome_kept, preceded, real_time_kept}
-use Rattle.opacity.specs.Marking.{Marking, gap_of, place_of, others, between, no_writer_between, value_at_gap, rule_holds, broke, tries, verdict}
+use Rattle.opacity.specs.Marking.{Marking, gap_of, place_of, others, between, no_writer_between, value_at_gap, last_event, begin_of, rule_holds, broke, tries, verdict}
 use Rattle.opacity.proofs.Bounds.{at-most-64, transaction-known}
 use Rattle.opacity.proofs.Finder.{gap-marked, before-le}
-use Rattle.links.specs.declared.tables.Fact.TheVariants.{LastEvent, LastWrite, LastBegin, FirstBegin, FirstEnd, Rank}
-use Rattle.links.specs.Tables.{Tabled, slot, earlier}
-use Rattle.links.specs.declared.tables.Tables.{Tables}
-use Rattle.links.specs.Registers.{Sets, AllTabled}
-use Rattle.links.proofs.TableLaws.{precedes-table, status-table, last-event, first-begin}
-use Rattle.links.proofs.WriteLaws.{head-le}
+use Rattle.links.specs.declared.tables.Rank.{Rank}
+use Rattle.links.specs.declared.tables.Transaction.{Transaction}
+use Rattle.links.specs.Tables.{blank, AllTabled, past}
+use Rattle.links.proofs.TableLaws.{status_rank, its-rank, its-order}
+use Rattle.links.proofs.WriteLaws.{its-written, head-le}
+use Rattle.rules.specs.declared.places.Writer.{Writer}
 use Rattle.opacity.specs.Arrays.{places_of}
 use Rattle.opacity.proofs.Arrays.{places-length}
-use Rattle.rules.specs.Orders.{Inverse, Apart, writer, last_of, writer_at, Writers, broken, allows_by, outcome_by, pair_by, real_time_by}
+use Rattle.rules.specs.Orders.{Inverse, Apart, writer, nothing, writer_at, Writers, broken, allows_by, outcome_by, pair_by, real_time_by}
 use Rattle.rules.specs.Walks.{Pointable, no_writer, right_value, point_rule}
 use Rattle.rules.specs.Judge.{content, Judgeable, places_verdict, and_then, tried, reads_verdict}
 use Rattle.rules.proofs.Numbers.{none_of, some_of, every-ext, first-ext}
 use Rattle.rules.proofs.OrderLaws.{before-lower, outcome-of, inverse-place, order-low, order-apart}
-use Rattle.rules.proofs.WalkLaws.{row_last, found_between, found_before}
+use Rattle.rules.proofs.WalkLaws.{found_between, found_before}
 
 -- the order in the arrays
 abbrev pub order_in : List Event → List ℕ → List ℕ → List Place
 order_in h order outcomes = places_of order outcomes (begins h)
 
-allows-rank : (s : Status) (c : Bool) → allows_by (status_number s) c ≡ allows s c
-unfolding allows_by allows
+allows-rank : (s : Status) (c : Bool) → allows_by (status_rank s) c ≡ allows s c
+unfolding allows
 allows-rank committed c = refl
 allows-rank aborted c = refl
 allows-rank pending c = refl
@@ -60,7 +60,7 @@ own_same start h m = refl
 abbrev reads_in : (ℕ → ℕ) → List Event → Marking → Verdict
 reads_in start h m = tries start h m C (tries start h m D (tries start h m E Accepted))
 
-module _ {h : List Event} {link order outcomes gaps : List ℕ} (y : Judgeable h link order outcomes gaps) where
+module _ {h : List Event} {link : List (Option ℕ)} {order outcomes gaps : List ℕ} (y : Judgeable h link order outcomes gaps) where
   pub few-begun : begins h ≤ 64
   few-begun = at-most-64 h y.readable
 
@@ -77,35 +77,33 @@ module _ {h : List Event} {link order outcomes gaps : List ℕ} (y : Judgeable h
   gap_same i l s = gap-marked h (λ k. get_or gaps k 0) i l s
 
   -- rule A
-  outcome-same : (ranks place : List ℕ) → Tabled Rank h ranks → Inverse order (begins h) place
-      → (t : ℕ) → t < begins h → outcome_by ranks place outcomes t ≡ outcome_kept h (order_in h order outcomes) t
+  outcome-same : (tables : List Transaction) (place : List ℕ) → AllTabled h tables → Inverse order (begins h) place
+      → (t : ℕ) → t < begins h → outcome_by tables place outcomes t ≡ outcome_kept h (order_in h order outcomes) t
   unfolding outcome_by outcome_kept
-  outcome-same ranks place a v t l =
+  outcome-same tables place a v t l =
       let few = few-begun in
-      let s : get_or ranks t 0 ≡ status_number (status h t) = a.holds t (omega arith) ∙ status-table h t in
+      let s : (get_or tables t blank).rank ≡ status_rank (status h t) = its-rank a t (omega arith) in
       let p = inverse-place order outcomes (begins h) y.ordered place v t l in
-      ap (λ (x : ℕ). allows_by x (eqb (get_or outcomes (get_or place t 0) 0) 1)) s
+      ap (λ (x : Rank). allows_by x (eqb (get_or outcomes (get_or place t 0) 0) 1)) s
       ∙ (allows-rank (status h t) (eqb (get_or outcomes (get_or place t 0) 0) 1)
       ∙ ap (allows (status h t)) (ap (λ (k : ℕ). eqb (get_or outcomes k 0) 1) p ∙ sym (outcome-of order outcomes (begins h) y.ordered t l)))
 
   -- rule B
-  real-time-same : (ended began place : List ℕ) → Tabled FirstEnd h ended → Tabled LastBegin h began → Inverse order (begins h) place
-      → (u : ℕ) → u < begins h → real_time_by ended began place (begins h) u ≡ real_time_kept h (order_in h order outcomes) u
+  real-time-same : (tables : List Transaction) (place : List ℕ) → AllTabled h tables → Inverse order (begins h) place
+      → (u : ℕ) → u < begins h → real_time_by tables place (begins h) u ≡ real_time_kept h (order_in h order outcomes) u
   unfolding real_time_by real_time_kept preceded pair_by
-  real-time-same ended began place a b v u l =
-      every-ext (pair_by ended began place u) (λ t. precedes h t u implies placed t (before u (order_in h order outcomes))) (begins h) same
+  real-time-same tables place a v u l =
+      every-ext (pair_by tables place u) (λ t. precedes h t u implies placed t (before u (order_in h order outcomes))) (begins h) same
     where
-      same : (t : ℕ) → t < begins h → pair_by ended began place u t ≡ (precedes h t u implies placed t (before u (order_in h order outcomes)))
+      same : (t : ℕ) → t < begins h → pair_by tables place u t ≡ (precedes h t u implies placed t (before u (order_in h order outcomes)))
       same t m =
           let few = few-begun in
-          let e : earlier (get_or ended t 0) (get_or began u 0) ≡ precedes h t u =
-          ap (λ (x : ℕ). earlier x (get_or began u 0)) (a.holds t (omega arith))
-          ∙ (ap (λ (x : ℕ). earlier (slot FirstEnd h t (length h)) x) (b.holds u (omega arith)) ∙ sym (precedes-table h t u)) in
           let p = inverse-place order outcomes (begins h) y.ordered place v in
           let q : ltb (get_or place t 0) (get_or place u 0) ≡ placed t (before u (order_in h order outcomes)) =
           ap (λ (x : ℕ). ltb x (get_or place u 0)) (p t m)
           ∙ (ap (λ (x : ℕ). ltb (place_of t (order_in h order outcomes)) x) (p u l) ∙ sym (before-lower t u (order_in h order outcomes))) in
-          ap (λ (x : Bool). x implies ltb (get_or place t 0) (get_or place u 0)) e ∙ ap (λ (x : Bool). precedes h t u implies x) q
+          ap (λ (x : Bool). x implies ltb (get_or place t 0) (get_or place u 0)) (its-order a t u (omega arith) (omega arith))
+          ∙ ap (λ (x : Bool). precedes h t u implies x) q
 
   -- what the rules ask of the tables; k transactions have begun
   module _ {k : ℕ} (ek : k ≡ begins h) where
@@ -121,26 +119,25 @@ module _ {h : List Event} {link order outcomes gaps : List ℕ} (y : Judgeable h
       reader-same i l = inverse-place order outcomes (begins h) y.ordered place v (event_at h i).transaction (transaction-known h y.readable i l)
 
       -- rules D and E
-      module _ {last registers : List ℕ} {writers : List (List ℕ)} (lasts : Tabled LastWrite h last) (sets : Sets h (length h) registers)
-          (table : Writers order outcomes last registers k writers) where
-        writing : Writers order outcomes last registers (begins h) writers
-        writing = subst (λ (x : ℕ). Writers order outcomes last registers x writers) ek table
+      module _ {tables : List Transaction} {writers : List Writer} (tabled : AllTabled h tables) (table : Writers order outcomes tables k writers) where
+        writing : Writers order outcomes tables (begins h) writers
+        writing = subst (λ (x : ℕ). Writers order outcomes tables x writers) ek table
 
         pub all-pointable : Pointable h link writers place gaps
         all-pointable =
             record {
-              walk = record { readable = y.readable; linked = y.linked; low = λ k. rw (row_last writers k, writing.holds k) (low k (ltb k (begins h)) refl) };
+              walk = record { readable = y.readable; linked = y.linked; low = λ k. rw (writing.holds k) (low k (ltb k (begins h)) refl) };
               places-low = v.low;
               gaps-room = y.gaps-room;
               gaps-low = λ i l r. (let a = y.gaps-fit i l (sym (y.pointed i l) ∙ r) in let b = few-begun in omega arith);
             }
           where
             one : (k : ℕ) (b : Bool) → get_or order k 0 < 64
-                → last_of (cond b (writer (get_or last (get_or order k 0) 0) (get_or registers (get_or order k 0) 0)) (writer 0 0)) ≤ length h
-            one k true l = rw (lasts.holds (get_or order k 0) l) (head-le h (get_or order k 0) (length h))
+                → past (cond b (writer (get_or tables (get_or order k 0) blank)) nothing).last ≤ length h
+            one k true l = rw (its-written tabled (get_or order k 0) l) (head-le h (get_or order k 0) (length h))
             one k false l = omega arith
 
-            low : (k : ℕ) (b : Bool) → ltb k (begins h) ≡ b → last_of (cond b (writer_at order outcomes last registers k) (writer 0 0)) ≤ length h
+            low : (k : ℕ) (b : Bool) → ltb k (begins h) ≡ b → past (cond b (writer_at order outcomes tables k) nothing).last ≤ length h
             low k true e = one k (eqb (get_or outcomes k 0) 1) (apart.low k (ltb-true k (begins h) e))
             low k false e = omega arith
 
@@ -159,7 +156,7 @@ module _ {h : List Event} {link order outcomes gaps : List ℕ} (y : Judgeable h
               go false e = refl
               go true e =
                   rw (reader-same i l, gap_same i l e)
-                  (ap is_none (found_between h link last registers order outcomes writers (begins h) y.linked lasts sets apart.low writing y.ordered
+                  (ap is_none (found_between h link tables order outcomes writers (begins h) y.linked tabled apart.low writing y.ordered
                   (event_at h i).transaction (event_at h i).register known
                   (get_or gaps i 0) (place_of (event_at h i).transaction (order_in h order outcomes)) (y.gaps-fit i l e) (place-le (event_at h i).transaction order outcomes (begins h))))
 
@@ -169,13 +166,13 @@ module _ {h : List Event} {link order outcomes gaps : List ℕ} (y : Judgeable h
             where
               go : (b : Bool) → is_store_read h i ≡ b
                   → (b implies right_value start h link writers (get_or place (event_at h i).transaction 0) (get_or gaps i 0) (event_at h i))
-                  ≡ (b implies eqb (event_at h i).value (Option.get_or (latest (written h (event_at h i).register) (others (event_at h i).transaction
+                  ≡ (b implies eqb (event_at h i).value (found_or (latest (written h (event_at h i).register) (others (event_at h i).transaction
                   (take (gap_of (content h order outcomes gaps).points i) (order_in h order outcomes)))) (start (event_at h i).register)))
               go false e = refl
               go true e =
                   rw (reader-same i l, gap_same i l e)
-                  (ap (λ (o : Option ℕ). eqb (event_at h i).value (Option.get_or o (start (event_at h i).register)))
-                  (found_before h link last registers order outcomes writers (begins h) y.linked lasts sets apart.low writing y.ordered
+                  (ap (λ (o : Found ℕ). eqb (event_at h i).value (found_or o (start (event_at h i).register)))
+                  (found_before h link tables order outcomes writers (begins h) y.linked tabled apart.low writing y.ordered
                   (event_at h i).transaction (event_at h i).register known (get_or gaps i 0) (y.gaps-fit i l e)))
 
         -- rules C to E are those of the definition
@@ -188,63 +185,83 @@ module _ {h : List Event} {link order outcomes gaps : List ℕ} (y : Judgeable h
             rw (free, right, own_same start h (content h order outcomes gaps))
 
       -- the verdict is that of rules A and B, and then that of the reads
-      module _ (start : ℕ → ℕ) {t : Tables} (tabled : AllTabled h t) where
+      module _ (start : ℕ → ℕ) {tables : List Transaction} (tabled : AllTabled h tables) where
         abbrev m : Marking
         m = content h order outcomes gaps
 
-        agrees-a : first (λ k. not (outcome_by t.ranks place outcomes k)) (begins h) ≡ first (λ k. not (outcome_kept h (order_in h order outcomes) k)) (begins h)
+        agrees-a : first (λ k. not (outcome_by tables place outcomes k)) (begins h) ≡ first (λ k. not (outcome_kept h (order_in h order outcomes) k)) (begins h)
         agrees-a =
-            first-ext (outcome_by t.ranks place outcomes) (outcome_kept h (order_in h order outcomes)) (begins h)
-            (outcome-same t.ranks place tabled.ranked v)
+            first-ext (outcome_by tables place outcomes) (outcome_kept h (order_in h order outcomes)) (begins h)
+            (outcome-same tables place tabled v)
 
-        agrees-b : first (λ k. not (real_time_by t.ended t.began place (begins h) k)) (begins h) ≡ first (λ k. not (real_time_kept h (order_in h order outcomes) k)) (begins h)
+        agrees-b : first (λ k. not (real_time_by tables place (begins h) k)) (begins h) ≡ first (λ k. not (real_time_kept h (order_in h order outcomes) k)) (begins h)
         agrees-b =
-            first-ext (real_time_by t.ended t.began place (begins h)) (real_time_kept h (order_in h order outcomes)) (begins h)
-            (real-time-same t.ended t.began place tabled.ends tabled.begins v)
+            first-ext (real_time_by tables place (begins h)) (real_time_kept h (order_in h order outcomes)) (begins h)
+            (real-time-same tables place tabled v)
 
-        parts : and_then (places_verdict h t place outcomes k) (reads_in start h m) ≡ verdict start h m
+        parts : and_then (places_verdict h tables place outcomes k) (reads_in start h m) ≡ verdict start h m
         unfolding places_verdict verdict tries rule_holds content broke
         parts =
-            ap (λ (x : ℕ). and_then (places_verdict h t place outcomes x) (reads_in start h m)) ek
-            ∙ go (first (λ k. not (outcome_by t.ranks place outcomes k)) (begins h)) refl
-            (first (λ k. not (real_time_by t.ended t.began place (begins h) k)) (begins h)) refl
+            ap (λ (x : ℕ). and_then (places_verdict h tables place outcomes x) (reads_in start h m)) ek
+            ∙ go (first (λ k. not (outcome_by tables place outcomes k)) (begins h)) refl
+            (first (λ k. not (real_time_by tables place (begins h) k)) (begins h)) refl
           where
-            go : (a : Option ℕ) → first (λ k. not (outcome_by t.ranks place outcomes k)) (begins h) ≡ a
-                → (b : Option ℕ) → first (λ k. not (real_time_by t.ended t.began place (begins h) k)) (begins h) ≡ b
-                → and_then (broke a (λ x. Broken A (slot LastEvent h x (length h) - 1) x) (broke b (λ x. Broken B (slot FirstBegin h x (length h) - 1) x) Accepted)) (reads_in start h m)
+            go : (a : Found ℕ) → first (λ k. not (outcome_by tables place outcomes k)) (begins h) ≡ a
+                → (b : Found ℕ) → first (λ k. not (real_time_by tables place (begins h) k)) (begins h) ≡ b
+                → and_then (broke a (λ x. Broken A (last_event h x) x) (broke b (λ x. Broken B (begin_of h x) x) Accepted)) (reads_in start h m)
                 ≡ verdict start h m
-            go (some x) e b f = rw (sym agrees-a ∙ e) (ap (λ (n : ℕ). Broken A n x) (last-event h x))
-            go none e (some x) f = rw (sym agrees-a ∙ e, sym agrees-b ∙ f) (ap (λ (n : ℕ). Broken B n x) (first-begin h x))
+            go (some x) e b f = rw (sym agrees-a ∙ e)
+            go none e (some x) f = rw (sym agrees-a ∙ e, sym agrees-b ∙ f)
             go none e none f = rw (sym agrees-a ∙ e, sym agrees-b ∙ f)
 
-        pub verdict-parts : {writers : List (List ℕ)} → Writers order outcomes t.written t.registers k writers
-            → and_then (places_verdict h t place outcomes k) (reads_verdict start h link writers place gaps) ≡ verdict start h m
-        verdict-parts table = ap (and_then (places_verdict h t place outcomes k)) (reads_same tabled.writes tabled.sets table start) ∙ parts
+        pub verdict-parts : {writers : List Writer} → Writers order outcomes tables k writers
+            → and_then (places_verdict h tables place outcomes k) (reads_verdict start h link writers place gaps) ≡ verdict start h m
+        verdict-parts table = ap (and_then (places_verdict h tables place outcomes k)) (reads_same tabled table start) ∙ parts
 
 -- rules A and B with what the searches for their first breaches said
-module _ (h : List Event) (tables : Tables) (place outcomes : List ℕ) (b : ℕ) {t : ℕ} (et : t ≡ broken (outcome_by tables.ranks place outcomes) b) where
-  pub breaks-a : t < b → places_verdict h tables place outcomes b ≡ Broken A (slot LastEvent h t (length h) - 1) t
+module _ (h : List Event) (tables : List Transaction) (place outcomes : List ℕ) (b : ℕ) where
+  pub breaks-a : {t : ℕ} → Some t ≡ broken (outcome_by tables place outcomes) b → Broken A (last_event h t) t ≡ places_verdict h tables place outcomes b
   unfolding places_verdict broke
-  breaks-a l = rw (some_of (outcome_by tables.ranks place outcomes) b t et l)
+  breaks-a e = sym (rw (some_of (outcome_by tables place outcomes) b e))
 
-  module _ (lt : b ≤ t) {u : ℕ} (eu : u ≡ broken (real_time_by tables.ended tables.began place b) b) where
-    none-a : first (λ k. not (outcome_by tables.ranks place outcomes k)) b ≡ none
-    none-a = none_of (outcome_by tables.ranks place outcomes) b t et lt
-
-    pub breaks-b : u < b → places_verdict h tables place outcomes b ≡ Broken B (slot FirstBegin h u (length h) - 1) u
+  module _ (a : None ≡ broken (outcome_by tables place outcomes) b) where
+    pub breaks-b : {u : ℕ} → Some u ≡ broken (real_time_by tables place b) b → Broken B (begin_of h u) u ≡ places_verdict h tables place outcomes b
     unfolding places_verdict broke
-    breaks-b l = rw (none-a, some_of (real_time_by tables.ended tables.began place b) b u eu l)
+    breaks-b e = sym (rw (none_of (outcome_by tables place outcomes) b a, some_of (real_time_by tables place b) b e))
 
-    pub breaks-neither : b ≤ u → places_verdict h tables place outcomes b ≡ Accepted
+    pub breaks-neither : None ≡ broken (real_time_by tables place b) b → Accepted ≡ places_verdict h tables place outcomes b
     unfolding places_verdict broke
-    breaks-neither l = rw (none-a, none_of (real_time_by tables.ended tables.began place b) b u eu l)
+    breaks-neither e = sym (rw (none_of (outcome_by tables place outcomes) b a, none_of (real_time_by tables place b) b e))
 
 -- a rule of events with what the search for its first breach said
-module _ (h : List Event) (r : Rule) (holds : ℕ → Bool) (rest : Verdict) {x : ℕ} (ex : x ≡ broken holds (length h)) where
-  pub broken-here : x < length h → tried h r holds rest ≡ Broken r x (event_at h x).transaction
+module _ (h : List Event) (r : Rule) (holds : ℕ → Bool) (rest : Verdict) where
+  broken-here : {x : ℕ} → Some x ≡ broken holds (length h) → tried h r holds rest ≡ Broken r x (event_at h x).transaction
   unfolding tried broke
-  broken-here m = rw (some_of holds (length h) x ex m)
+  broken-here e = rw (some_of holds (length h) e)
 
-  pub broken-later : length h ≤ x → tried h r holds rest ≡ rest
+  broken-later : None ≡ broken holds (length h) → tried h r holds rest ≡ rest
   unfolding tried broke
-  broken-later m = rw (none_of holds (length h) x ex m)
+  broken-later e = rw (none_of holds (length h) e)
+
+-- rules C to E, in turn
+module _ (start : ℕ → ℕ) (h : List Event) (link : List (Option ℕ)) (writers : List Writer) (place gaps : List ℕ) where
+  abbrev points : Rule → ℕ → Bool
+  points rule = point_rule start h link writers place gaps rule
+
+  pub breaks-c : {i : ℕ} → Some i ≡ broken (own_right h) (length h) → Broken C i (event_at h i).transaction ≡ reads_verdict start h link writers place gaps
+  unfolding reads_verdict
+  breaks-c e = sym (broken-here h C (own_right h) _ e)
+
+  module _ (c : None ≡ broken (own_right h) (length h)) where
+    pub breaks-d : {i : ℕ} → Some i ≡ broken (points D) (length h) → Broken D i (event_at h i).transaction ≡ reads_verdict start h link writers place gaps
+    unfolding reads_verdict
+    breaks-d e = sym (broken-later h C (own_right h) _ c ∙ broken-here h D (points D) _ e)
+
+    module _ (d : None ≡ broken (points D) (length h)) where
+      pub breaks-e : {i : ℕ} → Some i ≡ broken (points E) (length h) → Broken E i (event_at h i).transaction ≡ reads_verdict start h link writers place gaps
+      unfolding reads_verdict
+      breaks-e e = sym (broken-later h C (own_right h) _ c ∙ (broken-later h D (points D) _ d ∙ broken-here h E (points E) _ e))
+
+      pub breaks-none : None ≡ broken (points E) (length h) → Accepted ≡ reads_verdict start h link writers place gaps
+      unfolding reads_verdict
+      breaks-none e = sym (broken-later h C (own_right h) _ c ∙ (broken-later h D (points D) _ d ∙ broken-later h E (points E) _ e))

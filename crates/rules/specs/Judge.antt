@@ -1,7 +1,7 @@
 -- Vocabulary between crates: it need not be believed, the public contracts end in the paper's definitions.
 -- The verdict on a readable marking that stands in arrays.
 -- Assumes nothing.
-use Rattle.std.specs.Prelude.{ℕ, ◌-◌, ◌≤◌, ◌<◌, ◌≡◌, Bool, true, not, List, map, length, get_or}
+use Rattle.std.specs.Prelude.{ℕ, ◌≤◌, ◌<◌, ◌≡◌, Bool, true, not, List, Option, map, length, get_or}
 use Rattle.events.specs.declared.event.Event.{Event}
 use Rattle.lists.specs.Lists.{first}
 use Rattle.events.specs.Events.{event_at, begins}
@@ -12,11 +12,10 @@ use Rattle.opacity.specs.declared.verdict.Rule.{Rule}
 use Rattle.opacity.specs.declared.verdict.Rule.TheVariants.{A, B, C, D, E}
 use Rattle.opacity.specs.Transactions.{is_store_read, store_reads, own_right}
 use Rattle.opacity.specs.Justification.{is_order}
-use Rattle.opacity.specs.Marking.{Marking, broke}
-use Rattle.links.specs.declared.tables.Tables.{Tables}
-use Rattle.links.specs.declared.tables.Fact.TheVariants.{LastEvent, FirstBegin}
-use Rattle.links.specs.Tables.{slot}
+use Rattle.opacity.specs.Marking.{Marking, last_event, begin_of, broke}
+use Rattle.links.specs.declared.tables.Transaction.{Transaction}
 use Rattle.links.specs.Writes.{Linked}
+use Rattle.rules.specs.declared.places.Writer.{Writer}
 use Rattle.rules.specs.Orders.{outcome_by, real_time_by}
 use Rattle.opacity.specs.Arrays.{places_of}
 use Rattle.rules.specs.Walks.{has_point, point_rule}
@@ -30,7 +29,7 @@ content h order outcomes gaps =
     }
 
 -- a readable history with its writes linked, and a readable marking: the events with a point are the store reads
-pub record Judgeable (h : List Event) (link order outcomes gaps : List ℕ) : Type 0 where
+pub record Judgeable (h : List Event) (link : List (Option ℕ)) (order outcomes gaps : List ℕ) : Type 0 where
   pub readable : readable h ≡ true
   pub linked : Linked h link
   pub ordered : is_order (begins h) (places_of order outcomes (begins h)) ≡ true
@@ -39,10 +38,10 @@ pub record Judgeable (h : List Event) (link order outcomes gaps : List ℕ) : Ty
   pub gaps-fit : (i : ℕ) → i < length h → is_store_read h i ≡ true → get_or gaps i 0 ≤ begins h
 
 -- rules A and B, by tables; b transactions have begun
-unfoldable pub places_verdict : List Event → Tables → List ℕ → List ℕ → ℕ → Verdict
-places_verdict h t place outcomes b =
-    broke (first (λ k. not (outcome_by t.ranks place outcomes k)) b) (λ k. Broken A (slot LastEvent h k (length h) - 1) k)
-    (broke (first (λ k. not (real_time_by t.ended t.began place b k)) b) (λ k. Broken B (slot FirstBegin h k (length h) - 1) k)
+unfoldable pub places_verdict : List Event → List Transaction → List ℕ → List ℕ → ℕ → Verdict
+places_verdict h tables place outcomes b =
+    broke (first (λ k. not (outcome_by tables place outcomes k)) b) (λ k. Broken A (last_event h k) k)
+    (broke (first (λ k. not (real_time_by tables place b k)) b) (λ k. Broken B (begin_of h k) k)
     Accepted)
 
 -- what some rules say, or else what the rules after them say
@@ -55,7 +54,7 @@ unfoldable pub tried : List Event → Rule → (ℕ → Bool) → Verdict → Ve
 tried h r holds rest = broke (first (λ i. not (holds i)) (length h)) (λ i. Broken r i (event_at h i).transaction) rest
 
 -- rules C to E
-unfoldable pub reads_verdict : (ℕ → ℕ) → List Event → List ℕ → List (List ℕ) → List ℕ → List ℕ → Verdict
+unfoldable pub reads_verdict : (ℕ → ℕ) → List Event → List (Option ℕ) → List Writer → List ℕ → List ℕ → Verdict
 reads_verdict start h link writers place gaps = tried h C (own_right h) (tried h D (points D) (tried h E (points E) Accepted))
   where
     points : Rule → ℕ → Bool

@@ -1,3 +1,4 @@
 pub mod Orders
 pub mod Walks
 pub mod Judge
+pub mod Points

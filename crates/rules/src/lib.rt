@@ -7,8 +7,9 @@
 // there are few writes.
 #![tactic(auto)]
 
+mod first;
 pub mod judge;
 pub mod order;
 pub mod places;
 pub mod points;
-mod walk;
+pub mod walk;

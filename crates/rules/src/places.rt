@@ -2,7 +2,7 @@
 ghost use Rattle.std.specs.Prelude.{◌≡◌, ◌<◌, get_or};
 ghost use Rattle.rules.specs.Orders.{Apart, Inverse, writer_at, Writers};
 
-use links::tables::{Tables, index_of};
+use links::tables::Transaction;
 
 // The place of each transaction.
 pub fn places_of(order: &[u16; 64], begun: usize) -> [u16; 64]
@@ -10,73 +10,58 @@ pub fn places_of(order: &[u16; 64], begun: usize) -> [u16; 64]
     ensures { Inverse order.now begun result }
 {
     let mut place = [0u16; 64];
-    let mut k: usize = 0;
-    while k < begun {
-        let t = index_of(order[k]);
+    for k in 0..begun {
+        let t = usize::from(order[k]);
         place[t] = k as u16;
-        k += 1;
     }
     place
 }
 
-// What a committed transaction writes: one past its last write, with 0 for none, and the set of its
-// registers.
-pub type Writer = [u32; 2];
-
-pub const LAST: usize = 0;
-
-pub const WRITES: usize = 1;
-
-// A number as a field of a row, and back.
-fn as_field(x: u16) -> u32
-    ensures { result ≡ x }
-{
-    x as u32
+// What a place writes: the last write of its transaction, and the set of its registers.
+#[derive(Clone, Copy)]
+pub struct Writer {
+    pub last: Option<u16>,
+    pub registers: u32,
 }
 
-pub fn from_field(x: u32) -> usize
-    ensures { result ≡ x }
-{
-    x as usize
+impl Writer {
+    // Nothing is written.
+    const NONE: Writer = Writer {
+        last: None,
+        registers: 0,
+    };
 }
 
 // What the transaction at place k writes; nothing where that is not committed: an aborted transaction
 // is no writer.
-fn writer_at(
-    order: &[u16; 64],
-    outcomes: &[u8; 64],
-    written: &[u16; 64],
-    registers: &[u32; 64],
-    k: usize,
-) -> Writer
+fn writer_at(order: &[u16; 64], outcomes: &[u8; 64], tables: &[Transaction; 64], k: usize) -> Writer
     requires k_bound { k < 64 }
     requires k_bound_2 { get_or order.now k 0 < 64 }
-    ensures { result ≡ writer_at order.now outcomes.now written.now registers.now k }
+    ensures { result ≡ writer_at order.now outcomes.now tables.now k }
 {
     if outcomes[k] != 1 {
-        return [0, 0];
+        return Writer::NONE;
     }
-    let t = index_of(order[k]);
-    [as_field(written[t]), registers[t]]
+    let of = tables[usize::from(order[k])];
+    Writer {
+        last: of.written,
+        registers: of.registers,
+    }
 }
 
-// The same of each place, by the tables of the log.
+// The same of each place.
 pub fn writers_of(
     order: &[u16; 64],
     outcomes: &[u8; 64],
-    tables: Tables,
+    tables: &[Transaction; 64],
     begun: usize,
 ) -> [Writer; 64]
     requires { Apart order.now begun }
-    ensures { Writers order.now outcomes.now tables.written tables.registers begun result }
+    ensures { Writers order.now outcomes.now tables.now begun result }
 {
-    let written = tables.written;
-    let registers = tables.registers;
-    let mut writers = [[0u32; 2]; 64];
-    let mut k: usize = 0;
-    while k < begun {
-        writers[k] = writer_at(order, outcomes, &written, &registers, k);
-        k += 1;
+    let mut writers = [Writer::NONE; 64];
+    for k in 0..begun {
+        writers[k] = writer_at(order, outcomes, tables, k);
     }
     writers
 }

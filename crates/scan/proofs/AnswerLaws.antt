@@ -1,90 +1,96 @@
 -- Laws of the scan's answer and of its questions.
 -- Assumes nothing.
-use mathlib.Core.Path.{◌≡◌, refl, sym, ap, ap₂, ◌∙◌}
+use Rattle.std.specs.Prelude.{Result, Ok, Err}
+use mathlib.Core.Path.{◌≡◌, refl, sym, ap, ◌∙◌}
 use Prim.Native.Nat.{ℕ, ◌≤◌, ◌<◌}
-use native.Mathlib.Omega.{arith}
-use mathlib.Core.Bool.{true}
-use mathlib.Core.List.{List}
+use mathlib.Core.Bool.{Bool, true, false}
+use mathlib.Core.List.{List, [], ◌∷◌}
+use lib.Dec.{leb}
 use lib.ListN.{length}
 use borrow.Author.Tests.{le-leb, lt-leb, leb-true}
 use Rattle.events.specs.declared.event.Event.{Event}
-use Rattle.event_log.specs.declared.admit.Checked.{Checked}
+use Rattle.event_log.specs.Checked.{Checked, asked, answered}
 use Rattle.events.specs.declared.refusal.Refusal.{Refusal}
-use Rattle.events.specs.Said.{at_event, refuse}
+use Rattle.events.specs.Said.{done, faulted, at_event, refuse}
 use Rattle.events.specs.Events.{begins}
-use Rattle.event_log.specs.Columns.{Columns, history, hold}
-use Rattle.event_log.specs.Starts.{start_of, admits}
-use Rattle.events.specs.Questions.{readable}
+use Rattle.event_log.specs.Columns.{Columns, history}
+use Rattle.event_log.specs.Starts.{start_of}
+use Rattle.events.specs.Questions.{ask, readable}
 use Rattle.event_log.specs.Answer.{history_answer}
-use Rattle.event_log.proofs.ColumnLaws.{hold-e, hold-i}
+use Rattle.event_log.proofs.ColumnLaws.{hold-e, hold-i, history-length}
 use Rattle.event_log.proofs.StartLaws.{fine, fine-answer}
 use Rattle.events.proofs.QuestionLaws.{readable-in}
 use Rattle.event_log.proofs.AnswerLaws.{columns-readable, readable-columns}
-use Rattle.opacity.specs.declared.verdict.Scanned.{Scanned}
-use Rattle.opacity.specs.Scan.{scan}
-use Rattle.event_log.specs.Calls.{then_checked}
+use Rattle.opacity.specs.declared.verdict.Cause.{Cause}
+use Rattle.opacity.specs.Scan.{Scanned, cause_number, opaque, fault, scan}
+use Rattle.event_log.specs.Calls.{asked_of}
 use Rattle.event_log.proofs.CallLaws.{asked-none, asked-yes, asked-no, asked-e, then-readable, then-refused, then-e}
-use Rattle.scan.specs.declared.Scanning.{Scanning}
-use Rattle.scan.specs.Answer.{Passed, scanned_said, said, size_refusal, scan_refusal, decided, scan_answer}
-use Rattle.scan.specs.Logs.{scan_of, scan_after}
+use Rattle.scan.specs.Answer.{Scanning, Passed, said, size_refusal, scan_refusal, decided, scan_answer}
+use Rattle.scan.specs.Logs.{scan_of}
 
 -- ---- what is decided
 
-pub decided-refused : {x : Checked} {r : Refusal} (s : Scanned) → x ≡ Checked.Refused r → Scanning.Refused r ≡ decided x s
+pub decided-refused : {x : Checked} {r : Refusal} (s : Scanned) → x ≡ Err r → Err r ≡ decided x s
 unfolding decided
 decided-refused s x = rw x
 
-pub decided-scanned : {x : Checked} (s : Scanned) → x ≡ Checked.Readable → Scanning.Scanned s ≡ decided x s
+pub decided-scanned : {x : Checked} (s : Scanned) → x ≡ Ok tt → Ok s ≡ decided x s
 unfolding decided
 decided-scanned s x = rw x
 
-pub scanned-e : (x : Checked) (s t : Scanned) → decided x s ≡ Scanning.Scanned t → (x ≡ Checked.Readable) × (s ≡ t)
+pub scanned-e : (x : Checked) (s t : Scanned) → decided x s ≡ Ok t → (x ≡ Ok tt) × (s ≡ t)
 unfolding decided
-scanned-e (Checked.Refused r) s t w = let z : ◌≡◌ {A = ℕ} 0 1 = cc in absurd (omega arith)
-scanned-e Checked.Readable s t w = let k : s ≡ t = cc in (refl, k)
+scanned-e (Err r) s t w = cc
+scanned-e (Ok tt) s t w = (refl, cc)
 
-pub refused-e : (x : Checked) (s : Scanned) (r : Refusal) → decided x s ≡ Scanning.Refused r → x ≡ Checked.Refused r
+pub refused-e : (x : Checked) (s : Scanned) (r : Refusal) → decided x s ≡ Err r → x ≡ Err r
 unfolding decided
-refused-e (Checked.Refused p) s r w = let a : p ≡ r = cc in ap Checked.Refused a
-refused-e Checked.Readable s r w = let z : ◌≡◌ {A = ℕ} 0 1 = cc in absurd (omega arith)
+refused-e (Err p) s r w = cc
+refused-e (Ok tt) s r w = cc
 
 -- ---- what is said
 
-pub said-scanned : (x : Scanning) (s : Scanned) → said x ≡ scanned_said s → x ≡ Scanning.Scanned s
+pub said-opaque : (x : Scanning) → said x ≡ done [] → x ≡ Ok opaque
 unfolding said
-said-scanned (Scanning.Scanned Scanned.Opaque) Scanned.Opaque k = refl
-said-scanned (Scanning.Scanned (Scanned.Faulted e w)) (Scanned.Faulted f v) k = cc
-said-scanned (Scanning.Scanned Scanned.Opaque) (Scanned.Faulted f v) k = let z : ◌≡◌ {A = ℕ} 0 1 = cc in absurd (omega arith)
-said-scanned (Scanning.Scanned (Scanned.Faulted e w)) Scanned.Opaque k = let z : ◌≡◌ {A = ℕ} 0 1 = cc in absurd (omega arith)
-said-scanned (Scanning.Refused r) Scanned.Opaque k = let z : ◌≡◌ {A = ℕ} 0 1 = cc in absurd (omega arith)
-said-scanned (Scanning.Refused r) (Scanned.Faulted f v) k = let z : ◌≡◌ {A = ℕ} 0 1 = cc in absurd (omega arith)
+said-opaque (Ok (Ok tt)) k = refl
+said-opaque (Ok (Err f)) k = cc
+said-opaque (Err r) k = cc
 
-pub said-refused : (x : Scanning) (q e : ℕ) → said x ≡ at_event q e → x ≡ Scanning.Refused (refuse q e)
+pub said-fault : (x : Scanning) (e w : ℕ) → said x ≡ faulted e w → (c : Cause) × ((cause_number c ≡ w) × (x ≡ Ok (fault e c)))
 unfolding said
-said-refused (Scanning.Scanned Scanned.Opaque) q e k = let z : ◌≡◌ {A = ℕ} 0 1 = cc in absurd (omega arith)
-said-refused (Scanning.Scanned (Scanned.Faulted f v)) q e k = let z : ◌≡◌ {A = ℕ} 0 1 = cc in absurd (omega arith)
-said-refused (Scanning.Refused r) q e k =
+said-fault (Ok (Ok tt)) e w k = cc
+said-fault (Ok (Err f)) e w k =
+    let a : f.event ≡ e = cc in
+    let b : cause_number f.cause ≡ w = cc in
+    (f.cause, (b, λ i. Ok (fault (a i) f.cause)))
+said-fault (Err r) e w k = cc
+
+pub said-refused : (x : Scanning) (q e : ℕ) → said x ≡ at_event q e → x ≡ Err (refuse q e)
+unfolding said
+said-refused (Ok (Ok tt)) q e k = cc
+said-refused (Ok (Err f)) q e k = cc
+said-refused (Err r) q e k =
     let a : r.question ≡ q = cc in
     let b : r.at ≡ e = cc in
-    λ i. Scanning.Refused (refuse (a i) (b i))
+    λ i. Err (refuse (a i) (b i))
 
 -- ---- the questions
 
 module _ (h : List Event) (count : ℕ) where
-  pub refused-31 : 10 < begins h → size_refusal h count ≡ Checked.Refused (refuse 31 count)
+  pub refused-31 : 10 < begins h → size_refusal h count ≡ Err (refuse 31 count)
   unfolding size_refusal
   refused-31 l = asked-no count 31 _ _ (lt-leb (begins h) 10 l)
 
-  pub passes-31 : begins h ≤ 10 → size_refusal h count ≡ Checked.Readable
+  pub passes-31 : begins h ≤ 10 → size_refusal h count ≡ Ok tt
   unfolding size_refusal
   passes-31 l = asked-yes count 31 _ _ (le-leb (begins h) 10 l) ∙ asked-none count
 
-  pub passes-31-e : size_refusal h count ≡ Checked.Readable → begins h ≤ 10
+  pub passes-31-e : size_refusal h count ≡ Ok tt → begins h ≤ 10
   unfolding size_refusal
   passes-31-e x = leb-true _ _ (asked-e count 31 _ _ x).0
 
 module _ (edition : ℕ) (starts : List ℕ) (c : Columns) (count : ℕ) where
-  pub passed : scan_refusal edition starts c count ≡ Checked.Readable → Passed edition starts c count
+  pub passed : scan_refusal edition starts c count ≡ Ok tt → Passed edition starts c count
   unfolding scan_refusal
   passed x =
       let a = then-e _ _ x in
@@ -92,24 +98,52 @@ module _ (edition : ℕ) (starts : List ℕ) (c : Columns) (count : ℕ) where
       let b = columns-readable edition c count f.columns in
       record { held = hold-i c count b.0; admitted = f.admitted; readable = b.1; few = passes-31-e (history c count) count a.1 }
 
-  pub passed-readable : scan_refusal edition starts c count ≡ Checked.Readable → readable (history c count) ≡ true
+  pub passed-readable : scan_refusal edition starts c count ≡ Ok tt → readable (history c count) ≡ true
   passed-readable x = readable-in edition (history c count) (passed x).readable
 
-  pub passes : Passed edition starts c count → scan_refusal edition starts c count ≡ Checked.Readable
+  pub passes : Passed edition starts c count → scan_refusal edition starts c count ≡ Ok tt
   unfolding scan_refusal
   passes p =
       then-readable _ (fine-answer edition starts c count p.admitted (readable-columns edition c count (hold-e c count p.held) p.readable))
       ∙ passes-31 (history c count) count p.few
 
--- a refusal is the answer, whatever the scan would say
-pub after-refused : {x : Checked} {r : Refusal} (starts : List ℕ) (h : List Event) (count : ℕ) → x ≡ Checked.Refused r → Scanning.Refused r ≡ scan_after x starts h count
-unfolding scan_after
-after-refused starts h count e = decided-refused _ (then-refused _ e)
+-- 31 is one question
+module _ (starts : List ℕ) (h : List Event) {n : ℕ} (counts : n ≡ begins h) where
+  asked-once : asked (leb n 10) 31 (length h) ≡ size_refusal h (length h)
+  unfolding size_refusal
+  asked-once = rw counts (go (leb (begins h) 10) refl)
+    where
+      go : (b : Bool) → leb (begins h) 10 ≡ b → asked b 31 (length h) ≡ asked_of (length h) (ask 31 (leb (begins h) 10) ∷ [])
+      go true z = sym (asked-yes (length h) 31 _ [] z ∙ asked-none (length h))
+      go false z = sym (asked-no (length h) 31 _ [] z)
 
-pub after-readable : {x : Checked} (starts : List ℕ) (h : List Event) (count : ℕ) → length h ≡ count → x ≡ Checked.Readable → scan_of starts h ≡ scan_after x starts h count
-unfolding scan_after scan_of
-after-readable starts h count l e = rw l (ap (λ (y : Checked). decided y (scan (start_of starts) h)) (sym (then-readable _ e)))
+  pub scan-refused : {r : Refusal} → ◌≡◌ {A = Checked} (Err r) (asked (leb n 10) 31 (length h)) → ◌≡◌ {A = Scanning} (Err r) (scan_of starts h)
+  unfolding scan_of
+  scan-refused e = decided-refused _ (sym (e ∙ asked-once))
 
--- so that of what is refused nothing else is said
-pub after-alike : (r : Refusal) (starts : List ℕ) (count : ℕ) (g h : List Event) → scan_after (Checked.Refused r) starts g count ≡ scan_after (Checked.Refused r) starts h count
-after-alike r starts count g h = sym (after-refused {x = Checked.Refused r} starts g count refl) ∙ after-refused {x = Checked.Refused r} starts h count refl
+  pub scan-passed : {u : Unit {0}} → ◌≡◌ {A = Checked} (Ok u) (asked (leb n 10) 31 (length h)) → ◌≡◌ {A = Scanning} (Ok (scan (start_of starts) h)) (scan_of starts h)
+  unfolding scan_of
+  scan-passed e = decided-scanned _ (sym (e ∙ asked-once))
+
+-- the scan of a history behind a door
+module _ (edition : ℕ) (starts : List ℕ) (c : Columns) (count : ℕ) where
+  scan-within : (x : Checked) → history_answer edition starts c count ≡ x → (y : Result Scanning Refusal) → y ≡ answered x (scan_of starts (history c count))
+      → {r : Refusal} {s : Scanning} → (y ≡ Err r → ◌≡◌ {A = Scanning} (Err r) (scan_answer edition starts c count)) × (y ≡ Ok s → s ≡ scan_answer edition starts c count)
+  unfolding scan_answer scan_refusal scan_of
+  scan-within (Err q) e y a {r} {s} = (λ z. let same : r ≡ q = cc in ap Err same ∙ decided-refused _ (then-refused _ e), λ z. cc)
+  scan-within (Ok u) e y a {r} {s} = (
+    λ z. cc,
+    λ z.
+        let same : s ≡ scan_of starts (history c count) = cc in
+        same
+        ∙ (rw (history-length c count)
+        (ap (λ (x : Checked). decided x (scan (start_of starts) (history c count))) (sym (then-readable _ e)))),
+  )
+
+  pub door-refused : {y : Result Scanning Refusal} {r : Refusal} → y ≡ answered (history_answer edition starts c count) (scan_of starts (history c count)) → y ≡ Err r
+      → ◌≡◌ {A = Scanning} (Err r) (scan_answer edition starts c count)
+  door-refused {y} {r} a = (scan-within _ refl y a {r = r} {s = Err r}).0
+
+  pub door-passed : {y : Result Scanning Refusal} {s : Scanning} → y ≡ answered (history_answer edition starts c count) (scan_of starts (history c count)) → y ≡ Ok s
+      → s ≡ scan_answer edition starts c count
+  door-passed {y} {s} a = (scan-within _ refl y a {r = refuse 0 0} {s = s}).1

@@ -1,29 +1,32 @@
 -- To be believed: the scan's answer ("Scan and report"): opaque, or the event and the cause, or the first question that says no.
 -- Assumes nothing.
-use Rattle.std.specs.Prelude.{ℕ, ◌≤◌, ◌≡◌, true, List, [], ◌∷◌, leb}
+use Rattle.std.specs.Prelude.{ℕ, ◌≤◌, ◌≡◌, true, List, [], ◌∷◌, leb, Result, Ok, Err}
 use Rattle.events.specs.declared.event.Event.{Event}
-use Rattle.event_log.specs.declared.admit.Checked.{Checked}
+use Rattle.events.specs.declared.refusal.Refusal.{Refusal}
+use Rattle.event_log.specs.Checked.{Checked}
 use Rattle.events.specs.Events.{begins}
 use Rattle.event_log.specs.Columns.{Columns, history, hold}
 use Rattle.event_log.specs.Starts.{start_of, admits}
 use Rattle.events.specs.Said.{Said, done, faulted, event_refused}
 use Rattle.events.specs.Questions.{ask, readable_in}
 use Rattle.event_log.specs.Answer.{columns_answer, history_answer}
-use Rattle.opacity.specs.declared.verdict.Scanned.{Scanned}
 use Rattle.opacity.specs.Justification.{zeros}
-use Rattle.opacity.specs.Scan.{scan}
+use Rattle.opacity.specs.Scan.{Scanned, cause_number, scan}
 use Rattle.event_log.specs.Calls.{asked_of, then_checked}
-use Rattle.scan.specs.declared.Scanning.{Scanning}
+
+-- what the scan answers: opaque, or the event and the cause; or the question that says no, with its event
+abbrev pub Scanning : Type 0
+Scanning = Result Scanned Refusal
 
 -- what the scan of a history says: opaque, or the event with the cause
 abbrev pub scanned_said : Scanned → Said
-scanned_said Scanned.Opaque = done []
-scanned_said (Scanned.Faulted e w) = faulted e w
+scanned_said (Ok tt) = done []
+scanned_said (Err f) = faulted f.event (cause_number f.cause)
 
 -- what the scan says: opaque, or the event and the cause, or the question with its event
 unfoldable pub said : Scanning → Said
-said (Scanning.Scanned s) = scanned_said s
-said (Scanning.Refused r) = event_refused r
+said (Ok s) = scanned_said s
+said (Err r) = event_refused r
 
 -- 31, of the events below the count
 unfoldable pub size_refusal : List Event → ℕ → Checked
@@ -42,11 +45,11 @@ pub record Passed (edition : ℕ) (starts : List ℕ) (c : Columns) (count : ℕ
   pub few : begins (history c count) ≤ 10
 
 abbrev pub Passes : ℕ → List ℕ → Columns → ℕ → Type 0
-Passes edition starts c count = scan_refusal edition starts c count ≡ Checked.Readable
+Passes edition starts c count = scan_refusal edition starts c count ≡ Ok tt
 
 unfoldable pub decided : Checked → Scanned → Scanning
-decided (Checked.Refused r) s = Scanning.Refused r
-decided Checked.Readable s = Scanning.Scanned s
+decided (Err r) s = Err r
+decided (Ok tt) s = Ok s
 
 -- each prefix keeps the edition and the start values of its history
 unfoldable pub scan_answer : ℕ → List ℕ → Columns → ℕ → Scanning

@@ -1,18 +1,18 @@
 -- Where all transactions must come before the end, an order ends exactly where none is left: the first completion places all of them.
 -- Assumes nothing.
+use Rattle.std.specs.Prelude.{Option as Answer, Some, None}
 use mathlib.Core.Path.{◌≡◌, refl, sym, ap, ◌∙◌}
 use mathlib.Core.Logic.{⊎_elim}
 use mathlib.Core.List.Memᴰ
 use mathlib.Core.List.{List, [], ◌∷◌, ◌++◌, Memᴰ}
 use mathlib.Core.Bool.{Bool, true, false, cond}
 use mathlib.Core.Option.{none, some}
-use Prim.Native.Nat.{ℕ, zero, suc, ◌+◌, ◌*◌, ◌^◌, ◌<◌}
+use Prim.Native.Nat.{ℕ, zero, suc, ◌+◌, ◌*◌, ◌<◌}
 use native.Mathlib.Omega.{arith}
 use lib.Bits.{and_zero_l}
 use lib.Dec.{eqb}
 use lib.ListN.{length, length-append}
-use lib.Pow.{pow_pos}
-use borrow.Author.Tests.{eqb-true, eqb-false, ne_eqb}
+use borrow.Author.Tests.{eqb-false}
 use Rattle.lists.specs.Lists.{or_else}
 use Rattle.lists.specs.Bits.{bit_at}
 use Rattle.places.specs.Facts.{end_row, after_of, reads_of, reads_asked}
@@ -136,16 +136,11 @@ long-by D (suc k) p u c q e = first-has (λ (l : List ℕ). length l ≡ length 
         go (some y) f g = one t 0 l (fits_at D p u t 0) ih (f ∙ g)
 
 -- and the answer of the search has n places
-pub answers-whole : (D : Constraints) (n a : ℕ) → EndAsks D.facts n → Answered n a (first_completion D n) → Answers n a (first_whole D n)
+pub answers-whole : (D : Constraints) (n : ℕ) (a : Answer ℕ) → EndAsks D.facts n → Answered n a (first_completion D n) → Answers n a (first_whole D n)
 unfolding first_whole
-answers-whole D n a asks h = go (eqb a 0) refl
-  where
-    read : read_answer h.places a ≡ first_whole D n
-    read = h.answers.completion ∙ first-whole D n asks
-
-    go : (b : Bool) → eqb a 0 ≡ b → Answers n a (first_whole D n)
-    go true e = record { completion = (rw e) ∙ (rw e at read); room = let z : a ≡ 0 = eqb-true a 0 e in rw z (pow_pos (n * 5 + 1)) }
-    go false e =
-        let long = long-by D n [] (up_from 0 n) (up_from 0 n) (codes_of h.places a) (sym (rw e at read)) in
-        let all : h.places ≡ n = omega (arith, length-codes h.places a) in
-        record { completion = ap (λ (k : ℕ). read_answer k a) (sym all) ∙ read; room = rw all at h.answers.room }
+answers-whole D n None asks h = record { completion = h.answers.completion ∙ first-whole D n asks; room = tt }
+answers-whole D n (Some a) asks h =
+    let read : read_answer h.places (Some a) ≡ first_whole D n = h.answers.completion ∙ first-whole D n asks in
+    let long = long-by D n [] (up_from 0 n) (up_from 0 n) (codes_of h.places a) (sym read) in
+    let all : h.places ≡ n = omega (arith, length-codes h.places a) in
+    record { completion = ap (λ (k : ℕ). read_answer k (Some a)) (sym all) ∙ read; room = rw all at h.answers.room }

@@ -1,14 +1,13 @@
 -- Laws of the enumeration tree, as the two functions that walk it use them.
 -- Assumes nothing.
+use Rattle.std.specs.Prelude.{Option as Answer, Some, None}
 use mathlib.Core.Path.{◌≡◌, refl, sym, ap, ◌∙◌}
 use mathlib.Core.List.{[]}
 use mathlib.Core.Bool.{Bool, true, false}
-use borrow.Author.Tests.{ne_eqb}
 use mathlib.Core.Option.{none, some}
 use Prim.Native.Nat.{ℕ, zero, suc, ◌+◌, ◌-◌, ◌*◌, ◌^◌, ◌≤◌, ◌<◌}
 use native.Mathlib.Nat.{zero-add}
 use native.Mathlib.Omega.{arith}
-use lib.Dec.{eqb}
 use Rattle.lists.specs.Lists.{or_else}
 use lib.Pow.{pow_mono, pow_pos}
 use lib.Count.{ones, ones-ones, count_trailing_zeros}
@@ -24,11 +23,8 @@ use Rattle.places.proofs.SetLaws.{members-first, members-remove, lowest-member}
 
 -- ---- answers
 
-pub first_found : {x : Completion} (n a : ℕ) (y : Completion) → (a ≡ 0 → ⊥) → read_answer n a ≡ x → read_answer n a ≡ or_else x y
-first_found n a y f e = let g : eqb a 0 ≡ false = ne_eqb a 0 f in rw (← e, g)
-
-pub answer-none : (n a : ℕ) → a ≡ 0 → read_answer n a ≡ none
-answer-none n a e = rw e
+pub first_found : {x : Completion} (n a : ℕ) (y : Completion) → read_answer n (Some a) ≡ x → read_answer n (Some a) ≡ or_else x y
+first_found n a y e = rw (← e) refl
 
 pub first-none : {x y z : Completion} → x ≡ none → z ≡ y → z ≡ or_else x y
 first-none e f = rw e f
@@ -60,30 +56,30 @@ attempt-next D s next t o r x e f h = rw (← e, f, ← members-remove t s.unpla
 -- ---- no more than the places
 
 -- the answer of the next state
-pub answered-next : {x y : Completion} (s next : Search) (t o a : ℕ) → Extends s t o next → (h : Answered (whole next) a x) → read_answer h.places a ≡ y
+pub answered-next : {x y : Completion} (s next : Search) (t o : ℕ) (a : Answer ℕ) → Extends s t o next → (h : Answered (whole next) a x) → read_answer h.places a ≡ y
     → Answered (whole s) a y
 answered-next s next t o a x h e =
     record { places = h.places; few = rw x.total at h.few; led = h.led; answers = record { completion = e; room = h.answers.room } }
 
 -- none
-pub answered-none : {x : Completion} (n : ℕ) → none ≡ x → Answered n 0 x
-answered-none n e = record { places = 0; few = omega arith; led = λ f. absurd (f refl); answers = record { completion = e; room = omega arith } }
+pub answered-none : {x : Completion} (n : ℕ) → none ≡ x → Answered n None x
+answered-none n e = record { places = 0; few = omega arith; led = tt; answers = record { completion = e; room = tt } }
 
 -- an answer read as another completion
-pub answered-as : {x y : Completion} (n a : ℕ) → Answered n a x → x ≡ y → Answered n a y
+pub answered-as : {x y : Completion} (n : ℕ) (a : Answer ℕ) → Answered n a x → x ≡ y → Answered n a y
 answered-as n a h e = record { places = h.places; few = h.few; led = h.led; answers = record { completion = h.answers.completion ∙ e; room = h.answers.room } }
 
 module _ (D : Constraints) (s : Search) (t : ℕ) where
   -- the first outcome leads to a completion
-  pub outcome-first : (n a : ℕ) (y : Completion) → (a ≡ 0 → ⊥) → read_answer n a ≡ attempt D s t 0 → read_answer n a ≡ or_else (with_next D s t) y
+  pub outcome-first : (n a : ℕ) (y : Completion) → read_answer n (Some a) ≡ attempt D s t 0 → read_answer n (Some a) ≡ or_else (with_next D s t) y
   unfolding attempt at_transaction try_both
-  outcome-first n a y f e = first_found n a y f (first_found n a (attempt D s t 1) f e)
+  outcome-first n a y e = first_found n a y (first_found n a (attempt D s t 1) e)
 
   -- it does not, and the second does
-  pub outcome-second : (n a : ℕ) (y : Completion) → (a ≡ 0 → ⊥) → attempt D s t 0 ≡ none → read_answer n a ≡ attempt D s t 1
-      → read_answer n a ≡ or_else (with_next D s t) y
+  pub outcome-second : (n a : ℕ) (y : Completion) → attempt D s t 0 ≡ none → read_answer n (Some a) ≡ attempt D s t 1
+      → read_answer n (Some a) ≡ or_else (with_next D s t) y
   unfolding attempt at_transaction try_both
-  outcome-second n a y f e g = first_found n a y f (first-none e g)
+  outcome-second n a y e g = first_found n a y (first-none e g)
 
   -- neither does, and the other candidates decide
   pub outcome-neither : {y : Completion} → attempt D s t 0 ≡ none → attempt D s t 1 ≡ none → y ≡ or_else (with_next D s t) y
@@ -94,15 +90,14 @@ module _ (D : Constraints) (s : Search) (t : ℕ) where
 
 -- an order may end with the places filled
 pub may-end : {b : Bool} (D : Constraints) (s : Search) (c : ℕ) → Sound s → b ≡ ends_at D (placed_of s) (members s.unplaced) → b ≡ true
-    → Answered (whole s) s.placed (among D s c)
+    → Answered (whole s) (Some s.placed) (among D s c)
 unfolding from_candidates
 may-end D s c h e f =
-    let some-places : eqb s.placed 0 ≡ false = ne_eqb s.placed 0 (λ q. omega (arith, h.led, pow_pos (s.filled * 5))) in
     record {
       places = s.filled;
       few = omega arith;
-      led = λ z. h.led;
-      answers = record { completion = (rw some-places) ∙ sym (go (ones s.unplaced) (sym e ∙ f)); room = h.room };
+      led = h.led;
+      answers = record { completion = sym (go (ones s.unplaced) (sym e ∙ f)); room = h.room };
     }
   where
     go : (n : ℕ) → ends_at D (placed_of s) (members s.unplaced) ≡ true → from_candidates D n (placed_of s) (members s.unplaced) (members c) ≡ some (placed_of s)
@@ -155,7 +150,7 @@ start-sound n u l e =
     }
 
 -- and so is the answer that of the whole search
-pub start-answers : (D : Constraints) (n u a : ℕ) → n ≤ 10 → u ≡ 2 ^ n - 1
+pub start-answers : (D : Constraints) (n u : ℕ) (a : Answer ℕ) → n ≤ 10 → u ≡ 2 ^ n - 1
     → Answered (0 + ones u) a (from_candidates D (ones u) [] (members u) (members u)) → Answered n a (first_completion D n)
 unfolding first_completion
 start-answers D n u a l e h =

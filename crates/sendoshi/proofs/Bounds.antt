@@ -1,6 +1,7 @@
 -- Each number of an answer stands where the call's number has room for it, and comes back out of it: for every edition, start values,
 -- columns, file and lent buffer, and every count that its type holds.
 -- Assumes nothing.
+use Rattle.std.specs.Prelude.{Result, Ok, Err, Option, Some, None}
 use mathlib.Core.Path.{◌≡◌, refl, sym, ap, subst, ◌∙◌}
 use mathlib.Core.Logic.{◌⊎◌, inl, inr, ⊎_elim}
 use Prim.Native.Nat.{ℕ, ◌≤◌, ◌<◌}
@@ -11,7 +12,7 @@ use lib.Dec.{ltb}
 use lib.ListN.{length, take}
 use borrow.Author.Tests.{lt-ltb, le-ltb}
 use Rattle.events.specs.declared.event.Event.{Event}
-use Rattle.event_log.specs.declared.admit.Checked.{Checked}
+use Rattle.event_log.specs.Checked.{Checked}
 use Rattle.events.specs.declared.refusal.Refusal.{Refusal}
 use Rattle.events.specs.Said.{Said, event_refused, byte_refused}
 use Rattle.lists.specs.Lists.{◌or◌}
@@ -25,50 +26,52 @@ use Rattle.events.proofs.QuestionLaws.{readable-in, readable-take}
 use Rattle.events.proofs.ReadableLaws.{readable-most}
 use Rattle.opacity.specs.declared.verdict.Rule.{Rule}
 use Rattle.opacity.specs.declared.verdict.Verdict.{Verdict}
-use Rattle.opacity.specs.declared.verdict.Scanned.{Scanned}
+use Rattle.opacity.specs.Scan.{Scanned}
 use Rattle.opacity.specs.Transactions.{Status, committed, aborted, pending, live, store_reads}
 use Rattle.opacity.specs.Counts.{counts}
 use Rattle.opacity.specs.Marking.{Marking, verdict, rule_number, put_to, named_event, named_transaction}
-use Rattle.opacity.specs.Scan.{cause}
+use Rattle.opacity.specs.Scan.{cause, cause_number}
+use Rattle.opacity.specs.declared.verdict.Cause.TheVariants.{Read, Commit, Abort, Other}
 use Rattle.opacity.proofs.Bounds.{at-most-64, transaction-low, reads-low}
 use Rattle.opacity.proofs.HowMany.{how-many-low}
 use Rattle.opacity.proofs.Meanings.{last-event-means, begin-of-means}
 use Rattle.opacity.proofs.MarkingBytes.{readable-length}
 use Rattle.opacity.proofs.Theorems.{broken-iff-first, places-are-n, lowest-some}
-use Rattle.reader.specs.declared.Reading.{Reading}
 use Rattle.reader.specs.declared.HistoryRead.{HistoryRead}
-use Rattle.reader.specs.Reading.{read_answer, said_of, said as read_said}
-use Rattle.writer.specs.declared.Writing.{Writing}
+use Rattle.reader.specs.Reading.{reading, history_read, read_answer, said as read_said}
+use Rattle.writer.specs.Writing.{Writing}
 use Rattle.writer.specs.Writing.{written_answer, said as written_said}
 use Rattle.writer.proofs.FileLaws.{length-file, length_most}
 use Rattle.writer.proofs.RoundTrip.{was_read, was-written}
 use Rattle.writer.proofs.StartLaws.{starts-most}
-use Rattle.finder.specs.declared.Finding.{Finding}
+use Rattle.finder.specs.Answer.{Finding}
 use Rattle.finder.specs.Answer.{marking_size, found_answer, said as found_said}
 use Rattle.finder.proofs.AnswerLaws.{marking-e, refused-e, marking-some, passed}
 use Rattle.finder.proofs.OrderLaws.{room-is}
-use Rattle.scan.specs.declared.Scanning.{Scanning}
+use Rattle.scan.specs.Answer.{Scanning}
 use Rattle.scan.specs.Answer.{scan_answer, said as scan_said}
 use Rattle.scan.proofs.AnswerLaws.{scanned-e, passed-readable as scan-readable}
 use Rattle.scan.proofs.Theorems.{faulted-exactly}
-use Rattle.marking.specs.declared.check.Checking.{Checking}
+use Rattle.marking.specs.Answer.{Checking}
 use Rattle.marking_reader.specs.File.{known, FileRead, content, refused, file_read}
 use Rattle.marking.specs.Answer.{ruled, after_columns, verdict_answer, verdict_said, said as check_said}
 use Rattle.marking_reader.proofs.ContentLaws.{content-readable}
-use Rattle.counts.specs.declared.Counting.{Counting}
-use Rattle.counts.specs.declared.Tallying.{Tallying}
+use Rattle.counts.specs.Answer.{Counting}
+use Rattle.counts.specs.Answer.{Tallying}
 use Rattle.counts.specs.declared.tally.Tally.{Tally}
 use Rattle.counts.specs.Tally.{has_status, of_status, tally}
 use Rattle.counts.specs.Answer.{counted, transactions_answer, store_reads_answer, tallied, tally_answer, count_said, tally_said}
-use Rattle.straighten.specs.declared.Straightening.{Straightening}
 use Rattle.straighten.specs.Straight.{straightened}
+use Rattle.marking.specs.declared.check.Unchecked.TheVariants.{HistoryRefused, MarkingRefused}
+use Rattle.straighten.specs.declared.Straightening.{Straightening}
+use Rattle.straighten.specs.declared.Straightening.TheVariants.{Straightened, Broken, Refused, MarkingRefused as Unmarked}
 use Rattle.straighten.specs.Answer.{straightened_answer, said as straight_said}
 use Rattle.straighten.proofs.StraightLaws.{straight-length, moved-few}
 use Rattle.straighten.proofs.AnswerLaws.{answer-means}
 use Rattle.codes.specs.Codes.{most, place, Within, Halves, Quarters, Known}
 use Rattle.codes.specs.Decoded.{no_value, one_value, two_values, four_values, always, never, of_marking}
 use Rattle.codes.proofs.CodeLaws.{two_back, four-back, Decodable}
-use Rattle.notes.specs.declared.NextNote.{NextNote}
+use Rattle.notes.specs.declared.Note.{Note}
 use Rattle.notes.specs.Notes.{next_note, said as note_said}
 use Rattle.notes.proofs.NoteLaws.{next-is}
 use Rattle.sendoshi.specs.Calls.{AnswerFits}
@@ -113,28 +116,23 @@ marking-decodable values {r} m =
 
 -- ---- the reader
 
-read-halves : (file : List ℕ) (c : Columns) (n : ℕ) → (read_answer file c).result.reading ≡ Reading.Read n → Halves (read_answer file c).result.edition n
+read-halves : (file : List ℕ) (c : Columns) (n : HistoryRead) → (read_answer file c).result ≡ Ok n → Halves n.edition n.count
 read-halves file c n x =
-    let w = was_read file c n x in
-    let t : (read_answer file c).result.edition ≡ w.says.edition = ap (λ (r : HistoryRead). r.edition) w.read in
+    let w = was_read file c n.count (ap reading x) in
+    let t : Ok n ≡ history_read n.count w.says.edition w.says.starts = sym x ∙ w.read in
+    let u : n.edition ≡ w.says.edition = cc in
     let l = read-limits file w.says w.file in
     record { upper = ⊎_elim (λ a. omega arith) (λ a. omega arith) l.edition; lower = omega (arith, l.events, w.count) }
 
 pub read-decodable : (file : List ℕ) (c : Columns) → Decodable two_values always (read_said (read_answer file c).result)
 unfolding read_said
-read-decodable file c = go (read_answer file c).result.reading refl
+read-decodable file c = go (read_answer file c).result refl
   where
-    edition : ℕ
-    edition = (read_answer file c).result.edition
-
-    tells : (r : Reading) → (read_answer file c).result.reading ≡ r → Decodable two_values always (said_of edition r)
-    tells (Reading.Read n) w = let h = read-halves file c n w in (h, two_back edition n h)
-    tells (Reading.Refused r) w =
-        let n = read-refusal file c r w in
+    go : (r : Result HistoryRead Refusal) → (read_answer file c).result ≡ r → Decodable two_values always (read_said r)
+    go (Ok n) w = let h = read-halves file c n w in (h, two_back n.edition n.count h)
+    go (Err r) w =
+        let n = read-refusal file c r (ap reading w) in
         ((record { least = n.0.least; most = omega (arith, n.0.most) }, omega (arith, n.1)), refl)
-
-    go : (r : Reading) → (read_answer file c).result.reading ≡ r → Decodable two_values always (said_of edition (read_answer file c).result.reading)
-    go r w = subst (λ (x : Reading). Decodable two_values always (said_of edition x)) (sym w) (tells r w)
 
 -- ---- the writer
 
@@ -144,16 +142,16 @@ module _ (edition : ℕ) (starts : List ℕ) (c : Columns) (count : ℕ) (small 
   write-decodable output = go (written_answer edition starts c count output).result refl
     where
       go : (r : Writing) → (written_answer edition starts c count output).result ≡ r → Decodable one_value never (written_said r)
-      go (Writing.Written n) w =
+      go (Ok n) w =
           let a = was-written edition starts c count output n w in
           let h = history c count in
           (omega (arith, a.length-is, length-file edition starts h, starts-most starts 32, length_most h, readable-most h (readable-in edition h a.events)), refl)
-      go (Writing.Refused r) w = event-decodable small (write-refusal edition starts c count output r w) one_value (omega arith) (omega arith)
+      go (Err r) w = event-decodable small (write-refusal edition starts c count output r w) one_value (omega arith) (omega arith)
 
   -- ---- the finder
 
   -- the length of a marking: its transactions are at most 10, and its store reads at most as many as the events
-  marking-fits : (prefix : ℕ) (output : List ℕ) (n : ℕ) → (found_answer edition starts c count prefix output).result ≡ Finding.Marking n → n ≤ most
+  marking-fits : (prefix : ℕ) (output : List ℕ) (n : ℕ) → (found_answer edition starts c count prefix output).result ≡ Ok (Some n) → n ≤ most
   unfolding found_answer
   marking-fits prefix output n x =
       let h : List Event = take prefix (history c count) in
@@ -171,18 +169,18 @@ module _ (edition : ℕ) (starts : List ℕ) (c : Columns) (count : ℕ) (small 
   find-decodable prefix output = go (found_answer edition starts c count prefix output).result refl
     where
       go : (r : Finding) → (found_answer edition starts c count prefix output).result ≡ r → Decodable one_value never (found_said r)
-      go (Finding.Marking n) w = (marking-fits prefix output n w, refl)
-      go Finding.None w = (tt, tt)
-      go (Finding.Refused r) w =
+      go (Ok (Some n)) w = (marking-fits prefix output n w, refl)
+      go (Ok None) w = (tt, tt)
+      go (Err r) w =
           event-decodable small (find-refusal edition starts c count prefix (length output) r (refused-e _ _ output r w).0) one_value (omega arith) (omega arith)
 
   -- ---- the scan
 
-  its-cause : (e : Event) → Within 1 4 (cause e)
+  its-cause : (e : Event) → Within 1 4 (cause_number (cause e))
   unfolding cause
   its-cause e = go (is_read e) (is_begin e) (is_commit e) (is_abort e)
     where
-      go : (r n c a : Bool) → Within 1 4 (cond r 1 (cond n 4 (cond c 2 (cond a 3 4))))
+      go : (r n c a : Bool) → Within 1 4 (cause_number (cond r Read (cond n Other (cond c Commit (cond a Abort Other)))))
       go true n c a = record { least = omega arith; most = omega arith }
       go false true c a = record { least = omega arith; most = omega arith }
       go false false true a = record { least = omega arith; most = omega arith }
@@ -194,13 +192,13 @@ module _ (edition : ℕ) (starts : List ℕ) (c : Columns) (count : ℕ) (small 
   scan-decodable = go (scan_answer edition starts c count) refl
     where
       go : (j : Scanning) → scan_answer edition starts c count ≡ j → Decodable no_value never (scan_said j)
-      go (Scanning.Scanned Scanned.Opaque) w = (tt, refl)
-      go (Scanning.Scanned (Scanned.Faulted e k)) w =
+      go (Ok (Ok tt)) w = (tt, refl)
+      go (Ok (Err k)) w =
           let p = (scanned-e _ _ _ w).0 in
-          let f = (faulted-exactly edition starts c count p e k).0 w in
-          let x : Within 1 4 k = rw f.why (its-cause _) in
+          let f = (faulted-exactly edition starts c count p k.event k.cause).0 w in
+          let x : Within 1 4 (cause_number k.cause) = rw f.why (its-cause _) in
           ((x, omega (arith, f.inside, readable-most (history c count) (scan-readable edition starts c count p))), tt)
-      go (Scanning.Refused r) w = event-decodable small (scan-refusal edition starts c count r w) no_value (omega arith) (omega arith)
+      go (Err r) w = event-decodable small (scan-refusal edition starts c count r w) no_value (omega arith) (omega arith)
 
 -- ---- the checker
 
@@ -236,28 +234,28 @@ module _ (edition : ℕ) (starts : List ℕ) (c : Columns) (count : ℕ) (small 
   unfolding check_said verdict_answer
   check-decodable file = go (verdict_answer edition starts c count file) refl
     where
-      ruled-decodable : history_answer edition starts c count ≡ Checked.Readable → (y : FileRead) (v : Verdict) → ruled (start_of starts) (history c count) y ≡ Checking.Ruled v
+      ruled-decodable : history_answer edition starts c count ≡ Ok tt → (y : FileRead) (v : Verdict) → ruled (start_of starts) (history c count) y ≡ Ok v
           → Decodable no_value of_marking (verdict_said v)
       ruled-decodable fine (content m) v d =
           let e : verdict (start_of starts) (history c count) m ≡ v = cc in
           verdict-decodable (history c count) (call-readable edition starts c count fine) no_value refl (start_of starts) m v e
       ruled-decodable fine (refused a b) v d = let z : ◌≡◌ {A = ℕ} 0 1 = cc in absurd (omega arith)
 
-      judged : (v : Verdict) (y : Checked) → history_answer edition starts c count ≡ y → after_columns (start_of starts) (history c count) file y ≡ Checking.Ruled v
+      judged : (v : Verdict) (y : Checked) → history_answer edition starts c count ≡ y → after_columns (start_of starts) (history c count) file y ≡ Ok v
           → Decodable no_value of_marking (verdict_said v)
-      judged v Checked.Readable fine d = ruled-decodable fine (file_read (known (history c count)) file) v d
-      judged v (Checked.Refused a) fine d = let z : ◌≡◌ {A = ℕ} 0 1 = cc in absurd (omega arith)
+      judged v (Ok tt) fine d = ruled-decodable fine (file_read (known (history c count)) file) v d
+      judged v (Err a) fine d = let z : ◌≡◌ {A = ℕ} 0 1 = cc in absurd (omega arith)
 
       go : (j : Checking) → verdict_answer edition starts c count file ≡ j → Decodable no_value of_marking (check_said j)
-      go (Checking.Ruled v) w = judged v (history_answer edition starts c count) refl w
-      go (Checking.HistoryRefused r) w = history-decodable small (check-history edition starts c count file r w) no_value (omega arith) (omega arith)
-      go (Checking.MarkingRefused r) w = marking-decodable no_value (check-marking edition starts c count file r w)
+      go (Ok v) w = judged v (history_answer edition starts c count) refl w
+      go (Err (HistoryRefused r)) w = history-decodable small (check-history edition starts c count file r w) no_value (omega arith) (omega arith)
+      go (Err (MarkingRefused r)) w = marking-decodable no_value (check-marking edition starts c count file r w)
 
   -- ---- the straightening
 
-  straightened-halves : (file output list : List ℕ) (n k : ℕ) → (straightened_answer edition starts c count file output list).result ≡ Straightening.Straightened n k → Halves k n
+  straightened-halves : (file output list : List ℕ) (n k : ℕ) → (straightened_answer edition starts c count file output list).result ≡ Straightened n k → Halves k n
   straightened-halves file output list n k x =
-      let d = answer-means edition starts c count file output list (Straightening.Straightened n k) x in
+      let d = answer-means edition starts c count file output list (Straightened n k) x in
       let m = d.marking in
       let h = history c count in
       let r = call-readable edition starts c count d.passes.fine in
@@ -276,15 +274,15 @@ module _ (edition : ℕ) (starts : List ℕ) (c : Columns) (count : ℕ) (small 
       broken-known q i t k = k
 
       go : (j : Straightening) → (straightened_answer edition starts c count file output list).result ≡ j → Decodable two_values of_marking (straight_said j)
-      go (Straightening.Straightened n k) w = let h = straightened-halves file output list n k w in (h, two_back k n h)
-      go (Straightening.Broken q i t) w =
-          let d = (answer-means edition starts c count file output list (Straightening.Broken q i t) w).0 in
+      go (Straightened n k) w = let h = straightened-halves file output list n k w in (h, two_back k n h)
+      go (Broken q i t) w =
+          let d = (answer-means edition starts c count file output list (Broken q i t) w).0 in
           let h = history c count in
           let r = call-readable edition starts c count d.1.fine in
           let m = straightened (start_of starts) h d.0 in
           broken-known q i t (verdict-decodable h r no_value refl (start_of starts) m (Verdict.Broken q i t) d.2)
-      go (Straightening.Refused r) w = history-decodable small (straighten-refusal edition starts c count file output list r w) two_values (omega arith) (omega arith)
-      go (Straightening.MarkingRefused r) w = marking-decodable two_values (straighten-marking edition starts c count file output list r w)
+      go (Refused r) w = history-decodable small (straighten-refusal edition starts c count file output list r w) two_values (omega arith) (omega arith)
+      go (Unmarked r) w = marking-decodable two_values (straighten-marking edition starts c count file output list r w)
 
 -- ---- the counts and the tally
 
@@ -294,8 +292,8 @@ module _ (edition : ℕ) (starts : List ℕ) (c : Columns) (count : ℕ) (small 
   count-decodable n f = go (history_answer edition starts c count) refl
     where
       go : (y : Checked) → history_answer edition starts c count ≡ y → Decodable one_value never (count_said (counted y n))
-      go Checked.Readable w = (f (call-readable edition starts c count w), refl)
-      go (Checked.Refused r) w = event-decodable small (call-number edition starts c count r w) one_value (omega arith) (omega arith)
+      go (Ok tt) w = (f (call-readable edition starts c count w), refl)
+      go (Err r) w = event-decodable small (call-number edition starts c count r w) one_value (omega arith) (omega arith)
 
   pub transactions-decodable : Decodable one_value never (count_said (transactions_answer edition starts c count))
   unfolding transactions_answer counts
@@ -326,30 +324,30 @@ module _ (edition : ℕ) (starts : List ℕ) (c : Columns) (count : ℕ) (small 
   tally-decodable = go (history_answer edition starts c count) refl
     where
       go : (y : Checked) → history_answer edition starts c count ≡ y → Decodable four_values never (tally_said (tallied y (tally (history c count))))
-      go Checked.Readable w = let q = tally-quarters (call-readable edition starts c count w) in (q, four-back _ _ _ _ q)
-      go (Checked.Refused r) w = event-decodable small (call-number edition starts c count r w) four_values (omega arith) (omega arith)
+      go (Ok tt) w = let q = tally-quarters (call-readable edition starts c count w) in (q, four-back _ _ _ _ q)
+      go (Err r) w = event-decodable small (call-number edition starts c count r w) four_values (omega arith) (omega arith)
 
 -- ---- the next note
 
 -- its numbers are told beside the code, which comes back
-pub note-decodable : (a : NextNote) → Decodable no_value never (note_said a)
+pub note-decodable : (a : Option Note) → Decodable no_value never (note_said a)
 unfolding note_said
-note-decodable (NextNote.Next x) = (tt, refl)
-note-decodable NextNote.None = (tt, tt)
+note-decodable (Some x) = (tt, refl)
+note-decodable None = (tt, tt)
 
 -- they are at most as large as the file is long
 pub note-fits : (file : List ℕ) (from : ℕ) → AnswerFits (next_note file from)
 note-fits file from = go (next_note file from) refl
   where
-    tells : (a : NextNote) → next_note file from ≡ a → AnswerFits a
-    tells (NextNote.Next x) w =
+    tells : (a : Option Note) → next_note file from ≡ a → AnswerFits a
+    tells (Some x) w =
         let i = next-is file from x w in
         record {
           events = omega (arith, i.fits, i.few, i.stands.within);
           start = omega (arith, i.fits, i.stands.within);
           size = omega (arith, i.fits, i.stands.within);
         }
-    tells NextNote.None w = tt
+    tells None w = tt
 
-    go : (a : NextNote) → next_note file from ≡ a → AnswerFits (next_note file from)
+    go : (a : Option Note) → next_note file from ≡ a → AnswerFits (next_note file from)
     go a w = subst AnswerFits (sym w) (tells a w)

@@ -1,7 +1,8 @@
 -- The questions that refuse a file, and the byte that comes with them, which no file that is read goes beyond; and how many events a file
 -- that is read has, and which editions there are.
 -- Assumes nothing.
-use mathlib.Core.Path.{◌≡◌, refl, sym, ap, ◌∙◌}
+use Rattle.std.specs.Prelude.{Result, Ok, Err}
+use mathlib.Core.Path.{◌≡◌, refl, sym, ap, subst, ◌∙◌}
 use mathlib.Core.Logic.{◌⊎◌, inl, inr, ⊎_elim}
 use Prim.Native.Nat.{ℕ, zero, suc, ◌+◌, ◌≤◌, ◌<◌}
 use native.Mathlib.Omega.{arith}
@@ -15,6 +16,8 @@ use Rattle.records.specs.declared.record.Record.{Record}
 use Rattle.records.specs.declared.record.Found.{Found}
 use Rattle.steps.specs.declared.step.Step.{Step}
 use Rattle.lists.specs.Lists.{◌and◌, ◌or◌, all}
+use Rattle.events.specs.declared.refusal.Refusal.{Refusal}
+use Rattle.events.specs.Said.{refuse}
 use Rattle.events.specs.Questions.{Question, ask, refusal, Past, past, event_questions}
 use Rattle.records.specs.Bytes.{pick}
 use Rattle.records.specs.Records.{record_at, body_of}
@@ -29,7 +32,7 @@ use Rattle.reader.proofs.WalkLaws.{event-in, readable≢}
 use Rattle.opacity.specs.Marking.{Marking}
 use Rattle.marking_reader.specs.declared.step.MarkingStep.{MarkingStep}
 use Rattle.marking_reader.specs.File.{Known, Asked, asked as asked_of, every_pointed, is_place, head_questions, record_questions as marking_questions, end_questions, taken}
-use Rattle.marking_reader.specs.File.{unless as unless_by, body_step, end_step, step_on as marking_step_on, step_at as marking_step_at}
+use Rattle.marking_reader.specs.File.{unless as unless_by, Stepped, body_step, end_step, step_on as marking_step_on, step_at as marking_step_at}
 use Rattle.marking_reader.specs.File.{refused as refused_file, continued as continued_marking, walk as walk_marking, headed, opening as opening_marking, nothing_read, after_opening, file_read}
 use Rattle.marking_reader.proofs.StepLaws.{placed-means, pointed-means}
 use Rattle.marking_reader.proofs.WalkLaws.{place-ends, point-ends}
@@ -55,22 +58,22 @@ of-file q t =
     (or_cases _ _ t)
 
 -- the question that refuses a record: 2, 4 to 13, and 41 to 44
-step-number : (edition : ℕ) (s : List ℕ) (at next : ℕ) (p : Past) (q : ℕ) → record_step edition s at next p ≡ Step.Refused q → HistoryNumber 13 q
+step-number : (edition : ℕ) (s : List ℕ) (at next : ℕ) (p : Past) (q : ℕ) → record_step edition s at next p ≡ Err q → HistoryNumber 13 q
 unfolding record_step record_questions event_questions start_questions all ◌and◌ ◌or◌
 step-number edition s at next p q x = go (record_at s at) x
   where
     its : (qs : List Question) → all (λ n. of_file n.number) qs ≡ true → (o : Option ℕ) → refusal qs ≡ o → (y : Step)
-        → ((k : ℕ) → y ≡ Step.Refused k → ⊥) → unless o y ≡ Step.Refused q → HistoryNumber 13 q
-    its qs a none w y other k = absurd (other q k)
-    its qs a (some n) w y other k = let e : n ≡ q = cc in of-file q (ap of_file (sym e) ∙ numbered-by of_file qs a n w)
+        → unless o y ≡ Err q → HistoryNumber 13 q
+    its qs a none w y k = let z : ◌≡◌ {A = ℕ} 0 1 = cc in absurd (omega arith)
+    its qs a (some n) w y k = let e : n ≡ q = cc in of-file q (ap of_file (sym e) ∙ numbered-by of_file qs a n w)
 
-    whole : (r : Record) (b d : Bool) → pick b (start_on p.count next s r) (pick d (note_on r) (event_on edition p s r)) ≡ Step.Refused q
+    whole : (r : Record) (b d : Bool) → pick b (start_on p.count next s r) (pick d (note_on r) (event_on edition p s r)) ≡ Err q
         → HistoryNumber 13 q
-    whole r true d k = its _ refl (start_refusal p.count next s r) refl _ (λ n w. let z : ◌≡◌ {A = ℕ} 0 1 = cc in omega arith) k
-    whole r false true k = its _ refl (refusal (ask 44 (leb r.size 64) ∷ [])) refl _ (λ n w. let z : ◌≡◌ {A = ℕ} 0 1 = cc in omega arith) k
-    whole r false false k = its _ refl (refusal (record_questions edition p r (event_in p s r))) refl _ (λ n w. let z : ◌≡◌ {A = ℕ} 0 1 = cc in omega arith) k
+    whole r true d k = its _ refl (start_refusal p.count next s r) refl _ k
+    whole r false true k = its _ refl (refusal (ask 44 (leb r.size 64) ∷ [])) refl _ k
+    whole r false false k = its _ refl (refusal (record_questions edition p r (event_in p s r))) refl _ k
 
-    go : (f : Found) → record_on edition next p s f ≡ Step.Refused q → HistoryNumber 13 q
+    go : (f : Found) → record_on edition next p s f ≡ Err q → HistoryNumber 13 q
     go (Found.Whole r) k = whole r (is_start edition r.kind) (is_note r.kind) k
     go Found.Short k = let e : 2 ≡ q = cc in record { least = omega arith; most = omega arith; apart = inl (omega arith) }
     go Found.End k = let z : ◌≡◌ {A = ℕ} 0 1 = cc in absurd (omega arith)
@@ -83,21 +86,21 @@ walk-number zero s at next l q b i m x = absurd (omega arith)
 walk-number (suc n) s at next l q b i m x =
     go (record_step l.edition s at next (past l.events)) refl x (λ end k y. walk-number n s end k y q b)
   where
-    go : (y : Step) → record_step l.edition s at next (past l.events) ≡ y → continued (walk n s) at next l y ≡ refused q b
+    go : (y : Result Step ℕ) → record_step l.edition s at next (past l.events) ≡ y → continued (walk n s) at next l y ≡ refused q b
         → ((end k : ℕ) (y : Log) → end ≤ length s → length s < end + n → walk n s end k y ≡ refused q b → HistoryNumber 13 q × (b ≤ length s))
         → HistoryNumber 13 q × (b ≤ length s)
-    go (Step.Taken e end) w k ih =
+    go (Ok (Step.Taken e end)) w k ih =
         let t = event-in l.edition s at next (past l.events) e end w in
         ih end next _ t.1 (omega (arith, t.0)) k
-    go (Step.Refused p) w k ih =
+    go (Err p) w k ih =
         let e : p ≡ q = cc in
         let f : at ≡ b = cc in
         (rw e at (step-number l.edition s at next (past l.events) p w), omega arith)
-    go Step.Finished w k ih = let z : ◌≡◌ {A = ℕ} 0 1 = cc in absurd (omega arith)
-    go (Step.Started r v end) w k ih =
+    go (Ok Step.Finished) w k ih = let z : ◌≡◌ {A = ℕ} 0 1 = cc in absurd (omega arith)
+    go (Ok (Step.Started r v end)) w k ih =
         let t = starting l.edition next (past l.events) s at r v end w in
         ih end (r + 1) _ t.within (omega (arith, t.goes_on)) k
-    go (Step.Noted end) w k ih =
+    go (Ok (Step.Noted end)) w k ih =
         let t = passing l.edition next (past l.events) s at end w in
         ih end next l t.within (omega (arith, t.goes_on)) k
 
@@ -130,19 +133,19 @@ unfolding walk event_questions
 walk-count zero s at next l m i x = let z : ◌≡◌ {A = ℕ} 0 1 = cc in absurd (omega arith)
 walk-count (suc n) s at next l m i x = go (record_step l.edition s at next (past l.events)) refl x (λ end k y. walk-count n s end k y m)
   where
-    go : (y : Step) → record_step l.edition s at next (past l.events) ≡ y → continued (walk n s) at next l y ≡ readable m
+    go : (y : Result Step ℕ) → record_step l.edition s at next (past l.events) ≡ y → continued (walk n s) at next l y ≡ readable m
         → ((end k : ℕ) (y : Log) → length y.events ≤ 2048 → walk n s end k y ≡ readable m → Walked y.edition m)
         → Walked l.edition m
-    go (Step.Taken e end) w k ih =
+    go (Ok (Step.Taken e end)) w k ih =
         let t = event-in l.edition s at next (past l.events) e end w in
         ih end next _ (omega (arith, (asked (past l.events) e t.2).room, length-append l.events (e ∷ []))) k
-    go (Step.Refused p) w k ih = absurd (readable≢ p at m k)
-    go Step.Finished w k ih =
+    go (Err p) w k ih = absurd (readable≢ p at m k)
+    go (Ok Step.Finished) w k ih =
         let e : l ≡ m = cc in
         let f : length l.events ≡ length m.events = ap (λ (y : Log). length y.events) e in
         record { few = omega arith; same = ap (λ (y : Log). y.edition) (sym e) }
-    go (Step.Started r v end) w k ih = ih end (r + 1) _ i k
-    go (Step.Noted end) w k ih = ih end next l i k
+    go (Ok (Step.Started r v end)) w k ih = ih end (r + 1) _ i k
+    go (Ok (Step.Noted end)) w k ih = ih end next l i k
 
 -- A file that question 14 is put to has at most 32,768 bytes and 2,048 events, and its edition is 1 or 2.
 pub record ReadLimits (s : List ℕ) (l : Log) : Type 0 where
@@ -178,50 +181,35 @@ from-21 {n} {q} e w =
     let m = w.most in
     record { least = omega arith; most = omega arith; apart = inr (omega arith) }
 
-module _ (a : Asked) (s : List ℕ) (at : ℕ) (pointed : Bool) where
-  marking_step : (q : ℕ) → marking_step_at a pointed s at ≡ MarkingStep.Refused q → MarkingNumber q
+-- the question that refuses a record or the end, with its byte
+module _ (a : Asked) (s : List ℕ) (at : ℕ) (pointed : Bool) (l : at ≤ length s) where
+  abbrev Told : Refusal → Type 0
+  Told r = MarkingNumber r.question × (r.at ≤ length s)
+
+  marking_step : (r : Refusal) → marking_step_at a pointed s at ≡ Err r → Told r
   unfolding marking_step_at body_step marking_questions end_step end_questions refusal all ◌and◌
-  marking_step q x = go (record_at s at) x
+  marking_step r x = go (record_at s at) x
     where
-      took : (b : Bool) (x y w t o e : ℕ) → cond b (MarkingStep.Placed x y w) (MarkingStep.Pointed t o e) ≡ MarkingStep.Refused q → ⊥
-      took true x y w t o e d = let z : ◌≡◌ {A = ℕ} 0 1 = cc in omega arith
-      took false x y w t o e d = let z : ◌≡◌ {A = ℕ} 0 1 = cc in omega arith
+      body : (f : Record) (o : Option ℕ) → refusal (marking_questions a f.kind (body_of s f)) ≡ o
+          → unless_by o at (taken f.kind (body_of s f) (f.start + f.size)) ≡ Err r → Told r
+      body f none w k = let z : ◌≡◌ {A = ℕ} 0 1 = cc in absurd (omega arith)
+      body f (some n) w k =
+          let e : refuse n at ≡ r = cc in
+          subst Told e (from-21 refl (numbered 21 29 (marking_questions a f.kind (body_of s f)) refl n w), l)
 
-      body : (r : Record) (o : Option ℕ) → refusal (marking_questions a r.kind (body_of s r)) ≡ o
-          → unless_by o MarkingStep.Refused (taken r.kind (body_of s r) (r.start + r.size)) ≡ MarkingStep.Refused q → MarkingNumber q
-      body r none w k = absurd (took (is_place r.kind) _ _ _ _ _ _ k)
-      body r (some n) w k = let e : n ≡ q = cc in from-21 e (numbered 21 29 (marking_questions a r.kind (body_of s r)) refl n w)
+      last : (n : ℕ) → 28 ≤ n → n ≤ 29 → refuse n (length s) ≡ r → Told r
+      last n i j e = subst Told e (record { least = omega arith; most = omega arith; apart = inr (omega arith) }, omega arith)
 
-      ended : (x y : Bool) → end_step x y ≡ MarkingStep.Refused q → ⊥
-      ended true true d = let z : ◌≡◌ {A = ℕ} 0 1 = cc in omega arith
-      ended true false d = let z : ◌≡◌ {A = ℕ} 0 1 = cc in omega arith
-      ended false y d = let z : ◌≡◌ {A = ℕ} 0 1 = cc in omega arith
-
-      go : (f : Found) → marking_step_on a pointed s f ≡ MarkingStep.Refused q → MarkingNumber q
-      go (Found.Whole r) k = body r (refusal (marking_questions a r.kind (body_of s r))) refl k
-      go Found.Short k = let e : 2 ≡ q = cc in record { least = omega arith; most = omega arith; apart = inl (omega arith) }
-      go Found.End k = absurd (ended a.every_placed pointed k)
-
-  marking-end : (q : ℕ) → marking_step_at a pointed s at ≡ MarkingStep.Unfinished q → MarkingNumber q
-  unfolding marking_step_at body_step end_step end_questions refusal
-  marking-end q x = go (record_at s at) x
-    where
-      took : (b : Bool) (x y w t o e : ℕ) → cond b (MarkingStep.Placed x y w) (MarkingStep.Pointed t o e) ≡ MarkingStep.Unfinished q → ⊥
-      took true x y w t o e d = let z : ◌≡◌ {A = ℕ} 0 1 = cc in omega arith
-      took false x y w t o e d = let z : ◌≡◌ {A = ℕ} 0 1 = cc in omega arith
-
-      body : (r : Record) (o : Option ℕ) → unless_by o MarkingStep.Refused (taken r.kind (body_of s r) (r.start + r.size)) ≡ MarkingStep.Unfinished q → ⊥
-      body r none k = took (is_place r.kind) _ _ _ _ _ _ k
-      body r (some n) k = let z : ◌≡◌ {A = ℕ} 0 1 = cc in omega arith
-
-      ended : (x y : Bool) → end_step x y ≡ MarkingStep.Unfinished q → MarkingNumber q
+      ended : (x y : Bool) → end_step (length s) x y ≡ Err r → Told r
       ended true true d = let z : ◌≡◌ {A = ℕ} 0 1 = cc in absurd (omega arith)
-      ended true false d = let e : 29 ≡ q = cc in record { least = omega arith; most = omega arith; apart = inr (omega arith) }
-      ended false y d = let e : 28 ≡ q = cc in record { least = omega arith; most = omega arith; apart = inr (omega arith) }
+      ended true false d = let e : refuse 29 (length s) ≡ r = cc in last 29 (omega arith) (omega arith) e
+      ended false y d = let e : refuse 28 (length s) ≡ r = cc in last 28 (omega arith) (omega arith) e
 
-      go : (f : Found) → marking_step_on a pointed s f ≡ MarkingStep.Unfinished q → MarkingNumber q
-      go (Found.Whole r) k = absurd (body r (refusal (marking_questions a r.kind (body_of s r))) k)
-      go Found.Short k = let z : ◌≡◌ {A = ℕ} 0 1 = cc in absurd (omega arith)
+      go : (f : Found) → marking_step_on a pointed s at f ≡ Err r → Told r
+      go (Found.Whole f) k = body f (refusal (marking_questions a f.kind (body_of s f))) refl k
+      go Found.Short k =
+          let e : refuse 2 at ≡ r = cc in
+          subst Told e (record { least = omega arith; most = omega arith; apart = inl (omega arith) }, l)
       go Found.End k = ended a.every_placed pointed k
 
 marking-walk : (kn : Known) (left : ℕ) (s : List ℕ) (at : ℕ) (m : Marking) (q b : ℕ) → at ≤ length s → length s < at + left
@@ -230,24 +218,21 @@ unfolding walk_marking
 marking-walk kn zero s at m q b l r x = absurd (omega arith)
 marking-walk kn (suc n) s at m q b l r x = go (marking_step_at (asked_of kn m) (every_pointed kn m) s at) refl x (λ end m'. marking-walk kn n s end m' q b)
   where
-    go : (y : MarkingStep) → marking_step_at (asked_of kn m) (every_pointed kn m) s at ≡ y → continued_marking (walk_marking kn n s) s at m y ≡ refused_file q b
+    go : (y : Stepped) → marking_step_at (asked_of kn m) (every_pointed kn m) s at ≡ y → continued_marking (walk_marking kn n s) m y ≡ refused_file q b
         → ((end : ℕ) (m' : Marking) → end ≤ length s → length s < end + n → walk_marking kn n s end m' ≡ refused_file q b → MarkingNumber q × (b ≤ length s))
         → MarkingNumber q × (b ≤ length s)
-    go (MarkingStep.Placed t o end) w k ih =
+    go (Ok (MarkingStep.Placed t o end)) w k ih =
         let e = place-ends (placed-means (asked_of kn m) s at (every_pointed kn m) t o end w) in
         ih end _ e.1 (omega (arith, e.0)) k
-    go (MarkingStep.Pointed t o end) w k ih =
+    go (Ok (MarkingStep.Pointed t o end)) w k ih =
         let e = point-ends (pointed-means (asked_of kn m) s at (every_pointed kn m) t o end w) in
         ih end _ e.1 (omega (arith, e.0)) k
-    go (MarkingStep.Refused p) w k ih =
-        let e : p ≡ q = cc in
-        let f : at ≡ b = cc in
-        (rw e at (marking_step (asked_of kn m) s at (every_pointed kn m) p w), omega arith)
-    go (MarkingStep.Unfinished p) w k ih =
-        let e : p ≡ q = cc in
-        let f : length s ≡ b = cc in
-        (rw e at (marking-end (asked_of kn m) s at (every_pointed kn m) p w), omega arith)
-    go MarkingStep.Finished w k ih = let z : ◌≡◌ {A = ℕ} 0 1 = cc in absurd (omega arith)
+    go (Ok MarkingStep.Finished) w k ih = let z : ◌≡◌ {A = ℕ} 0 1 = cc in absurd (omega arith)
+    go (Err p) w k ih =
+        let e : p.question ≡ q = cc in
+        let f : p.at ≡ b = cc in
+        let t = marking_step (asked_of kn m) s at (every_pointed kn m) l p w in
+        (subst MarkingNumber e t.0, omega (arith, t.1))
 
 -- a file that opens has a head and is not too long
 record MarkingOpens (s : List ℕ) : Type 0 where

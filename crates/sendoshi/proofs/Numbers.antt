@@ -1,5 +1,6 @@
 -- The numbers of the questions about columns and calls, and the events that come with them: at most 2,048, or the count.
 -- Assumes nothing.
+use Rattle.std.specs.Prelude.{Ok, Err}
 use mathlib.Core.Path.{◌≡◌, refl, sym, ap, subst, ◌∙◌}
 use mathlib.Core.Logic.{◌⊎◌, inl, inr}
 use Prim.Native.Nat.{ℕ, zero, suc, ◌≤◌, ◌<◌}
@@ -12,7 +13,7 @@ use lib.ListN.{length, take}
 use lib.Seq.{length-take-le}
 use borrow.Author.Tests.{leb-true}
 use Rattle.events.specs.declared.event.Event.{Event}
-use Rattle.event_log.specs.declared.admit.Checked.{Checked}
+use Rattle.event_log.specs.Checked.{Checked}
 use Rattle.events.specs.declared.refusal.Refusal.{Refusal}
 use Rattle.events.specs.Said.{refuse}
 use Rattle.lists.specs.Lists.{◌and◌, all, lowest}
@@ -74,59 +75,59 @@ early edition h (suc i) l g =
 
 refused-with : (i : ℕ) (o : Option ℕ) → refused_with i o ≡ none → o ≡ none
 refused-with i none e = refl
-refused-with i (some q) e = absurd (none-ne-some (Checked.Refused (refuse q i)) (sym e))
+refused-with i (some q) e = absurd (none-ne-some (Err (refuse q i)) (sym e))
 
-pub events-number : (edition : ℕ) (h : List Event) (count : ℕ) (r : Refusal) → events_answer edition h ≡ Checked.Refused r → Asked 4 17 count r
+pub events-number : (edition : ℕ) (h : List Event) (count : ℕ) (r : Refusal) → events_answer edition h ≡ Err r → Asked 4 17 count r
 unfolding events_answer refused_at
 events-number edition h count r x = go (lowest (λ i. refused_with i (refused_at edition h i)) (length h)) refl x
   where
     at-event : (i : ℕ) → i < length h → ((j : ℕ) → j < i → refused_at edition h j ≡ none) → (o : Option ℕ) → refused_at edition h i ≡ o
-        → refused_with i o ≡ some (Checked.Refused r) → Asked 4 17 count r
-    at-event i l g none w k = absurd (none-ne-some (Checked.Refused r) k)
+        → refused_with i o ≡ some (Err r) → Asked 4 17 count r
+    at-event i l g none w k = absurd (none-ne-some (Err r) k)
     at-event i l g (some n) w k =
-        let s : Checked.Refused (refuse n i) ≡ Checked.Refused r = some-injective (Checked.Refused (refuse n i)) (Checked.Refused r) k in
+        let s : Err (refuse n i) ≡ Err r = some-injective (Err (refuse n i)) (Err r) k in
         let e : refuse n i ≡ r = cc in
         let m = columns-numbered edition (past (take i h)) (event_at h i) n w in
         subst (Asked 4 17 count) e (record { number = m; place = inl (early edition h i l g) })
 
-    go : (o : Option Checked) → lowest (λ i. refused_with i (refused_at edition h i)) (length h) ≡ o → get_or o Checked.Readable ≡ Checked.Refused r → Asked 4 17 count r
+    go : (o : Option Checked) → lowest (λ i. refused_with i (refused_at edition h i)) (length h) ≡ o → get_or o (Ok tt) ≡ Err r → Asked 4 17 count r
     go none w k = let z : ◌≡◌ {A = ℕ} 0 1 = cc in absurd (omega arith)
     go (some y) w k =
         let f : Lowest (λ i. refused_with i (refused_at edition h i)) (length h) y = lowest-some (λ i. refused_with i (refused_at edition h i)) (length h) w in
         at-event f.at f.inside (λ j l. refused-with j (refused_at edition h j) (f.least j l)) (refused_at edition h f.at) refl (f.answer ∙ ap some k)
 
 -- a question whose event is the count
-at_count : (low high count q : ℕ) (r : Refusal) → Within low high q → Checked.Refused (refuse q count) ≡ Checked.Refused r → Asked low high count r
+at_count : (low high count q : ℕ) (r : Refusal) → Within low high q → ◌≡◌ {A = Checked} (Err (refuse q count)) (Err r) → Asked low high count r
 at_count low high count q r w k =
     let e : refuse q count ≡ r = cc in
     subst (Asked low high count) e (record { number = w; place = inr refl })
 
 -- 17, 3 and each event's own
-pub call-number : (edition : ℕ) (starts : List ℕ) (c : Columns) (count : ℕ) (r : Refusal) → history_answer edition starts c count ≡ Checked.Refused r → Asked 3 17 count r
+pub call-number : (edition : ℕ) (starts : List ℕ) (c : Columns) (count : ℕ) (r : Refusal) → history_answer edition starts c count ≡ Err r → Asked 3 17 count r
 unfolding history_answer
 call-number edition starts c count r x = go (hold c count) (admits edition starts) x
   where
-    go : (b a : Bool) → cond b (cond a (events_answer edition (history c count)) (Checked.Refused (refuse 3 count))) (Checked.Refused (refuse 17 count)) ≡ Checked.Refused r → Asked 3 17 count r
+    go : (b a : Bool) → cond b (cond a (events_answer edition (history c count)) (Err (refuse 3 count))) (Err (refuse 17 count)) ≡ Err r → Asked 3 17 count r
     go true true k = widen (omega arith) (omega arith) (events-number edition (history c count) count r k)
     go true false k = at_count 3 17 count 3 r (record { least = omega arith; most = omega arith }) k
     go false a k = at_count 3 17 count 17 r (record { least = omega arith; most = omega arith }) k
 
-pub call-readable : (edition : ℕ) (starts : List ℕ) (c : Columns) (count : ℕ) → history_answer edition starts c count ≡ Checked.Readable → readable (history c count) ≡ true
+pub call-readable : (edition : ℕ) (starts : List ℕ) (c : Columns) (count : ℕ) → history_answer edition starts c count ≡ Ok tt → readable (history c count) ≡ true
 call-readable edition starts c count x = (history-readable edition starts c count x).1
 
 -- ---- questions of a call: the count is their event
 
 pub asked-number : (low high count : ℕ) (qs : List Question) → all (λ q. within low high q.number) qs ≡ true → (r : Refusal)
-    → asked_of count qs ≡ Checked.Refused r → Asked low high count r
+    → asked_of count qs ≡ Err r → Asked low high count r
 unfolding asked_of
 asked-number low high count qs a r x = go (refusal qs) refl x
   where
-    go : (o : Option ℕ) → refusal qs ≡ o → get_or (refused_with count o) Checked.Readable ≡ Checked.Refused r → Asked low high count r
+    go : (o : Option ℕ) → refusal qs ≡ o → get_or (refused_with count o) (Ok tt) ≡ Err r → Asked low high count r
     go none w k = let z : ◌≡◌ {A = ℕ} 0 1 = cc in absurd (omega arith)
     go (some n) w k = at_count low high count n r (numbered low high qs a n w) k
 
-pub then-cases : (a b : Checked) (r : Refusal) → then_checked a b ≡ Checked.Refused r
-    → (a ≡ Checked.Refused r) ⊎ ((a ≡ Checked.Readable) × (b ≡ Checked.Refused r))
+pub then-cases : (a b : Checked) (r : Refusal) → then_checked a b ≡ Err r
+    → (a ≡ Err r) ⊎ ((a ≡ Ok tt) × (b ≡ Err r))
 unfolding then_checked
-then-cases Checked.Readable b r x = inr (refl, x)
-then-cases (Checked.Refused p) b r x = inl x
+then-cases (Ok tt) b r x = inr (refl, x)
+then-cases (Err p) b r x = inl x

@@ -1,9 +1,9 @@
 -- To be believed: what each call gives (include/sendoshi.h), over the answers of the functions called: its number, and each buffer that it
 -- is lent to fill, afterwards.
 -- Assumes nothing.
-use Rattle.std.specs.Prelude.{ℕ, ◌≤◌, List, [], ◌∷◌}
+use Rattle.std.specs.Prelude.{ℕ, ◌≤◌, List, [], ◌∷◌, Option, Some, None, Result, Ok, Err}
+use Rattle.events.specs.declared.refusal.Refusal.{Refusal}
 use Rattle.event_log.specs.Columns.{Columns}
-use Rattle.reader.specs.declared.Reading.{Reading}
 use Rattle.reader.specs.declared.HistoryRead.{HistoryRead}
 use Rattle.reader.specs.Reading.{ReadAnswer, read_answer, said as read_said}
 use Rattle.writer.specs.Writing.{WrittenAnswer, written_answer, said as written_said}
@@ -13,7 +13,6 @@ use Rattle.marking.specs.Answer.{verdict_answer, said as check_said}
 use Rattle.straighten.specs.Answer.{Given as Straight, straightened_answer, said as straight_said}
 use Rattle.counts.specs.Answer.{transactions_answer, store_reads_answer, tally_answer, count_said, tally_said}
 use Rattle.notes.specs.declared.Note.{Note}
-use Rattle.notes.specs.declared.NextNote.{NextNote}
 use Rattle.notes.specs.Notes.{next_note, said as note_said}
 use Rattle.codes.specs.Codes.{most, coded}
 
@@ -50,18 +49,15 @@ abbrev pub told : ℕ → List ℕ → FilledNote
 told n l = record { number = n; note = l }
 
 -- the lent start values afterwards: those of the history that was read, and on a refusal what they were
-abbrev pub starts_by : Reading → List ℕ → List ℕ → List ℕ
-starts_by (Reading.Read n) read lent = read
-starts_by (Reading.Refused r) read lent = lent
-
-unfoldable pub starts_after : HistoryRead → List ℕ → List ℕ
-starts_after a lent = starts_by a.reading a.starts lent
+unfoldable pub starts_after : Result HistoryRead Refusal → List ℕ → List ℕ
+starts_after (Ok read) lent = read.starts
+starts_after (Err r) lent = lent
 
 -- the three lent numbers afterwards: how many events are before the note, where its bytes begin and how many they are; where there is none
 -- what they were
-unfoldable pub note_after : NextNote → List ℕ → List ℕ
-note_after (NextNote.Next x) lent = x.events ∷ x.start ∷ x.size ∷ []
-note_after NextNote.None lent = lent
+unfoldable pub note_after : Option Note → List ℕ → List ℕ
+note_after (Some x) lent = x.events ∷ x.start ∷ x.size ∷ []
+note_after None lent = lent
 
 abbrev pub read_filled : List ℕ → ReadAnswer → FilledHistory
 read_filled lent a = filled (coded (read_said a.result)) (starts_after a.result lent) a.columns
@@ -75,7 +71,7 @@ found_filled a = put (coded (found_said a.result)) a.output
 abbrev pub straighten_filled : Straight → FilledBoth
 straighten_filled a = put_both (coded (straight_said a.result)) a.output a.list
 
-abbrev pub note_filled : List ℕ → NextNote → FilledNote
+abbrev pub note_filled : List ℕ → Option Note → FilledNote
 note_filled lent a = told (coded (note_said a)) (note_after a lent)
 
 unfoldable pub read_call : List ℕ → List ℕ → Columns → FilledHistory
@@ -115,6 +111,6 @@ pub record NoteFits (x : Note) : Type 0 where
   pub start : x.start ≤ most
   pub size : x.size ≤ most
 
-abbrev pub AnswerFits : NextNote → Type 0
-AnswerFits (NextNote.Next x) = NoteFits x
-AnswerFits NextNote.None = Unit {0}
+abbrev pub AnswerFits : Option Note → Type 0
+AnswerFits (Some x) = NoteFits x
+AnswerFits None = Unit {0}

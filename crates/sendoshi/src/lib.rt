@@ -39,30 +39,69 @@ ghost use Rattle.sendoshi.specs.Calls.{
 };
 
 use codes::{
-    check_code, count_code, found_code, note_code, read_code, scan_code, straighten_code,
-    tally_code, written_code,
+    check_code, found_code, note_code, number_code, read_code, scan_code, straighten_code,
+    tally_code,
 };
-use notes::{NextNote, next_note};
-use reader::{HistoryRead, Reading};
+use event_log::columns::{Columns, History};
+use events::refusal::Refusal;
+use notes::{Note, next_note};
+use reader::HistoryRead;
+
+// The history that a call is lent. Each call has its columns one by one, as C has them.
+fn history_of<'a>(
+    edition: u16,
+    starts: &'a [u32; 32],
+    kinds: &'a [u16],
+    transactions: &'a [u16],
+    registers: &'a [u16],
+    values: &'a [u32],
+    threads: &'a [u16],
+    count: u32,
+) -> History<'a>
+    ensures { result ≡ record {
+      edition = edition;
+      starts = starts.entry;
+      columns = record {
+        kinds = kinds.entry;
+        transactions = transactions.entry;
+        registers = registers.entry;
+        values = values.entry;
+        threads = threads.entry;
+      };
+      count = count;
+    } }
+{
+    History {
+        edition,
+        starts,
+        columns: Columns {
+            kinds,
+            transactions,
+            registers,
+            values,
+            threads,
+        },
+        count: count as usize,
+    }
+}
 
 // Hands over the start values, all 32, of a history that was read; a refusal leaves the lent ones as
 // they are.
-fn hand_over(answer: HistoryRead, starts: &mut [u32; 32])
+fn hand_over(answer: Result<HistoryRead, Refusal>, starts: &mut [u32; 32])
     ensures { starts.new ≡ starts_after answer starts.old }
 {
-    let reading = answer.reading;
-    if let Reading::Read(_) = reading {
-        let from = answer.starts;
-        *starts = from;
+    if let Ok(read) = answer {
+        let given = read.starts;
+        *starts = given;
     }
 }
 
 // Hands over the three numbers of a note; where there is none the lent ones stay as they are.
-fn tell_note(answer: NextNote, note: &mut [u32; 3])
+fn tell_note(answer: Option<Note>, note: &mut [u32; 3])
     requires { AnswerFits answer }
     ensures { note.new ≡ note_after answer note.old }
 {
-    if let NextNote::Next(next) = answer {
+    if let Some(next) = answer {
         *note = [next.events as u32, next.start as u32, next.size as u32];
     }
 }
@@ -112,7 +151,7 @@ pub fn sendoshi_write(
         threads.now) count
         output.old).result }
 {
-    let answer = writer::write_history(
+    let history = history_of(
         edition,
         starts,
         kinds,
@@ -120,10 +159,9 @@ pub fn sendoshi_write(
         registers,
         values,
         threads,
-        count as usize,
-        output,
+        count,
     );
-    written_code(answer)
+    number_code(writer::write_history(&history, output))
 }
 
 // Writes the lowest marking of the first `prefix` of the first `count` events: its length, or none, or
@@ -149,7 +187,7 @@ pub fn sendoshi_find(
         threads.now) count prefix
         output.old).result }
 {
-    let answer = finder::find_marking(
+    let history = history_of(
         edition,
         starts,
         kinds,
@@ -157,11 +195,9 @@ pub fn sendoshi_find(
         registers,
         values,
         threads,
-        count as usize,
-        prefix as usize,
-        output,
+        count,
     );
-    found_code(answer)
+    found_code(finder::find_marking(&history, prefix as usize, output))
 }
 
 // Judges the prefixes of the first `count` events: opaque, or the cause and the event, or the question
@@ -182,7 +218,7 @@ pub fn sendoshi_scan(
         (columns kinds.now transactions.now registers.now values.now
         threads.now) count) }
 {
-    let answer = scan::scan_history(
+    let history = history_of(
         edition,
         starts,
         kinds,
@@ -190,9 +226,9 @@ pub fn sendoshi_scan(
         registers,
         values,
         threads,
-        count as usize,
+        count,
     );
-    scan_code(answer)
+    scan_code(scan::scan_history(&history))
 }
 
 // Checks a marking file against the first `count` events: accepted, or the rule with its event and
@@ -215,7 +251,7 @@ pub fn sendoshi_check(
         threads.now) count
         file.now) }
 {
-    let answer = marking::check::check_marking(
+    let history = history_of(
         edition,
         starts,
         kinds,
@@ -223,10 +259,9 @@ pub fn sendoshi_check(
         registers,
         values,
         threads,
-        count as usize,
-        file,
+        count,
     );
-    check_code(answer)
+    check_code(marking::check::check_marking(&history, file))
 }
 
 // Straightens the read points of a marking file of the first `count` events, into output and list: how
@@ -254,7 +289,7 @@ pub fn sendoshi_straighten(
         threads.now) count
         file.now output.old moved.old).result }
 {
-    let answer = straighten::straighten(
+    let history = history_of(
         edition,
         starts,
         kinds,
@@ -262,12 +297,9 @@ pub fn sendoshi_straighten(
         registers,
         values,
         threads,
-        count as usize,
-        file,
-        output,
-        moved,
+        count,
     );
-    straighten_code(answer)
+    straighten_code(straighten::straighten(&history, file, output, moved))
 }
 
 // Counts the transactions that begin in the first `count` events, or gives the question and the event.
@@ -287,7 +319,7 @@ pub fn sendoshi_transactions(
         (columns kinds.now transactions.now registers.now values.now
         threads.now) count) }
 {
-    let answer = counts::count_transactions(
+    let history = history_of(
         edition,
         starts,
         kinds,
@@ -295,9 +327,9 @@ pub fn sendoshi_transactions(
         registers,
         values,
         threads,
-        count as usize,
+        count,
     );
-    count_code(answer)
+    number_code(counts::count_transactions(&history))
 }
 
 // Counts the store reads of the first `count` events, or gives the question and the event.
@@ -317,7 +349,7 @@ pub fn sendoshi_store_reads(
         (columns kinds.now transactions.now registers.now values.now
         threads.now) count) }
 {
-    let answer = counts::count_store_reads(
+    let history = history_of(
         edition,
         starts,
         kinds,
@@ -325,9 +357,9 @@ pub fn sendoshi_store_reads(
         registers,
         values,
         threads,
-        count as usize,
+        count,
     );
-    count_code(answer)
+    number_code(counts::count_store_reads(&history))
 }
 
 // Counts the committed, aborted, pending and live transactions of the first `count` events, or gives
@@ -348,7 +380,7 @@ pub fn sendoshi_tally(
         (columns kinds.now transactions.now registers.now values.now
         threads.now) count) }
 {
-    let answer = counts::tally_transactions(
+    let history = history_of(
         edition,
         starts,
         kinds,
@@ -356,9 +388,9 @@ pub fn sendoshi_tally(
         registers,
         values,
         threads,
-        count as usize,
+        count,
     );
-    tally_code(answer)
+    tally_code(counts::tally_transactions(&history))
 }
 
 // Finds the first note of a history's file whose record begins at the byte `from` or behind it, and tells how

@@ -12,9 +12,8 @@ use Rattle.events.specs.declared.event.Event.{Event}
 use Rattle.events.specs.Events.{event_at}
 use Rattle.records.specs.Bytes.{over}
 use Rattle.event_log.specs.Columns.{Columns, hold, filled_with, spilled}
-use Rattle.event_log.specs.Rows.{logged}
 use Rattle.event_log.proofs.ColumnLaws.{Held, hold-i}
-use Rattle.event_log.proofs.RowLaws.{logged-length, logged-more}
+use Rattle.event_log.proofs.RowLaws.{take-more}
 
 -- ---- one column, of a field f
 
@@ -93,18 +92,17 @@ filled-whole h before after w =
 -- ---- from a log
 
 -- the first i events of the log stand in the columns
-pub record Spilling (log : List (List ℕ)) (before after : Columns) (i : ℕ) : Type 0 where
+pub record Spilling (log : List Event) (before after : Columns) (i : ℕ) : Type 0 where
   pub within : i ≤ length log
-  pub columns : Filled (logged (take i log)) before after
+  pub columns : Filled (take i log) before after
 
-pub spilling-first : (log : List (List ℕ)) (c : Columns) → Spilling log c c 0
-unfolding logged
+pub spilling-first : (log : List Event) (c : Columns) → Spilling log c c 0
 spilling-first log c = record { within = omega arith; columns = filled_none c }
 
-module _ (log : List (List ℕ)) (before after : Columns) (i : ℕ) (room : Held before (length log)) (w : Spilling log before after i) where
-  pub spilling-more : i < length log → (e : Event) → e ≡ event_at (logged log) i → Spilling log before (put_at after i e) (i + 1)
+module _ (log : List Event) (before after : Columns) (i : ℕ) (room : Held before (length log)) (w : Spilling log before after i) where
+  pub spilling-more : i < length log → (e : Event) → e ≡ event_at log i → Spilling log before (put_at after i e) (i + 1)
   spilling-more l e p =
-      let n : i ≡ length (logged (take i log)) = omega (arith, logged-length (take i log), length-take i log) in
+      let n : i ≡ length (take i log) = omega (arith, length-take i log) in
       let h : Held before (suc i) = record {
         kinds = omega (arith, room.kinds);
         transactions = omega (arith, room.transactions);
@@ -112,8 +110,8 @@ module _ (log : List (List ℕ)) (before after : Columns) (i : ℕ) (room : Held
         values = omega (arith, room.values);
         threads = omega (arith, room.threads);
       } in
-      let s : logged (take (i + 1) log) ≡ logged (take i log) ++ (e ∷ []) = rw p (logged-more log i l) in
-      record { within = omega arith; columns = rw s (filled_more (logged (take i log)) before after e i n h w.columns) }
+      let s : take (i + 1) log ≡ take i log ++ (e ∷ []) = rw p (take-more log i l) in
+      record { within = omega arith; columns = rw s (filled_more (take i log) before after e i n h w.columns) }
 
   -- the columns are as long as they were
   pub spilling-room : Held after (length log)
@@ -127,12 +125,12 @@ module _ (log : List (List ℕ)) (before after : Columns) (i : ℕ) (room : Held
         threads = omega (arith, room.threads, f.threads.long);
       }
 
-  pub spilling-done : length log ≤ i → after ≡ spilled (logged log) before
+  pub spilling-done : length log ≤ i → after ≡ spilled log before
   spilling-done l =
       let e : i ≡ length log = omega (arith, w.within) in
-      filled-whole (logged log) before after (rw (e, take-length) at w.columns)
-      ∙ sym (rw (logged-length log, hold-i before (length log) room))
+      filled-whole log before after (rw (e, take-length) at w.columns)
+      ∙ sym (rw (hold-i before (length log) room))
 
 -- and where they have no room they stay
-pub spilled-not : (log : List (List ℕ)) (c : Columns) → hold c (length log) ≡ false → c ≡ spilled (logged log) c
-spilled-not log c h = sym (rw (logged-length log, h))
+pub spilled-not : (log : List Event) (c : Columns) → hold c (length log) ≡ false → c ≡ spilled log c
+spilled-not log c h = sym (rw h)

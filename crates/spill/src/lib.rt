@@ -3,15 +3,14 @@
 
 ghost use Rattle.std.specs.Prelude.{◌≡◌, length};
 ghost use Rattle.event_log.specs.Columns.{columns, hold, spilled};
-ghost use Rattle.event_log.specs.Rows.{logged};
 
-use event_log::columns::columns_hold;
-use event_log::rows::{Row, event_at};
+use event_log::columns::Columns;
+use events::event::Event;
 
 // Copies the events of a log into the first entries of the columns, if each column has an entry for
 // each event, and says whether they have; the other entries stay as they were.
 pub fn spill(
-    log: &[Row],
+    log: &[Event],
     kinds: &mut [u16],
     transactions: &mut [u16],
     registers: &mut [u16],
@@ -21,22 +20,26 @@ pub fn spill(
     ensures value { result ≡ hold (columns kinds.old transactions.old registers.old values.old
         threads.old) (length log.now) }
     ensures threads_after { columns kinds.new transactions.new registers.new values.new
-        threads.new ≡ spilled (logged log.now)
+        threads.new ≡ spilled log.now
         (columns kinds.old transactions.old registers.old values.old
         threads.old) }
 {
-    if !columns_hold(kinds, transactions, registers, values, threads, log.len()) {
+    let columns = Columns {
+        kinds,
+        transactions,
+        registers,
+        values,
+        threads,
+    };
+    if !columns.hold(log.len()) {
         return false;
     }
-    let mut i: usize = 0;
-    while i < log.len() {
-        let e = event_at(log, i);
+    for (i, e) in log.iter().enumerate() {
         kinds[i] = e.kind;
         transactions[i] = e.transaction;
         registers[i] = e.register;
         values[i] = e.value;
         threads[i] = e.thread;
-        i += 1;
     }
     true
 }

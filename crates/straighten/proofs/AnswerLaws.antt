@@ -10,8 +10,8 @@ use mathlib.Core.Option.{Option, none, some, get_or, none-ne-some, some-injectiv
 use lib.Dec.{eqb}
 use lib.ListN.{length, take}
 use Rattle.events.specs.declared.event.Event.{Event}
-use Rattle.event_log.specs.declared.admit.Checked.{Checked}
-use Rattle.event_log.specs.declared.admit.Checked.TheVariants.{Readable, Refused as Refuses}
+use Rattle.std.specs.Prelude.{Ok, Err}
+use Rattle.event_log.specs.Checked.{Checked}
 use Rattle.events.specs.declared.refusal.Refusal.{Refusal}
 use Rattle.events.specs.Said.{refuse}
 use Rattle.lists.specs.Lists.{◌and◌, all, lowest}
@@ -50,25 +50,25 @@ entry-not-15 : (edition : ℕ) (p : Past) (e : Event) → refusal (column_questi
 unfolding column_questions event_questions all ◌and◌
 entry-not-15 edition p e = not-asked 15 (column_questions edition p e) refl
 
-pub never-15 : (edition : ℕ) (starts : List ℕ) (c : Columns) (n e : ℕ) → history_answer edition starts c n ≡ Refuses (refuse 15 e) → ⊥
+pub never-15 : (edition : ℕ) (starts : List ℕ) (c : Columns) (n e : ℕ) → history_answer edition starts c n ≡ Err (refuse 15 e) → ⊥
 unfolding history_answer events_answer refused_at
 never-15 edition starts c n e x = held (hold c n) (admits edition starts) x
   where
-    at-event : (i : ℕ) (o : Option ℕ) → refused_at edition (history c n) i ≡ o → refused_with i o ≡ some (Refuses (refuse 15 e)) → ⊥
-    at-event i none w k = none-ne-some (Refuses (refuse 15 e)) k
+    at-event : (i : ℕ) (o : Option ℕ) → refused_at edition (history c n) i ≡ o → refused_with i o ≡ some (Err (refuse 15 e)) → ⊥
+    at-event i none w k = none-ne-some (Err (refuse 15 e)) k
     at-event i (some q) w k =
-        let s : Refuses (refuse q i) ≡ Refuses (refuse 15 e) = some-injective (Refuses (refuse q i)) (Refuses (refuse 15 e)) k in
+        let s : ◌≡◌ {A = Checked} (Err (refuse q i)) (Err (refuse 15 e)) = some-injective (Err (refuse q i)) (Err (refuse 15 e)) k in
         let b : refuse q i ≡ refuse 15 e = cc in
         let a : q ≡ 15 = ap (λ (r : Refusal). r.question) b in
         entry-not-15 edition (past (take i (history c n))) (event_at (history c n) i) (w ∙ ap some a)
 
-    events : (o : Option Checked) → lowest (λ i. refused_with i (refused_at edition (history c n) i)) (length (history c n)) ≡ o → get_or o Readable ≡ Refuses (refuse 15 e) → ⊥
+    events : (o : Option Checked) → lowest (λ i. refused_with i (refused_at edition (history c n) i)) (length (history c n)) ≡ o → get_or o (Ok tt) ≡ Err (refuse 15 e) → ⊥
     events none w k = let z : ◌≡◌ {A = ℕ} 0 1 = cc in omega arith
     events (some y) w k =
         let r : Lowest (λ i. refused_with i (refused_at edition (history c n) i)) (length (history c n)) y = lowest-some _ _ w in
         at-event r.at (refused_at edition (history c n) r.at) refl (r.answer ∙ ap some k)
 
-    held : (b a : Bool) → cond b (cond a (events_answer edition (history c n)) (Refuses (refuse 3 n))) (Refuses (refuse 17 n)) ≡ Refuses (refuse 15 e) → ⊥
+    held : (b a : Bool) → cond b (cond a (events_answer edition (history c n)) (Err (refuse 3 n))) (Err (refuse 17 n)) ≡ Err (refuse 15 e) → ⊥
     held true true k = events (lowest (λ i. refused_with i (refused_at edition (history c n) i)) (length (history c n))) refl k
     held true false k =
         let b : refuse 3 n ≡ refuse 15 e = cc in
@@ -92,11 +92,11 @@ pub record Done (edition : ℕ) (starts : List ℕ) (c : Columns) (n : ℕ) (fil
   pub entries : list' ≡ over (moved_events (start_of starts) (history c n) marking) list
 
 module _ (edition : ℕ) (starts : List ℕ) (c : Columns) (n : ℕ) (file output list : List ℕ) where
-  pub history-said : (r : Refusal) → history_answer edition starts c n ≡ Refuses r → straightened_answer edition starts c n file output list ≡ gives (Refused r) output list
+  pub history-said : (r : Refusal) → history_answer edition starts c n ≡ Err r → straightened_answer edition starts c n file output list ≡ gives (Refused r) output list
   unfolding straightened_answer
   history-said r x = rw x
 
-  pub marking-said : (q byte : ℕ) → history_answer edition starts c n ≡ Readable → file_read (known (history c n)) file ≡ refused q byte
+  pub marking-said : (q byte : ℕ) → history_answer edition starts c n ≡ Ok tt → file_read (known (history c n)) file ≡ refused q byte
       → straightened_answer edition starts c n file output list ≡ gives (MarkingRefused (refuse q byte)) output list
   unfolding straightened_answer
   marking-said q byte x y = rw (x, y)
@@ -137,9 +137,9 @@ module _ (edition : ℕ) (starts : List ℕ) (c : Columns) (n : ℕ) (file outpu
   Tells (Broken q i t) o s =
       ((m : Marking) × Passes edition starts c n file output list m × (verdict (start_of starts) (history c n) (straightened (start_of starts) (history c n) m) ≡ Breaks q i t))
       × (o ≡ output) × (s ≡ list)
-  Tells (Refused r) o s = ((history_answer edition starts c n ≡ Refuses r) ⊎ (Short edition starts c n file output list × (r ≡ refuse 15 n))) × (o ≡ output) × (s ≡ list)
+  Tells (Refused r) o s = ((history_answer edition starts c n ≡ Err r) ⊎ (Short edition starts c n file output list × (r ≡ refuse 15 n))) × (o ≡ output) × (s ≡ list)
   Tells (MarkingRefused r) o s =
-      ((history_answer edition starts c n ≡ Readable) × (file_read (known (history c n)) file ≡ refused r.question r.at))
+      ((history_answer edition starts c n ≡ Ok tt) × (file_read (known (history c n)) file ≡ refused r.question r.at))
       × (o ≡ output) × (s ≡ list)
 
   TellsOf : Given → Type 0
@@ -154,19 +154,19 @@ module _ (edition : ℕ) (starts : List ℕ) (c : Columns) (n : ℕ) (file outpu
       rules m p Accepted v = record { marking = m; passes = p; accepted = v; size = refl; count = refl; bytes = refl; entries = refl }
       rules m p (Breaks q i t) v = ((m, p, v), refl, refl)
 
-      buffers : (fine : history_answer edition starts c n ≡ Readable) (m : Marking) (holds : file_read (known (history c n)) file ≡ content m) (b : Bool) → roomy (history c n) file output list ≡ b
+      buffers : (fine : history_answer edition starts c n ≡ Ok tt) (m : Marking) (holds : file_read (known (history c n)) file ≡ content m) (b : Bool) → roomy (history c n) file output list ≡ b
           → TellsOf (cond b (judged (start_of starts) (history c n) m output list) (gives (Refused (refuse 15 n)) output list))
       buffers fine m holds true r = rules m (record { fine = fine; holds = holds; room = r }) (verdict (start_of starts) (history c n) (straightened (start_of starts) (history c n) m)) refl
       buffers fine m holds false r = (inr (record { fine = fine; marking = m; holds = holds; room = r }, refl), refl, refl)
 
-      marking : (fine : history_answer edition starts c n ≡ Readable) (x : FileRead) → file_read (known (history c n)) file ≡ x
+      marking : (fine : history_answer edition starts c n ≡ Ok tt) (x : FileRead) → file_read (known (history c n)) file ≡ x
           → TellsOf (after_file (start_of starts) (history c n) n file output list x)
       marking fine (content m) e = buffers fine m e (roomy (history c n) file output list) refl
       marking fine (refused q byte) e = ((fine, e), refl, refl)
 
       columns : (x : Checked) → history_answer edition starts c n ≡ x → TellsOf (after_columns (start_of starts) (history c n) n file output list x)
-      columns Readable e = marking e (file_read (known (history c n)) file) refl
-      columns (Refuses r) e = (inl e, refl, refl)
+      columns (Ok tt) e = marking e (file_read (known (history c n)) file) refl
+      columns (Err r) e = (inl e, refl, refl)
 
   pub answer-means : (r : Straightening) → (straightened_answer edition starts c n file output list).result ≡ r
       → Tells r (straightened_answer edition starts c n file output list).output (straightened_answer edition starts c n file output list).list

@@ -8,6 +8,7 @@ use native.Mathlib.Omega.{arith}
 use mathlib.Core.Path.{◌≡◌, refl, sym, ap, ap₂, ◌∙◌}
 use mathlib.Core.Bool.{Bool, true, false, not, cond}
 use mathlib.Core.List.{List, [], ◌∷◌, map}
+use Rattle.std.specs.Prelude.{Option}
 use lib.Dec.{eqb, leb}
 use lib.ListN.{length, get_or}
 use borrow.Author.Tests.{ne_eqb, le-leb}
@@ -19,9 +20,9 @@ use Rattle.opacity.specs.Transactions.{is_store_read, store_reads}
 use Rattle.opacity.specs.Marking.{Marking, ReadableFor, gap_of, place_of}
 use Rattle.opacity.proofs.Finder.{events-of}
 use Rattle.lists.specs.Filled.{Front}
-use Rattle.links.specs.Tables.{Tabled}
-use Rattle.links.specs.Registers.{Sets}
-use Rattle.links.specs.declared.tables.Fact.TheVariants.{LastWrite}
+use Rattle.links.specs.declared.tables.Transaction.{Transaction}
+use Rattle.links.specs.Tables.{AllTabled}
+use Rattle.rules.specs.declared.places.Writer.{Writer}
 use Rattle.rules.specs.Orders.{Inverse, Writers}
 use Rattle.rules.specs.Walks.{has_point, point_rule}
 use Rattle.rules.specs.Judge.{content, Judgeable}
@@ -57,13 +58,12 @@ arrays-readable {h} {gaps = gaps} y =
     low [] a = refl
     low (x ∷ xs) a = and_i _ _ (le-leb _ _ (y.gaps-fit x (read-inside h x (and_l _ _ a)) (and_l _ _ a))) (low xs (and_r _ _ a))
 
-module _ {h : List Event} {link order outcomes gaps : List ℕ} (y : Judgeable h link order outcomes gaps) where
+module _ {h : List Event} {link : List (Option ℕ)} {order outcomes gaps : List ℕ} (y : Judgeable h link order outcomes gaps) where
   abbrev m : Marking
   m = content h order outcomes gaps
 
-  module _ {k : ℕ} (ek : k ≡ begins h) {place : List ℕ} (inverse : Inverse order k place) {last registers : List ℕ} {writers : List (List ℕ)}
-      (lasts : Tabled LastWrite h last) (sets : Sets h (length h) registers)
-      (table : Writers order outcomes last registers k writers) (start : ℕ → ℕ)
+  module _ {k : ℕ} (ek : k ≡ begins h) {place : List ℕ} (inverse : Inverse order k place) {tables : List Transaction} {writers : List Writer}
+      (tabled : AllTabled h tables) (table : Writers order outcomes tables k writers) (start : ℕ → ℕ)
       {moves : List Bool} (moving : Front false (breaks_by (point_rule start h link writers place gaps)) (length h) moves)
       {straight : List ℕ} (straightening : Front 0 (gap_by h place moves gaps) (length h) straight) where
     readable-now : ReadableFor h m
@@ -74,7 +74,7 @@ module _ {h : List Event} {link order outcomes gaps : List ℕ} (y : Judgeable h
     moved_same : (i : ℕ) → i < length h → get_or moves i false ≡ not (kept_at start h m i)
     moved_same i l =
         moving.holds i l
-        ∙ ap₂ (λ (a b : Bool). not (a and b)) (d-same y ek inverse lasts sets table start i l) (e-same y ek inverse lasts sets table start i l)
+        ∙ ap₂ (λ (a b : Bool). not (a and b)) (d-same y ek inverse tabled table start i l) (e-same y ek inverse tabled table start i l)
 
     -- the events that the table lists are those that the definition moves
     listed_same : listed moves (length h) ≡ moved_events start h m

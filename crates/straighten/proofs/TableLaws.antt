@@ -1,25 +1,18 @@
--- Two tests one after the other, and what is put into the list one event more at a time.
+-- What is put into the list one event more at a time, and tables filled from the front.
 -- Assumes nothing.
-use Prim.Native.Nat.{ℕ, suc, ◌+◌, ◌≤◌}
-use mathlib.Core.Path.{◌≡◌, refl, sym, ap, ◌∙◌}
-use mathlib.Core.Bool.{Bool, true, false, not}
+use Prim.Native.Nat.{ℕ, suc, ◌+◌, ◌≤◌, ◌<◌}
+use native.Mathlib.Omega.{arith}
+use mathlib.Core.Path.{◌≡◌, refl, ◌∙◌}
+use mathlib.Core.Bool.{Bool, false}
 use mathlib.Core.List.{List, [], ◌∷◌, ◌++◌, append_assoc}
 use lib.ListN.{length, get_or, take, drop, set}
 use lib.Seq.{sets-eq}
 use Rattle.records.specs.Bytes.{placed}
-use Rattle.lists.specs.Lists.{◌and◌, push, keep, range}
+use Rattle.lists.specs.Lists.{push, keep, range}
 use Rattle.lists.proofs.ListLaws.{keep_append}
+use Rattle.lists.specs.Filled.{Front}
+use Rattle.std.proofs.Common.{below_more}
 use Rattle.straighten.specs.Tables.{listed}
-
--- ---- two tests, one after the other
-
-pub first-fails : (a b x : Bool) → x ≡ a → x ≡ false → true ≡ not (a and b)
-unfolding ◌and◌
-first-fails a b x e f = let z : a ≡ false = sym e ∙ f in rw z
-
-pub second-tells : (a b x y : Bool) → x ≡ a → x ≡ true → y ≡ b → not y ≡ not (a and b)
-unfolding ◌and◌
-second-tells a b x y e f g = let z : a ≡ true = sym e ∙ f in rw z (ap not g)
 
 -- ---- what is put into the list, one run more
 
@@ -38,3 +31,8 @@ module _ (moves : List Bool) where
 
 pub placed_one : (d : List ℕ) (at v : ℕ) → at + 1 ≤ length d → set d at v ≡ placed d at (v ∷ [])
 placed_one d at v h = sets-eq (v ∷ []) d at h ∙ append_assoc (take at d) (v ∷ []) (drop (at + 1) d)
+
+-- ---- a table from the front, where the next entry stands already
+
+pub front-keep : {A : Type 0} (d : A) (f : ℕ → A) (i : ℕ) (table : List A) → i < length table → get_or table i d ≡ f i → Front d f i table → Front d f (i + 1) table
+front-keep d f i table l e w = record { room = omega arith; holds = below_more (λ k. get_or table k d ≡ f k) i w.holds e }

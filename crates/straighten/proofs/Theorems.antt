@@ -10,8 +10,8 @@ use mathlib.Core.Bool.{Bool, true, false, cond}
 use mathlib.Core.List.{List, [], ◌∷◌}
 use lib.ListN.{length, take, drop}
 use Rattle.events.specs.declared.event.Event.{Event}
-use Rattle.event_log.specs.declared.admit.Checked.{Checked}
-use Rattle.event_log.specs.declared.admit.Checked.TheVariants.{Readable, Refused as Refuses}
+use Rattle.std.specs.Prelude.{Ok, Err}
+use Rattle.event_log.specs.Checked.{Checked}
 use Rattle.events.specs.declared.refusal.Refusal.{Refusal}
 use Rattle.events.specs.Said.{done as is_done, broken, at_event, at_byte, refuse}
 use Rattle.records.specs.Bytes.{Bytes, over}
@@ -29,7 +29,6 @@ use Rattle.opacity.specs.Justification.{Justified}
 use Rattle.opacity.specs.Marking.{Marking, ReadableFor, marking_bytes, verdict, rule_number}
 use Rattle.opacity.proofs.VerdictLaws.{same-rule}
 use Rattle.opacity.proofs.Rules.{justified-accepted}
-use Rattle.marking.specs.declared.check.Checking.TheVariants.{Ruled}
 use Rattle.marking_reader.specs.File.{known, FileRead, content, refused, file_read}
 use Rattle.marking.specs.Answer.{verdict_answer}
 use Rattle.marking_reader.proofs.ContentLaws.{content-readable}
@@ -57,14 +56,14 @@ module _ (edition : ℕ) (starts : List ℕ) (c : Columns) (n : ℕ) (file outpu
   -- ---- which answer comes when
 
   -- 17, 3 of the start values or an event's own question comes before all else, with its event, for 17 and 3 the count; 15 is not among them.
-  pub history-refused : (r : Refusal) → (r.question ≡ 15 → ⊥) → (given.result ≡ Refused r) ↔ (history_answer edition starts c n ≡ Refuses r)
+  pub history-refused : (r : Refusal) → (r.question ≡ 15 → ⊥) → (given.result ≡ Refused r) ↔ (history_answer edition starts c n ≡ Err r)
   history-refused r u = (
     λ x. ⊎_elim (λ a. a) (λ b. absurd (u (ap (λ (y : Refusal). y.question) b.1))) (answer-means edition starts c n file output list (Refused r) x).0,
     λ x. ap (λ (g : Given). g.result) (history-said edition starts c n file output list r x),
   )
 
   -- Then the marking's questions, with the byte.
-  pub marking-refused : (q byte : ℕ) → (given.result ≡ MarkingRefused (refuse q byte)) ↔ ((history_answer edition starts c n ≡ Readable) × (file_read (known events) file ≡ refused q byte))
+  pub marking-refused : (q byte : ℕ) → (given.result ≡ MarkingRefused (refuse q byte)) ↔ ((history_answer edition starts c n ≡ Ok tt) × (file_read (known events) file ≡ refused q byte))
   marking-refused q byte = (
     λ x. (answer-means edition starts c n file output list (MarkingRefused (refuse q byte)) x).0,
     λ w. ap (λ (g : Given). g.result) (marking-said edition starts c n file output list q byte w.0 w.1),
@@ -119,7 +118,7 @@ module _ (edition : ℕ) (starts : List ℕ) (c : Columns) (n : ℕ) (file outpu
     )
 
     -- for A, B and C that on the file given,
-    pub order-rule-exactly : (q : Rule) → rule_number q < 4 → (i t : ℕ) → (given.result ≡ Broken q i t) ↔ (verdict_answer edition starts c n file ≡ Ruled (Breaks q i t))
+    pub order-rule-exactly : (q : Rule) → rule_number q < 4 → (i t : ℕ) → (given.result ≡ Broken q i t) ↔ (verdict_answer edition starts c n file ≡ Ok (Breaks q i t))
     order-rule-exactly q l i t =
         let a = broken-exactly q i t in
         let b = order-rules-same (start_of starts) events m q l i t in
@@ -138,7 +137,7 @@ module _ (edition : ℕ) (starts : List ℕ) (c : Columns) (n : ℕ) (file outpu
         (λ x. b.0 (a.0 x), λ w. a.1 (b.1 w))
 
   -- A file that the checker accepts comes back byte by byte, with nothing moved.
-  pub accepted-back : verdict_answer edition starts c n file ≡ Ruled Accepted → Bytes file → roomy events file output list ≡ true
+  pub accepted-back : verdict_answer edition starts c n file ≡ Ok Accepted → Bytes file → roomy events file output list ≡ true
       → given ≡ gives (Straightened (length file) 0) (over file output) list
   accepted-back x by room =
       let j = (accepted-iff edition starts c n file).0 x in
@@ -167,11 +166,11 @@ module _ (edition : ℕ) (starts : List ℕ) (c : Columns) (n : ℕ) (file outpu
       ap (drop l) done.entries ∙ drop-over (moved_events (start_of starts) events done.marking) list l done.count,
     )
 
-    pub written-accepted : verdict_answer edition starts c n (take k given.output) ≡ Ruled Accepted
+    pub written-accepted : verdict_answer edition starts c n (take k given.output) ≡ Ok Accepted
     written-accepted =
         ap (verdict_answer edition starts c n) bytes-written
         ∙ bytes-judged edition starts c n (straightened (start_of starts) events done.marking) done.passes.fine written-readable
-        ∙ ap Ruled done.accepted
+        ∙ (λ i. Ok (done.accepted i))
 
     pub written : Bytes file → Written edition starts c n file output list k l
     written by =
@@ -270,7 +269,7 @@ module _ (edition : ℕ) (starts : List ℕ) (c : Columns) (n : ℕ) (file outpu
 
   -- a question about history or buffers with its event, 15 with the count,
   pub refused-said : (q e : ℕ) → (said result ≡ at_event q e)
-      ↔ ((history_answer edition starts c n ≡ Refuses (refuse q e)) ⊎ (Short edition starts c n file output list × (refuse q e ≡ refuse 15 n)))
+      ↔ ((history_answer edition starts c n ≡ Err (refuse q e)) ⊎ (Short edition starts c n file output list × (refuse q e ≡ refuse 15 n)))
   unfolding said
   refused-said q e = (
     λ x. (answer-means edition starts c n file output list (Refused (refuse q e)) (said-refused result q e x)).0,
@@ -282,7 +281,7 @@ module _ (edition : ℕ) (starts : List ℕ) (c : Columns) (n : ℕ) (file outpu
   )
 
   -- and one about the marking with its byte.
-  pub unread-said : (q b : ℕ) → (said result ≡ at_byte q b) ↔ ((history_answer edition starts c n ≡ Readable) × (file_read (known (history c n)) file ≡ refused q b))
+  pub unread-said : (q b : ℕ) → (said result ≡ at_byte q b) ↔ ((history_answer edition starts c n ≡ Ok tt) × (file_read (known (history c n)) file ≡ refused q b))
   unfolding said
   unread-said q b = (
     λ x. (marking-refused edition starts c n file output list q b).0 (said-unread result q b x),
@@ -296,8 +295,8 @@ module _ (edition : ℕ) (starts : List ℕ) (c : Columns) (n : ℕ) (file outpu
 module _ (start : ℕ → ℕ) (h : List Event) (n : ℕ) (file output list before marks : List ℕ) (same : roomy h file output list ≡ roomy h file before marks) where
   result-same : (x : Checked) → (after_columns start h n file output list x).result ≡ (after_columns start h n file before marks x).result
   unfolding judged
-  result-same (Refuses r) = refl
-  result-same Readable = content-same (file_read (known h) file)
+  result-same (Err r) = refl
+  result-same (Ok tt) = content-same (file_read (known h) file)
     where
       rules-same : (bytes moved : List ℕ) (v : Verdict) → (after_verdict bytes moved output list v).result ≡ (after_verdict bytes moved before marks v).result
       rules-same m moved Accepted = refl

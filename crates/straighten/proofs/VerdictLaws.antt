@@ -13,8 +13,6 @@ use borrow.Author.Tests.{leb-true}
 use Rattle.events.specs.declared.event.Event.{Event}
 use Rattle.lists.specs.Lists.{◌and◌}
 use Rattle.records.specs.Bytes.{Bytes}
-use Rattle.event_log.specs.Rows.{logged}
-use Rattle.event_log.proofs.RowLaws.{logged-length}
 use Rattle.events.specs.Events.{begins}
 use Rattle.events.specs.Said.{refuse}
 use Rattle.lists.proofs.ListLaws.{and_l, and_r}
@@ -22,7 +20,6 @@ use Rattle.opacity.specs.declared.verdict.Verdict.{Verdict}
 use Rattle.opacity.specs.Transactions.{is_store_read, store_reads}
 use Rattle.opacity.specs.Marking.{Marking, ReadableFor, marking_bytes, verdict}
 use Rattle.opacity.proofs.MarkingBytes.{readable-length}
-use Rattle.links.proofs.LogLaws.{in-history}
 use Rattle.rules.specs.Judge.{content as in_arrays}
 use Rattle.marking_reader.specs.File.{known, content, file_read}
 use Rattle.marking_reader.specs.State.{Kept}
@@ -38,33 +35,33 @@ use Rattle.straighten.proofs.MoveLaws.{arrays-readable}
 
 -- ---- bytes and room
 
-module _ (log : List (List ℕ)) {b : ℕ} (count : b ≡ begins (logged log)) {order outcomes gaps : List ℕ}
-    (kept : Kept (logged log) order outcomes gaps) (room : length log ≤ length gaps) where
+module _ (log : List Event) {b : ℕ} (count : b ≡ begins log) {order outcomes gaps : List ℕ}
+    (kept : Kept log order outcomes gaps) (room : length log ≤ length gaps) where
   abbrev gaps_of : List ℕ
   gaps_of = take (length log) gaps
 
   -- what is written is the marking in the arrays,
-  pub bytes_same : bytes_in order outcomes b gaps_of ≡ marking_bytes (in_arrays (logged log) order outcomes gaps)
+  pub bytes_same : bytes_in order outcomes b gaps_of ≡ marking_bytes (in_arrays log order outcomes gaps)
   unfolding marking_bytes in_arrays store_reads
   bytes_same =
       let n = length log in
-      let store = is_store_read (logged log) in
+      let store = is_store_read log in
       let front : (i : ℕ) → i < n → get_or gaps_of i 0 ≡ get_or gaps i 0 = λ i l. get_or-take n gaps i 0 l in
       let points : points_in gaps_of (length gaps_of) ≡ points_to store (λ i. get_or gaps i 0) n =
       ap (points_in gaps_of) (length-take-le n gaps room)
       ∙ points-same (λ i. is_gap (get_or gaps_of i 0)) store (λ i. get_or gaps_of i 0) (λ i. get_or gaps i 0) n
-      (λ i l. ap is_gap (front i l) ∙ sym (kept.pointed i (in-history log l))) (λ i l s. front i l) in
-      rw (count, points, logged-length log, points-are store (λ i. get_or gaps i 0) n)
+      (λ i l. ap is_gap (front i l) ∙ sym (kept.pointed i l)) (λ i l s. front i l) in
+      rw (count, points, points-are store (λ i. get_or gaps i 0) n)
 
   -- for which there is room
-  pub bytes_fit : {output list : ℕ} → Room (logged log) output list → length (bytes_in order outcomes b gaps_of) ≤ output
+  pub bytes_fit : {output list : ℕ} → Room log output list → length (bytes_in order outcomes b gaps_of) ≤ output
   bytes_fit room =
-      let read = readable-length (logged log) (in_arrays (logged log) order outcomes gaps) (arrays-readable kept) in
+      let read = readable-length log (in_arrays log order outcomes gaps) (arrays-readable kept) in
       omega (arith, room.bytes, ap length bytes_same, read)
 
-pub listed-counted : (log : List (List ℕ)) (gaps : List ℕ) (moves : List Bool) → length log ≤ length gaps
-    → listed moves (length (take (length log) gaps)) ≡ listed moves (length (logged log))
-listed-counted log gaps moves room = ap (listed moves) (length-take-le (length log) gaps room ∙ sym (logged-length log))
+pub listed-counted : (log : List Event) (gaps : List ℕ) (moves : List Bool) → length log ≤ length gaps
+    → listed moves (length (take (length log) gaps)) ≡ listed moves (length log)
+listed-counted log gaps moves room = ap (listed moves) (length-take-le (length log) gaps room)
 
 -- ---- the answer
 

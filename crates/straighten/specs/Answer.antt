@@ -1,9 +1,8 @@
 -- To be believed: the answer of the straightening: the questions of the checker, then 15, then the verdict on the straightened marking.
 -- Assumes nothing.
-use Rattle.std.specs.Prelude.{ℕ, ◌≡◌, Bool, true, false, cond, List, [], ◌∷◌, leb, length}
+use Rattle.std.specs.Prelude.{ℕ, ◌≡◌, Bool, true, false, cond, List, [], ◌∷◌, Ok, Err, leb, length}
 use Rattle.events.specs.declared.event.Event.{Event}
-use Rattle.event_log.specs.declared.admit.Checked.{Checked}
-use Rattle.event_log.specs.declared.admit.Checked.TheVariants.{Readable, Refused as Refuses}
+use Rattle.event_log.specs.Checked.{Checked}
 use Rattle.lists.specs.Lists.{◌and◌}
 use Rattle.records.specs.Bytes.{over}
 use Rattle.event_log.specs.Columns.{Columns, history}
@@ -50,8 +49,8 @@ after_file start h n file output list (refused q byte) = gives (MarkingRefused (
 after_file start h n file output list (content m) = cond (roomy h file output list) (judged start h m output list) (gives (Refused (refuse 15 n)) output list)
 
 abbrev pub after_columns : (ℕ → ℕ) → List Event → ℕ → List ℕ → List ℕ → List ℕ → Checked → Given
-after_columns start h n file output list (Refuses r) = gives (Refused r) output list
-after_columns start h n file output list Readable = after_file start h n file output list (file_read (known h) file)
+after_columns start h n file output list (Err r) = gives (Refused r) output list
+after_columns start h n file output list (Ok u) = after_file start h n file output list (file_read (known h) file)
 
 -- 17, 3 of the edition and the start values, and each event's own questions, then the marking's, then 15 with the count, then the rules
 unfoldable pub straightened_answer : ℕ → List ℕ → Columns → ℕ → List ℕ → List ℕ → List ℕ → Given
@@ -71,13 +70,13 @@ said (MarkingRefused r) = byte_refused r
 
 -- no question refuses the call, and m is what the file holds
 pub record Passes (edition : ℕ) (starts : List ℕ) (c : Columns) (n : ℕ) (file output list : List ℕ) (m : Marking) : Type 0 where
-  pub fine : history_answer edition starts c n ≡ Readable
+  pub fine : history_answer edition starts c n ≡ Ok tt
   pub holds : file_read (known (history c n)) file ≡ content m
   pub room : roomy (history c n) file output list ≡ true
 
 -- 15: history and file are readable, and the output or the list is too short
 pub record Short (edition : ℕ) (starts : List ℕ) (c : Columns) (n : ℕ) (file output list : List ℕ) : Type 0 where
-  pub fine : history_answer edition starts c n ≡ Readable
+  pub fine : history_answer edition starts c n ≡ Ok tt
   pub marking : Marking
   pub holds : file_read (known (history c n)) file ≡ content marking
   pub room : roomy (history c n) file output list ≡ false

@@ -1,12 +1,11 @@
 -- To be believed: the words of the theorems about what the straightening writes.
 -- Assumes nothing.
-use Rattle.std.specs.Prelude.{ℕ, ◌≡◌, List, length, take, drop}
+use Rattle.std.specs.Prelude.{ℕ, ◌≡◌, List, Ok, length, take, drop}
 use Rattle.event_log.specs.Columns.{Columns, history}
 use Rattle.event_log.specs.Starts.{start_of}
 use Rattle.opacity.specs.declared.verdict.Verdict.TheVariants.{Accepted}
 use Rattle.opacity.specs.Justification.{Justified}
 use Rattle.opacity.specs.Marking.{Marking, ReadableFor, marking_bytes}
-use Rattle.marking.specs.declared.check.Checking.TheVariants.{Ruled}
 use Rattle.marking.specs.Answer.{verdict_answer}
 use Rattle.straighten.specs.Straight.{Rises, straightened, moved_events}
 use Rattle.straighten.specs.Answer.{straightened_answer, Passes}
@@ -24,4 +23,4 @@ pub record Written (edition : ℕ) (starts : List ℕ) (c : Columns) (n : ℕ) (
   pub behind_moved : drop l (straightened_answer edition starts c n file output list).list ≡ drop l list
   pub rising : Rises (take l (straightened_answer edition starts c n file output list).list)
   pub readable : ReadableFor (history c n) (straightened (start_of starts) (history c n) marking)
-  pub accepted : verdict_answer edition starts c n (take k (straightened_answer edition starts c n file output list).output) ≡ Ruled Accepted
+  pub accepted : verdict_answer edition starts c n (take k (straightened_answer edition starts c n file output list).output) ≡ Ok Accepted

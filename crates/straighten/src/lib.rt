@@ -5,20 +5,18 @@
 // writes (proofs/Theorems). A point that stays is judged twice, by itself and with all the others.
 #![tactic(auto)]
 
-ghost use Rattle.std.specs.Prelude.{◌≡◌, true, ◌+◌, ◌*◌, ◌-◌, ◌/◌, ◌≤◌, leb, length, take};
+ghost use Rattle.std.specs.Prelude.{◌≡◌, true, ◌+◌, ◌*◌, ◌-◌, ◌/◌, ◌≤◌, leb, length};
 ghost use Rattle.lists.specs.Lists.{◌and◌};
 ghost use Rattle.events.specs.Questions.{readable};
-ghost use Rattle.events.specs.Said.{refuse};
-ghost use Rattle.event_log.specs.Columns.{columns};
-ghost use Rattle.event_log.specs.Rows.{logged, Entered};
+ghost use Rattle.event_log.specs.Lent.{columns_of};
+ghost use Rattle.event_log.specs.Rows.{IsRoom};
 ghost use Rattle.event_log.specs.Starts.{start_of};
 ghost use Rattle.opacity.specs.Marking.{verdict};
 ghost use Rattle.rules.specs.Judge.{content};
 ghost use Rattle.marking_reader.specs.File.{known, file_read};
-ghost use Rattle.marking_reader.specs.State.{Asking, Kept};
+ghost use Rattle.marking_reader.specs.State.{Kept};
 ghost use Rattle.marking_writer.specs.Whole.{bytes_in};
-ghost use Rattle.straighten.specs.declared.Straightening.TheVariants.{Refused};
-ghost use Rattle.straighten.specs.Answer.{gives, after_verdict, after_file, after_columns, straightened_answer};
+ghost use Rattle.straighten.specs.Answer.{gives, after_verdict, after_file, straightened_answer};
 ghost use Rattle.straighten.specs.Tables.{Moved, listed};
 
 mod list;
@@ -26,18 +24,22 @@ mod moves;
 
 use crate::list::list_moved;
 use crate::moves::{move_points, moves_of};
-use event_log::admit::{Checked, admit};
-use event_log::rows::{BLANK, MOST, Row, SHORT, transactions_begun};
+use event_log::admit::admit;
+use event_log::columns::History;
+use event_log::rows::{BLANK, MOST, SHORT, transactions_begun};
+use events::event::Event;
 use events::refusal::Refusal;
 use links::tables::tables_of;
 use links::writes::links;
 use marking_reader::read::read_marking;
+use marking_reader::step::MarkedLog;
 use marking_writer::write_marking;
 use opacity::verdict::{Rule, Verdict};
 use reads::{NO_POINT, own_writes};
 use records::record::Record;
 use rules::judge::{judge_after, judge_places};
 use rules::places::{places_of, writers_of};
+use rules::walk::Points;
 
 // The answer: the length of the marking written and the number of events moved; the rule that is
 // broken wherever the points are; the question that refuses the history or a lent buffer, with its
@@ -100,31 +102,45 @@ fn write_moved(
 // point that breaks D or E goes to its reader's place.
 fn judge_moved(
     starts: &[u32; 32],
-    log: &[Row],
-    own: &[u16],
-    begun: usize,
+    marked: &MarkedLog,
     order: &[u16; 64],
     outcomes: &[u8; 64],
     gaps: &mut [u16],
     moves: &mut [bool],
 ) -> Verdict
-    requires asking { Asking log.now own.now begun }
-    requires kept { Kept (logged log.now) order.now outcomes.now gaps.old }
-    requires log_in_bounds { length log.now ≤ length moves.old }
-    ensures value { result ≡ verdict (start_of starts.now) (logged log.now)
-        (content (logged log.now) order.now outcomes.now gaps.new) }
-    ensures moved { Moved (start_of starts.now) (logged log.now) order.now outcomes.now
+    requires kept { Kept marked.now.log.now order.now outcomes.now gaps.old }
+    requires log_in_bounds { length marked.now.log.now ≤ length moves.old }
+    ensures value { result ≡ verdict (start_of starts.now) marked.now.log.now
+        (content marked.now.log.now order.now outcomes.now gaps.new) }
+    ensures moved { Moved (start_of starts.now) marked.now.log.now order.now outcomes.now
         gaps.old gaps.new moves.new }
 {
-    let mut link = [0u16; MOST];
+    let log = marked.log;
+    let mut link = [None; MOST];
     links(log, &mut link);
-    let place = places_of(order, begun);
+    let place = places_of(order, marked.begun);
     let tables = tables_of(log);
-    let writers = writers_of(order, outcomes, tables, begun);
-    moves_of(starts, log, &link, &writers, &place, gaps, moves);
+    let writers = writers_of(order, outcomes, &tables, marked.begun);
+    let given = Points {
+        starts,
+        log,
+        link: &link,
+        writers: &writers,
+        place: &place,
+        gaps,
+    };
+    moves_of(&given, moves);
     move_points(log, &place, moves, gaps);
-    let placed = judge_places(log, tables, &place, outcomes, begun);
-    judge_after(placed, starts, log, own, &link, &writers, &place, gaps)
+    let placed = judge_places(log, &tables, &place, outcomes, marked.begun);
+    let moved = Points {
+        starts,
+        log,
+        link: &link,
+        writers: &writers,
+        place: &place,
+        gaps,
+    };
+    judge_after(placed, &moved, marked.own)
 }
 
 // Question 15, of a readable marking's length: is the output as long, and has the list an entry for every
@@ -133,135 +149,96 @@ fn has_room(marking: usize, begun: usize, output: usize, entries: usize) -> bool
     requires { (begun ≤ 64) × (6 + 8 * begun ≤ marking) }
     ensures { result ≡ (leb marking output and leb ((marking - (6 + 8 * begun)) / 10) entries) }
 {
-    if output < marking {
-        return false;
-    }
     let points = (marking - (Record::WHOLE_HEAD + Record::WHOLE_PLACE * begun))
         / Record::WHOLE_POINT;
-    points <= entries
-}
-
-// The answer that a question says no.
-fn refused(question: u8, at: usize) -> Straightening
-    ensures { result ≡ Refused (refuse question at) }
-{
-    Straightening::Refused(Refusal { question, at })
+    marking <= output && points <= entries
 }
 
 // Straightens the read points of a marking file for the readable history in a log: the marking's
 // questions, 15, and then the rules.
 pub fn straighten_log(
     starts: &[u32; 32],
-    log: &[Row],
+    log: &[Event],
     file: &[u8],
     output: &mut [u8],
     moved: &mut [u32],
 ) -> Straightening
-    requires { readable (logged log.now) ≡ true }
+    requires { readable log.now ≡ true }
     ensures { gives result output.new moved.new
-        ≡ after_file (start_of starts.now) (logged log.now) (length log.now)
+        ≡ after_file (start_of starts.now) log.now (length log.now)
         file.now output.old moved.old
-        (file_read (known (logged log.now)) file.now) }
+        (file_read (known log.now) file.now) }
 {
     let begun = transactions_begun(log);
     let mut own = [0u16; MOST];
     own_writes(log, &mut own);
+    let marked = MarkedLog {
+        log,
+        own: &own,
+        begun,
+    };
     let mut order = [0u16; 64];
     let mut outcomes = [0u8; 64];
     let mut gaps = [NO_POINT; MOST];
-    let read = read_marking(log, &own, begun, file, &mut order, &mut outcomes, &mut gaps);
-    if let Checked::Refused(refusal) = read {
+    if let Err(refusal) = read_marking(&marked, file, &mut order, &mut outcomes, &mut gaps) {
         return Straightening::MarkingRefused(refusal);
     }
     if !has_room(file.len(), begun, output.len(), moved.len()) {
-        return refused(15, log.len());
+        return Straightening::Refused(Refusal {
+            question: 15,
+            at: log.len(),
+        });
     }
     let mut moves = [false; MOST];
-    let verdict = judge_moved(
-        starts, log, &own, begun, &order, &outcomes, &mut gaps, &mut moves,
-    );
-    let count = log.len();
+    let verdict = judge_moved(starts, &marked, &order, &outcomes, &mut gaps, &mut moves);
     write_moved(
         verdict,
         begun,
         &order,
         &outcomes,
-        &gaps[..count],
+        &gaps[..log.len()],
         &moves,
         output,
         moved,
     )
 }
 
-// The answer for what was taken in: the question that refuses it, or the straightening for the first
-// rows.
-fn straighten_admitted(
-    starts: &[u32; 32],
-    checked: Checked,
-    rows: &[Row],
-    count: usize,
+// The straightening, by way of so many rows: the question that refuses the history, or the straightening
+// for the rows taken in.
+fn straighten_within<const N: usize>(
+    history: &History,
     file: &[u8],
     output: &mut [u8],
     moved: &mut [u32],
 ) -> Straightening
-    requires { Entered checked count rows.now }
+    requires rows { IsRoom history.now.count N }
+    requires few { N ≤ 2048 }
     ensures { gives result output.new moved.new
-        ≡ after_columns (start_of starts.now) (logged (take count rows.now)) count
-        file.now output.old moved.old checked }
+        ≡ straightened_answer history.now.edition history.now.starts.now
+        (columns_of history.now.columns) history.now.count file.now output.old moved.old }
 {
-    match checked {
-        Checked::Refused(refusal) => Straightening::Refused(refusal),
-        Checked::Readable => straighten_log(starts, &rows[..count], file, output, moved),
+    let mut rows = [BLANK; N];
+    match admit(history, &mut rows) {
+        Ok(()) => { straighten_log(history.starts, &rows[..history.count], file, output, moved) }
+        Err(refusal) => Straightening::Refused(refusal),
     }
 }
 
-// Straightens the read points of a marking file for the history in the first `count` entries of the
-// columns, of this edition and with these start values: the marking goes into the output, the moved
-// events, rising, into the list.
+// Straightens the read points of a marking file for a history: the marking goes into the output, the
+// moved events, rising, into the list. A short history does not pay for the rows of a long one.
 pub fn straighten(
-    edition: u16,
-    starts: &[u32; 32],
-    kinds: &[u16],
-    transactions: &[u16],
-    registers: &[u16],
-    values: &[u32],
-    threads: &[u16],
-    count: usize,
+    history: &History,
     file: &[u8],
     output: &mut [u8],
     moved: &mut [u32],
 ) -> Straightening
     ensures { gives result output.new moved.new
-        ≡ straightened_answer edition starts.now
-        (columns kinds.now transactions.now registers.now values.now threads.now)
-        count file.now output.old moved.old }
+        ≡ straightened_answer history.now.edition history.now.starts.now
+        (columns_of history.now.columns) history.now.count file.now output.old moved.old }
 {
-    if count <= SHORT {
-        let mut few = [BLANK; SHORT];
-        let checked = admit(
-            edition,
-            starts,
-            kinds,
-            transactions,
-            registers,
-            values,
-            threads,
-            count,
-            &mut few,
-        );
-        return straighten_admitted(starts, checked, &few, count, file, output, moved);
+    if history.count <= SHORT {
+        straighten_within::<SHORT>(history, file, output, moved)
+    } else {
+        straighten_within::<MOST>(history, file, output, moved)
     }
-    let mut rows = [BLANK; MOST];
-    let checked = admit(
-        edition,
-        starts,
-        kinds,
-        transactions,
-        registers,
-        values,
-        threads,
-        count,
-        &mut rows,
-    );
-    straighten_admitted(starts, checked, &rows, count, file, output, moved)
 }

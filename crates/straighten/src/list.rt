@@ -24,11 +24,9 @@ pub fn list_moved(moves: &[bool], count: usize, list: &mut [u32]) -> usize
     ensures list_after { list.new ≡ over (listed moves.now count) list.old }
     ensures value { result ≡ length (listed moves.now count) }
 {
-    let mut number: usize = 0;
-    let mut i: usize = 0;
-    while i < count {
+    let mut number = 0;
+    for i in 0..count {
         number = put_moved(list, number, moves[i], i as u32);
-        i += 1;
     }
     number
 }

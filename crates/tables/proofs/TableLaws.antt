@@ -4,28 +4,24 @@ use mathlib.Core.Path.{◌≡◌, refl, sym, ap, ap₂, ◌∙◌}
 use Prim.Native.Nat.{ℕ, ◌+◌, ◌<◌}
 use native.Mathlib.Numerals.{add-one}
 use mathlib.Core.List.{List, [], ◌∷◌, ◌++◌}
-use lib.ListN.{length, take, get_or}
-use lib.Seq.{take-suc, set-get_or}
+use lib.ListN.{length, take, get_or, set}
+use lib.Seq.{take-suc, set-set, set-get_or, get_or-set_same}
 use Rattle.events.specs.declared.event.Event.{Event}
-use mathlib.Core.Bool.{true, false}
+use mathlib.Core.Bool.{true}
 use Rattle.lists.specs.Lists.{◌and◌}
-use Rattle.events.specs.Events.{no_event, event_at, is_read, is_write, is_quiet}
+use Rattle.events.specs.Events.{no_event, event_at, is_quiet}
 use Rattle.events.proofs.KindLaws.{quiet}
 use Rattle.places.specs.Facts.{fact, put}
-use Rattle.tables.specs.Tables.{Tables, put_if, joined, contradicts, reads_store, read_with, written_with, rule_with, facts_with, next, empty, go_through, tables_of}
-
--- what does not read and does not write leaves the facts of reads and of writes, and contradicts nothing
-pub unread : (f : List (List ℕ)) (e : Event) → is_read e ≡ false → (read_with f e ≡ f) × (contradicts f e ≡ false)
-unfolding reads_store contradicts put_if ◌and◌
-unread f e n = (rw n, rw n)
-
-pub unwritten : (f : List (List ℕ)) (e : Event) → is_write e ≡ false → written_with f e ≡ f
-unfolding put_if
-unwritten f e n = rw n
+use Rattle.tables.specs.declared.Tables.{Tables}
+use Rattle.tables.specs.Tables.{put_if, joined, contradicts, reads_store, rule_with, next, empty, go_through, tables_of}
 
 -- what stands at a place, put there again, leaves the table
 put-again : (f : List (List ℕ)) (t k : ℕ) → put f t k (fact f t k) ≡ f
 put-again f t k = rw (set-get_or (get_or f t []) k 0) (set-get_or f t [])
+
+-- two numbers put into one row
+pub put_both : (f : List (List ℕ)) (t k j a b : ℕ) → t < length f → set f t (set (set (get_or f t []) k a) j b) ≡ put (put f t k a) t j b
+put_both f t k j a b l = rw (get_or-set_same f t (set (get_or f t []) k a) [] l, set-set f t (set (get_or f t []) k a) (set (set (get_or f t []) k a) j b))
 
 -- a quiet event leaves the tables
 pub quiet-stays : (s : Tables) (e : Event) → is_quiet e ≡ true → next s e ≡ s

@@ -7,18 +7,7 @@ use Rattle.lists.specs.Lists.{◌and◌}
 use Rattle.events.specs.declared.event.Event.{Event}
 use Rattle.events.specs.Events.{is_begin, is_read, is_write, asks_commit, is_commit, is_abort, is_end}
 use Rattle.places.specs.Facts.{end_row, put, after_of, allowed_of, reads_of, required_of, written_of}
-use Rattle.tables.specs.declared.Standing.{Standing}
-
--- the transactions that have ended, the facts that the search is told, and the transactions with a read that is wrong wherever they are
--- placed
-pub record Tables : Type 0 where
-  pub ended : ℕ
-  pub facts : List (List ℕ)
-  pub contradictory : ℕ
-
--- the tables, from the parts that the code has
-abbrev pub tables_by : Standing → List (List ℕ) → Tables
-tables_by s f = record { ended = s.ended; facts = f; contradictory = s.contradictory }
+use Rattle.tables.specs.declared.Tables.{Tables}
 
 -- the set, with t in it if it joins
 unfoldable pub joined : ℕ → Bool → ℕ → ℕ

@@ -1,18 +1,19 @@
 -- Laws of the witness: what the code computes of it is what the definitions say, and where it is kept it justifies one event more.
 -- Assumes nothing.
+use Rattle.std.specs.Prelude.{Option as Answer, Some, None}
 use mathlib.Core.Path.{◌≡◌, refl, sym, ap, ap₂, ◌∙◌}
 use Prim.Native.Nat.{ℕ, ◌+◌, ◌*◌, ◌-◌, ◌/◌, ◌%◌, ◌^◌, ◌≤◌, ◌<◌}
 use native.Mathlib.Nat.{le_of_lt}
 use native.Mathlib.Numerals.{add-one}
 use native.Mathlib.Omega.{arith}
-use mathlib.Core.Bool.{Bool, true, false, not, cond, false≢true}
+use mathlib.Core.Bool.{Bool, true, false, not, cond}
 use mathlib.Core.List.{List, [], ◌∷◌, ◌++◌}
 use mathlib.Core.Option.{Option, none, some, get_or}
 use lib.Dec.{eqb, ltb}
 use lib.ListN.{length, take}
 use lib.Pow.{pow-add, pow_mono}
 use borrow.Author.Tests.{eq-eqb, ne_eqb, ltb-true, lt-ltb}
-use Rattle.lists.specs.Lists.{◌or◌, ◌implies◌, all}
+use Rattle.lists.specs.Lists.{◌implies◌, all}
 use Rattle.events.specs.declared.event.Event.{Event}
 use Rattle.events.specs.Events.{event_at, is_begin, is_read, is_commit, is_abort, is_end, begins}
 use Rattle.event_log.specs.Starts.{start_of}
@@ -59,50 +60,22 @@ module _ (start : ℕ → ℕ) (w : List (List ℕ)) (J : List Place) (t r : ℕ
 
 -- ---- what an event leaves of the witness
 
-module _ (starts : List ℕ) (w : List (List ℕ)) (n order : ℕ) (e : Event) where
-  -- one that begins reads what its register holds after the order
-  module _ (b : is_begin e ≡ true) (code : ℕ) (its : code ≡ code_of e) where
-    pub kept-lone-read : is_read e ≡ true → (v x : ℕ) → v ≡ contents (start_of starts) (writes_in w) (decode (codes_of n order)) e.register → x ≡ e.value
-        → cond (eqb v x) (order * 32 + code) 0 ≡ kept starts w n order e
-    unfolding kept carries carried_code ◌implies◌
-    kept-lone-read r v x p q = rw (its, p, q, b, r)
-
-    pub kept-begin : is_read e ≡ false → order * 32 + code ≡ kept starts w n order e
-    unfolding kept carries carried_code ◌implies◌
-    kept-begin r = rw (its, b, r)
-
-  module _ (b : is_begin e ≡ false) where
-    pub kept_read : is_read e ≡ true → cond (eqb (seen (start_of starts) (writes_in w) (decode (codes_of n order)) e.transaction e.register) e.value) order 0 ≡ kept starts w n order e
-    unfolding kept carries carried_code
-    kept_read r = rw (b, r)
-
-    pub kept-end : is_read e ≡ false → is_end e ≡ true
-        → cond (cond (is_commit e) (outcome e.transaction (decode (codes_of n order))) (not (outcome e.transaction (decode (codes_of n order))))) order 0
-        ≡ kept starts w n order e
-    unfolding kept carries carried_code is_end ◌or◌
-    kept-end r t = rw (b, r) (go (is_commit e) (is_abort e) t)
-      where
-        go : (c a : Bool) → (c or a) ≡ true
-            → cond (cond c (outcome e.transaction (decode (codes_of n order))) (not (outcome e.transaction (decode (codes_of n order))))) order 0
-            ≡ cond (cond c (outcome e.transaction (decode (codes_of n order))) (cond a (not (outcome e.transaction (decode (codes_of n order)))) true)) order 0
-        go true a k = refl
-        go false true k = refl
-        go false false k = absurd (false≢true k)
-
-    pub kept-other : is_read e ≡ false → is_end e ≡ false → order ≡ kept starts w n order e
-    unfolding kept carries carried_code is_end
-    kept-other r t = rw (b, r, nor-l _ _ t, nor-r _ _ t)
+-- what begins, reads and ends nothing leaves the order
+pub kept-quiet : (starts : List ℕ) (w : List (List ℕ)) (n order : ℕ) (e : Event) → is_begin e ≡ false → is_read e ≡ false → is_end e ≡ false
+    → Some order ≡ kept starts w n order e
+unfolding kept carries carried_code is_end
+kept-quiet starts w n order e b r t = rw (b, r, nor-l _ _ t, nor-r _ _ t)
 
 -- there is room for one place more
 pub room-more : (n order : ℕ) → n < 10 → order < 2 ^ (n * 5 + 1) → order < 2 ^ 46
 room-more n order l h = let m : 2 ^ (n * 5 + 1) ≤ 2 ^ 46 = pow_mono {i = n * 5 + 1} {j = 46} (omega arith) in omega arith
 
 -- the order after an event: the one that was kept, or the answer of the search
-pub judged-kept : (kept n a : ℕ) (x : Completion) → (kept ≡ 0 → ⊥) → a ≡ kept → Judges kept n a x
-judged-kept kept n a x f e = record { stays = λ _. e; searched = λ z. absurd (f z) }
+pub judged-kept : {kept a : Answer ℕ} {n order : ℕ} {x : Completion} → kept ≡ Some order → a ≡ kept → Judges kept n a x
+judged-kept z e = record { stays = rw z (e ∙ z); searched = λ f. cc }
 
-pub judged-anew : (kept n a found : ℕ) (x : Completion) → kept ≡ 0 → a ≡ found → Answers n found x → Judges kept n a x
-judged-anew kept n a found x z e w = record { stays = λ f. absurd (f z); searched = λ _. rw e w }
+pub judged-anew : {kept a found : Answer ℕ} {n : ℕ} {x : Completion} → kept ≡ None → a ≡ found → Answers n found x → Judges kept n a x
+judged-anew z e w = record { stays = rw z tt; searched = λ f. rw e w }
 
 -- ---- the order, carried on
 
@@ -197,15 +170,15 @@ module _ (o : List ℕ) (h : List Event) (j : Judged h) (i : ℕ) (l : i < lengt
     seen_same t lt =
         rw (contents-same (before t J) (before-all _ t J few), q, last-held (take i h) (good (take i h) earlier.readable earlier.few) r lr t lt)
 
-  module _ (w : List (List ℕ)) (its : w ≡ (tables_of (take i h)).facts) (k : ℕ) (keeps : k ≡ kept o w begun order e) (some : k ≡ 0 → ⊥) where
+  module _ (w : List (List ℕ)) (its : w ≡ (tables_of (take i h)).facts) (k : ℕ) (keeps : Some k ≡ kept o w begun order e) where
     -- the order was kept
     was-kept : (carries (start_of o) (writes_in w) J e ≡ true) × (k ≡ carried_code order e)
     unfolding kept J
     was-kept = go (carries (start_of o) (writes_in w) (decode (codes_of begun order)) e) keeps
       where
-        go : (b : Bool) → k ≡ cond b (carried_code order e) 0 → (b ≡ true) × (k ≡ carried_code order e)
-        go true q = (refl, q)
-        go false q = absurd (some q)
+        go : (b : Bool) → Some k ≡ cond b (Some (carried_code order e)) None → (b ≡ true) × (k ≡ carried_code order e)
+        go true q = (refl, cc)
+        go false q = cc
 
     passes : carries (start_of o) (take i h) J e ≡ true
     unfolding carries

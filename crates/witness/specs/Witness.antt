@@ -1,7 +1,7 @@
 -- Vocabulary between crates: it need not be believed, the public contracts end in the paper's definitions.
 -- The witness: an order of places that justifies the events passed, as one number, carried on to one event more.
 -- Assumes nothing.
-use Rattle.std.specs.Prelude.{◌≡◌, ℕ, ◌+◌, ◌*◌, ◌^◌, ◌<◌, true, false, cond, List}
+use Rattle.std.specs.Prelude.{◌≡◌, ℕ, ◌+◌, ◌*◌, ◌^◌, ◌<◌, true, false, cond, List, Option, Some, None, IfSome}
 use Rattle.events.specs.declared.event.Event.{Event}
 use Rattle.events.specs.Events.{is_begin, is_commit}
 use Rattle.event_log.specs.Starts.{start_of}
@@ -19,9 +19,9 @@ code_of e = e.transaction * 2 + outcome_number (is_commit e)
 unfoldable pub carried_code : ℕ → Event → ℕ
 carried_code order e = cond (is_begin e) (order * 32 + code_of e) order
 
--- the order of n places with the event e, if it justifies e too, and else 0; f is the table of facts
-unfoldable pub kept : List ℕ → List (List ℕ) → ℕ → ℕ → Event → ℕ
-kept starts f n order e = cond (carries (start_of starts) (writes_in f) (decode (codes_of n order)) e) (carried_code order e) 0
+-- the order of n places with the event e, if it justifies e too; f is the table of facts
+unfoldable pub kept : List ℕ → List (List ℕ) → ℕ → ℕ → Event → Option ℕ
+kept starts f n order e = cond (carries (start_of starts) (writes_in f) (decode (codes_of n order)) e) (Some (carried_code order e)) None
 
 -- an order of n places and an event that may come next
 pub record Carryable (n order : ℕ) (e : Event) : Type 0 where
@@ -32,7 +32,7 @@ pub record Carryable (n order : ℕ) (e : Event) : Type 0 where
   pub another : is_begin e ≡ true → n < 10
   pub known : is_begin e ≡ false → e.transaction < n
 
--- the answer a is the order that was kept, or, where that is 0, the answer of the search
-pub record Judges (kept n a : ℕ) (x : Completion) : Type 0 where
-  pub stays : (kept ≡ 0 → ⊥) → a ≡ kept
-  pub searched : kept ≡ 0 → Answers n a x
+-- the answer a is the order that was kept, or, where none was, the answer of the search
+pub record Judges (kept : Option ℕ) (n : ℕ) (a : Option ℕ) (x : Completion) : Type 0 where
+  pub stays : IfSome kept (λ order. a ≡ Some order)
+  pub searched : kept ≡ None → Answers n a x

@@ -1,6 +1,6 @@
 -- To be believed: how a worked history is written down, and what may be said of it.
 -- Assumes nothing.
-use Rattle.std.specs.Prelude.{ℕ, Bool, true, false, List, [], ◌∷◌, ◌++◌, map, eqb, leb, length, replicate}
+use Rattle.std.specs.Prelude.{ℕ, Bool, true, false, List, [], ◌∷◌, ◌++◌, map, eqb, leb, length, replicate, Option as Answer, Some, None}
 use Rattle.std.proofs.Math.Option.{Option, none, some}
 use Rattle.lists.specs.Lists.{◌and◌, ◌or◌, all}
 use Rattle.events.specs.declared.event.Event.{Event}
@@ -10,17 +10,15 @@ use Rattle.event_log.specs.Columns.{Columns, columns, filled_with}
 use Rattle.events.specs.Said.{Said, done, nothing, faulted, broken, at_event, at_byte}
 use Rattle.event_log.specs.Answer.{history_answer, said}
 use Rattle.reader.specs.Reading.{read_answer, said as read_said}
-use Rattle.notes.specs.declared.NextNote.{NextNote}
-use Rattle.notes.specs.declared.NextNote.TheVariants.{Next, None}
+use Rattle.notes.specs.declared.Note.{Note}
 use Rattle.notes.specs.Without.{without_notes}
 use Rattle.notes.specs.Notes.{next_note}
 use Rattle.opacity.specs.declared.verdict.Verdict.{Verdict}
-use Rattle.opacity.specs.declared.verdict.Scanned.{Scanned}
 use Rattle.opacity.specs.Transactions.{store_reads}
 use Rattle.opacity.specs.Justification.{Place, is_order}
 use Rattle.opacity.specs.Lowest.{lowest_of}
 use Rattle.opacity.specs.Marking.{Point, Marking, marked, marking_bytes, verdict, outcome_number}
-use Rattle.opacity.specs.Scan.{scan}
+use Rattle.opacity.specs.Scan.{Scanned, scan}
 use Rattle.scan.specs.Answer.{scanned_said}
 use Rattle.opacity.specs.Serial.{runs_right}
 use Rattle.opacity.specs.Counts.{counts}
@@ -176,9 +174,9 @@ read_log : List ℕ → Said
 read_log file = read_said (read_answer file (columns (replicate 8 0) (replicate 8 0) (replicate 8 0) (replicate 8 0) (replicate 8 0))).result
 
 -- a note in numbers, and nothing for none
-note_numbers : NextNote → List ℕ
+note_numbers : Answer Note → List ℕ
 note_numbers None = []
-note_numbers (Next n) = n.events ∷ n.start ∷ n.size ∷ []
+note_numbers (Some n) = n.events ∷ n.start ∷ n.size ∷ []
 
 holds : Case → (ℕ → ℕ) → List Event → Claim → Bool
 unfolding equal same marking_numbers found readable_for asked checked_file read_log note_numbers

@@ -7,7 +7,8 @@ use Rattle.events.specs.declared.event.Event.{Event}
 use Rattle.events.specs.Said.{done, at_byte}
 use Rattle.opacity.specs.declared.verdict.Rule.TheVariants.{A, B, C, D, E}
 use Rattle.opacity.specs.declared.verdict.Verdict.TheVariants.{Accepted, Broken}
-use Rattle.opacity.specs.declared.verdict.Scanned.TheVariants.{Opaque, Faulted}
+use Rattle.opacity.specs.declared.verdict.Cause.TheVariants.{Read, Commit, Abort}
+use Rattle.opacity.specs.Scan.{opaque, fault}
 use Rattle.opacity.specs.Justification.{Place}
 use Rattle.opacity.specs.Lowest.{place}
 use Rattle.opacity.specs.Marking.{Marking}
@@ -65,12 +66,12 @@ starred : List Case
 unfolding says h0 two point marking late early begin begin_on read write call_commit commit abort then pending_pair head_alone places_of_h0 points_of_h0
 starred =
     -- head alone
-    says [] (scanned Opaque)
+    says [] (scanned opaque)
     ∷ says [] (file_is head_alone)
     ∷ says [] (checked (marking [] []) Accepted)
     ∷ says [] (file_says head_alone (done []))
     -- H0: its marking is lowest; event 9 at gap 1, and at gap 2
-    ∷ says (h0 0) (scanned Opaque)
+    ∷ says (h0 0) (scanned opaque)
     ∷ says (h0 0) (counted 10 2 2)
     ∷ says (h0 0) (lowest_is (two late 0 0))
     ∷ says (h0 0) (file_is (head_alone ++ (places_of_h0 ++ points_of_h0)))
@@ -79,16 +80,16 @@ starred =
     ∷ says (h0 0) (checked (two late 0 1) Accepted)
     ∷ says (h0 0) (checked (two late 0 2) (Broken D 9 1))
     -- H7: T0 then T1 with both gaps 1, and with event 5 at gap 0
-    ∷ says (h0 7) (scanned (Faulted 9 1))
+    ∷ says (h0 7) (scanned (fault 9 Read))
     ∷ says (h0 7) (checked (two early 1 1) (Broken E 5 1))
     ∷ says (h0 7) (checked (two early 0 1) (Broken D 5 1))
     -- each of two reads what the other writes; both commit
-    ∷ says (then (begin 0 ∷ begin 1 ∷ read 0 0 0 ∷ read 1 1 0 ∷ write 0 1 1 ∷ write 1 0 1 ∷ commit 1 ∷ commit 0 ∷ [])) (scanned (Faulted 13 2))
+    ∷ says (then (begin 0 ∷ begin 1 ∷ read 0 0 0 ∷ read 1 1 0 ∷ write 0 1 1 ∷ write 1 0 1 ∷ commit 1 ∷ commit 0 ∷ [])) (scanned (fault 13 Commit))
     -- T1 reads T0's pending write; T0 is then aborted
-    ∷ says (pending_pair []) (scanned Opaque)
-    ∷ says (pending_pair (abort 0)) (scanned (Faulted 7 3))
+    ∷ says (pending_pair []) (scanned opaque)
+    ∷ says (pending_pair (abort 0)) (scanned (fault 7 Abort))
     -- T1 reads it before the commit is called
-    ∷ says (then (begin 0 ∷ write 0 0 5 ∷ begin 1 ∷ read 1 0 5 ∷ commit 0 ∷ [])) (scanned (Faulted 5 1))
+    ∷ says (then (begin 0 ∷ write 0 0 5 ∷ begin 1 ∷ read 1 0 5 ∷ commit 0 ∷ [])) (scanned (fault 5 Read))
     -- T0 commits, then T1 begins: T1 is placed first
     ∷ says (then (begin 0 ∷ write 0 0 1 ∷ commit 0 ∷ begin 1 ∷ read 1 0 0 ∷ [])) (checked (marking late (point 7 0 ∷ [])) (Broken B 5 1))
     -- an own read that is wrong
@@ -110,26 +111,26 @@ from_starts : List Case
 unfolding says says_from starts_with reads hides point marking early late begin begin_on read write commit then
 from_starts =
     -- a start value read before any writer; the same read of 0
-    says_from 5 0 (reads 5) (scanned Opaque)
+    says_from 5 0 (reads 5) (scanned opaque)
     ∷ says_from 5 0 (reads 5) (lowest_is (marking (place 0 false ∷ []) (point 2 0 ∷ [])))
     ∷ says_from 5 0 (reads 5) (checked (marking (place 0 false ∷ []) (point 2 0 ∷ [])) Accepted)
     ∷ says_from 5 0 (reads 5) (runs (place 0 false ∷ []) true)
-    ∷ says_from 5 0 (reads 0) (scanned (Faulted 2 1))
+    ∷ says_from 5 0 (reads 0) (scanned (fault 2 Read))
     ∷ says_from 5 0 (reads 0) (checked (marking (place 0 false ∷ []) (point 2 0 ∷ [])) (Broken E 2 0))
     ∷ says_from 5 0 (reads 0) (runs (place 0 false ∷ []) false)
     -- a start value hidden by a committed write
-    ∷ says_from 5 0 (hides 7) (scanned Opaque)
-    ∷ says_from 5 0 (hides 5) (scanned (Faulted 7 1))
+    ∷ says_from 5 0 (hides 7) (scanned opaque)
+    ∷ says_from 5 0 (hides 5) (scanned (fault 7 Read))
     ∷ says_from 5 0 (hides 5) (checked (marking early (point 7 1 ∷ [])) (Broken E 7 1))
     ∷ says_from 5 0 (hides 5) (checked (marking early (point 7 0 ∷ [])) (Broken D 7 1))
     -- edition 1 with a start that is not 0, and an edition that there is not; edition 2 with none
     ∷ record { edition = 1; starts = starts_with 5 0; history = reads 5; claim = refused_by 3 3 }
     ∷ record { edition = 1; starts = starts_with 0 5; history = []; claim = refused_by 3 0 }
     ∷ record { edition = 3; starts = starts_with 0 0; history = reads 0; claim = refused_by 3 3 }
-    ∷ says_from 0 0 (reads 0) (scanned Opaque)
+    ∷ says_from 0 0 (reads 0) (scanned opaque)
     -- a register has its own start value
-    ∷ says_from 0 5 (reads 5) (scanned (Faulted 2 1))
-    ∷ says_from 0 5 (reads 0) (scanned Opaque)
+    ∷ says_from 0 5 (reads 5) (scanned (fault 2 Read))
+    ∷ says_from 0 5 (reads 0) (scanned opaque)
     -- a reader that begins before the writer commits reads the start value; its point behind the writer is moved
     ∷ says_from 5 0 (then (begin 0 ∷ begin 1 ∷ write 0 0 7 ∷ commit 0 ∷ read 1 0 5 ∷ [])) (lowest_is (marking late (point 7 0 ∷ [])))
     ∷ says_from 5 0 (then (begin 0 ∷ begin 1 ∷ write 0 0 7 ∷ commit 0 ∷ read 1 0 5 ∷ []))
@@ -159,43 +160,43 @@ alone : List Case
 unfolding says says_from starts_with event begin begin_on lone_read lone_write read write call_commit commit then pending_lone around lone_after both point marking
 alone =
     -- a start value read bare; the same read of 0
-    says_from 5 0 (lone_read 2 0 0 5) (scanned Opaque)
+    says_from 5 0 (lone_read 2 0 0 5) (scanned opaque)
     ∷ says_from 5 0 (lone_read 2 0 0 5) (lowest_is (marking (place 0 true ∷ []) (point 0 0 ∷ [])))
     ∷ says_from 5 0 (lone_read 2 0 0 5) (counted 1 1 1)
     ∷ says_from 5 0 (lone_read 2 0 0 5) (tallied 1 0 0 0)
     ∷ says_from 5 0 (lone_read 2 0 0 5) (runs (place 0 true ∷ []) true)
-    ∷ says_from 5 0 (lone_read 2 0 0 0) (scanned (Faulted 0 1))
+    ∷ says_from 5 0 (lone_read 2 0 0 0) (scanned (fault 0 Read))
     -- it is recorded as committed: rule A names its event
     ∷ says_from 5 0 (lone_read 2 0 0 5) (checked (marking (place 0 false ∷ []) (point 0 0 ∷ [])) (Broken A 0 0))
     -- the value of a writer whose commit is pending; then the old value, with the commit unanswered and answered
-    ∷ says_from 0 0 (pending_lone []) (scanned Opaque)
+    ∷ says_from 0 0 (pending_lone []) (scanned opaque)
     ∷ says_from 0 0 (pending_lone []) (lowest_is (marking both (point 4 1 ∷ [])))
-    ∷ says_from 0 0 (pending_lone (lone_read 2 2 0 0)) (scanned (Faulted 5 1))
-    ∷ says_from 0 0 (pending_lone (event 22 0 0 0 ∷ lone_read 2 2 0 0)) (scanned (Faulted 6 1))
+    ∷ says_from 0 0 (pending_lone (lone_read 2 2 0 0)) (scanned (fault 5 Read))
+    ∷ says_from 0 0 (pending_lone (event 22 0 0 0 ∷ lone_read 2 2 0 0)) (scanned (fault 6 Read))
     -- a lone write is read by a live transaction that began before it
-    ∷ says_from 0 0 (then (begin 0 ∷ lone_write 2 1 0 7 ∷ read 0 0 7 ∷ [])) (scanned Opaque)
+    ∷ says_from 0 0 (then (begin 0 ∷ lone_write 2 1 0 7 ∷ read 0 0 7 ∷ [])) (scanned opaque)
     ∷ says_from 0 0 (then (begin 0 ∷ lone_write 2 1 0 7 ∷ read 0 0 7 ∷ [])) (lowest_is (marking (place 1 true ∷ place 0 false ∷ []) (point 3 1 ∷ [])))
     -- and one between two reads: old and then new is torn, old both times is not
-    ∷ says_from 0 0 (around 0 7) (scanned (Faulted 5 1))
-    ∷ says_from 0 0 (around 0 0) (scanned Opaque)
-    ∷ says_from 0 0 (around 7 7) (scanned (Faulted 2 1))
+    ∷ says_from 0 0 (around 0 7) (scanned (fault 5 Read))
+    ∷ says_from 0 0 (around 0 0) (scanned opaque)
+    ∷ says_from 0 0 (around 7 7) (scanned (fault 2 Read))
     -- a lone access begins after what ended before it: rule B names its event; its point behind a writer breaks D, a wrong value E
     ∷ says_from 0 0 (lone_after 7) (checked (marking both (point 1 1 ∷ [])) Accepted)
     ∷ says_from 0 0 (lone_after 7) (checked (marking (place 1 true ∷ place 0 true ∷ []) (point 1 0 ∷ [])) (Broken B 1 1))
     ∷ says_from 0 0 (lone_after 7) (checked (marking both (point 1 0 ∷ [])) (Broken D 1 1))
     ∷ says_from 0 0 (lone_after 7) (straight (marking both (point 1 0 ∷ [])) (marking both (point 1 1 ∷ [])) (1 ∷ []) Accepted)
     ∷ says_from 0 0 (lone_after 0) (checked (marking both (point 1 1 ∷ [])) (Broken E 1 1))
-    ∷ says_from 0 0 (lone_after 0) (scanned (Faulted 1 1))
+    ∷ says_from 0 0 (lone_after 0) (scanned (fault 1 Read))
     -- its thread must be free, and is free again after it; kinds 24 and 25 are edition 2's
     ∷ says_from 0 0 (begin 0 ++ lone_read 0 1 0 0) (refused_by 10 1)
-    ∷ says_from 0 0 (then (lone_read 0 0 0 0 ∷ begin 1 ∷ begin_on 0 2 ∷ [])) (scanned Opaque)
+    ∷ says_from 0 0 (then (lone_read 0 0 0 0 ∷ begin 1 ∷ begin_on 0 2 ∷ [])) (scanned opaque)
     ∷ says (lone_read 2 0 0 0) (refused_by 4 0)
     ∷ says (lone_write 2 0 0 0) (refused_by 4 0)
     -- it has the next number, a thread below 16 and a register below 32; what begins has no other field, and what does not no thread
     ∷ says_from 0 0 (lone_read 16 1 32 0) (refused_by 8 0)
     ∷ says_from 0 0 (lone_read 16 0 32 0) (refused_by 9 0)
     ∷ says_from 0 0 (lone_write 15 0 32 0) (refused_by 12 0)
-    ∷ says_from 0 0 (lone_write 15 0 31 9) (scanned Opaque)
+    ∷ says_from 0 0 (lone_write 15 0 31 9) (scanned opaque)
     ∷ says (event 16 0 1 0 ∷ []) (refused_by 16 0)
     ∷ says (begin 0 ++ (record { kind = 21; transaction = 0; register = 0; value = 0; thread = 1 } ∷ [])) (refused_by 16 1)
     ∷ []
@@ -205,8 +206,8 @@ further : List Case
 unfolding says h0 two point marking late early begin begin_on read write call_commit commit abort then pending_pair twice reader_writes
 further =
     -- of two writes of a committed transaction the last one counts
-    says (twice 5) (scanned Opaque)
-    ∷ says (twice 4) (scanned (Faulted 9 1))
+    says (twice 5) (scanned opaque)
+    ∷ says (twice 4) (scanned (fault 9 Read))
     ∷ says (twice 5) (checked (marking early (point 9 1 ∷ [])) Accepted)
     ∷ says (twice 4) (checked (marking early (point 9 1 ∷ [])) (Broken E 9 1))
     -- an own read has no point, and a store read of another register has one
@@ -346,30 +347,30 @@ printed : List Case
 unfolding says begin_on read write call_commit commit abort then
 printed =
     -- Fig. 2.19, h2
-    says (then (begin_on 1 0 ∷ write 0 0 2 ∷ commit 0 ∷ begin_on 1 1 ∷ begin_on 2 2 ∷ write 2 0 1 ∷ read 1 0 1 ∷ [])) (scanned (Faulted 10 1))
+    says (then (begin_on 1 0 ∷ write 0 0 2 ∷ commit 0 ∷ begin_on 1 1 ∷ begin_on 2 2 ∷ write 2 0 1 ∷ read 1 0 1 ∷ [])) (scanned (fault 10 Read))
     -- Fig. 2.19, h3
     ∷ says
     (then (begin_on 1 0 ∷ write 0 0 2 ∷ commit 0 ∷ begin_on 1 1 ∷ write 1 0 1 ∷ commit 1 ∷ begin_on 2 2 ∷ read 2 0 2 ∷ commit 2 ∷ []))
-    (scanned (Faulted 12 1))
+    (scanned (fault 12 Read))
     -- Fig. 4.13, h1
-    ∷ says (then (begin_on 1 0 ∷ begin_on 2 1 ∷ write 0 0 1 ∷ call_commit 0 ∷ read 1 0 1 ∷ [])) (scanned Opaque)
+    ∷ says (then (begin_on 1 0 ∷ begin_on 2 1 ∷ write 0 0 1 ∷ call_commit 0 ∷ read 1 0 1 ∷ [])) (scanned opaque)
     -- Fig. 3.12
     ∷ says
     (then (begin_on 1 0 ∷ write 0 0 1 ∷ begin_on 2 1 ∷ write 1 0 1 ∷ commit 1 ∷ commit 0 ∷ begin_on 1 2 ∷ read 2 0 1 ∷ abort 2 ∷ []))
-    (scanned Opaque)
+    (scanned opaque)
     -- section 3.3, its three
     ∷ says
     (then
     (begin_on 1 0 ∷ begin_on 3 1 ∷ begin_on 2 2 ∷ write 1 0 1 ∷ commit 1 ∷ read 2 0 1 ∷ write 0 0 2 ∷ commit 0 ∷ write 2 0 3 ∷ commit 2 ∷ []))
-    (scanned Opaque)
+    (scanned opaque)
     ∷ says
     (then
     (begin_on 1 0 ∷ begin_on 3 1 ∷ begin_on 2 2 ∷ read 1 0 0 ∷ write 1 0 1 ∷ commit 1 ∷ read 2 0 1 ∷ read 0 0 1 ∷ write 0 0 2 ∷ commit 0
     ∷ write 2 0 3 ∷ commit 2 ∷ []))
-    (scanned (Faulted 20 2))
+    (scanned (fault 20 Commit))
     ∷ says
     (then (begin_on 1 0 ∷ begin_on 3 1 ∷ begin_on 2 2 ∷ write 1 0 1 ∷ write 0 0 2 ∷ commit 0 ∷ commit 1 ∷ read 2 0 1 ∷ commit 2 ∷ []))
-    (scanned Opaque)
+    (scanned opaque)
     ∷ []
 
 unfoldable pub worked : List Case

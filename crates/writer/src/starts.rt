@@ -23,11 +23,9 @@ fn start_length(value: u32) -> usize
 pub fn starts_end(starts: &[u32; 32]) -> usize
     ensures { result ≡ 6 + length (starts_to starts.now 32) }
 {
-    let mut at: usize = Record::WHOLE_HEAD;
-    let mut r: usize = 0;
-    while r < 32 {
-        at = at + start_length(starts[r]);
-        r = r + 1;
+    let mut at = Record::WHOLE_HEAD;
+    for value in starts {
+        at += start_length(*value);
     }
     at
 }
@@ -50,12 +48,9 @@ pub fn put_starts(starts: &[u32; 32], out: &mut [u8])
     requires { 6 + length (starts_to starts.now 32) ≤ length out.old }
     ensures { out.new ≡ placed out.old 6 (starts_to starts.now 32) }
 {
-    let mut at: usize = Record::WHOLE_HEAD;
-    let mut r: usize = 0;
-    while r < 32 {
-        let value = starts[r];
-        put_start(out, at, r as u16, value);
-        at = at + start_length(value);
-        r = r + 1;
+    let mut at = Record::WHOLE_HEAD;
+    for (r, value) in starts.iter().enumerate() {
+        put_start(out, at, r as u16, *value);
+        at += start_length(*value);
     }
 }

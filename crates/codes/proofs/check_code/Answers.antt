@@ -1,30 +1,19 @@
 -- `codes::check_code` meets its contract.
 -- Assumes nothing.
 use Rattle.marking.specs.Answer.{said}
-use Rattle.codes.specs.Codes.{coded}
 use Rattle.codes.proofs.CodeLaws.{known_as, coded-as}
 use Rattle.codes.proofs.check_code.Goals as goal
 
 pub verdict_code-requires : goal.verdict_code-requires
 unfolding said
-verdict_code-requires c = known_as said c.in-Ruled.is c.requires
+verdict_code-requires c = known_as said c.in-Ok.is c.requires
 
-pub refusal_code-requires : goal.refusal_code-requires
+pub unchecked_code-requires : goal.unchecked_code-requires
+unchecked_code-requires c = known_as said c.in-Err.is c.requires
+
+pub returns-in-Ok : goal.returns-in-Ok
 unfolding said
-refusal_code-requires c = (known_as said c.in-HistoryRefused.is c.requires).1
+returns-in-Ok c = coded-as said c.in-Ok.is c.verdict_code.ensures
 
-pub refusal_code-requires-in-MarkingRefused : goal.refusal_code-requires-in-MarkingRefused
-unfolding said
-refusal_code-requires-in-MarkingRefused c = (known_as said c.in-MarkingRefused.is c.requires).1
-
-pub returns-in-Ruled : goal.returns-in-Ruled
-unfolding said
-returns-in-Ruled c = coded-as said c.in-Ruled.is c.verdict_code.ensures
-
-pub returns-in-HistoryRefused : goal.returns-in-HistoryRefused
-unfolding said coded
-returns-in-HistoryRefused c = coded-as said c.in-HistoryRefused.is c.refusal_code.ensures
-
-pub returns-in-MarkingRefused : goal.returns-in-MarkingRefused
-unfolding said coded
-returns-in-MarkingRefused c = coded-as said c.in-MarkingRefused.is c.refusal_code-in-MarkingRefused.ensures
+pub returns-in-Err : goal.returns-in-Err
+returns-in-Err c = coded-as said c.in-Err.is c.unchecked_code.ensures

@@ -5,10 +5,10 @@ use Rattle.codes.specs.Codes.{coded, place}
 use Rattle.codes.proofs.CodeLaws.{coded-as}
 use Rattle.codes.proofs.note_code.Goals as goal
 
-pub returns-in-Next : goal.returns-in-Next
+pub returns-in-Some : goal.returns-in-Some
 unfolding said coded place
-returns-in-Next c = coded-as said c.in-Next.is c.pack.ensures
+returns-in-Some c = coded-as said c.in-Some.is c.pack.ensures
 
-pub returns-in-None : goal.returns-in-None
+pub returns-in_default : goal.returns-in_default
 unfolding said coded
-returns-in-None c = coded-as said c.in-None.is c.pack-in-None.ensures
+returns-in_default c = coded-as said c.in_default.is c.pack-in_default.ensures

@@ -1,25 +1,27 @@
 -- `codes::read_code` meets its contract.
 -- Assumes nothing.
-use mathlib.Core.Path.{ap, ◌∙◌}
-use Rattle.reader.specs.Reading.{said_of, said}
-use Rattle.codes.specs.Codes.{packed, coded, place}
+use Prim.Native.Nat.{ℕ}
+use mathlib.Core.Path.{◌≡◌, ap, ◌∙◌}
+use Rattle.reader.specs.Reading.{said}
+use Rattle.codes.specs.Codes.{packed, halves, coded, place}
 use Rattle.codes.proofs.CodeLaws.{known_as, coded-as}
 use Rattle.codes.proofs.read_code.Goals as goal
 
 pub join-requires : goal.join-requires
 unfolding said
-join-requires c = known_as (said_of c.args.answer.edition) c.in-Read.is c.requires
+join-requires c = rw c.from.ensures (known_as said c.in-Ok.is c.requires)
+
+pub returns-in-Ok : goal.returns-in-Ok
+unfolding said coded place
+returns-in-Ok c =
+    let e : c.join.result ≡ halves c.in-Ok.read.edition c.in-Ok.read.count =
+    c.join.ensures.0 ∙ ap (λ (n : ℕ). halves n c.in-Ok.read.count) c.from.ensures in
+    coded-as said c.in-Ok.is (c.pack.ensures ∙ ap (packed 0) e)
 
 pub refusal_code-requires : goal.refusal_code-requires
 unfolding said
-refusal_code-requires c = (known_as (said_of c.args.answer.edition) c.in-Refused.is c.requires).1
+refusal_code-requires c = (known_as said c.in-Err.is c.requires).1
 
-pub returns-in-Read : goal.returns-in-Read
-unfolding said coded place
-returns-in-Read c =
-    coded-as (said_of c.args.answer.edition) c.in-Read.is
-    (c.pack.ensures ∙ ap (packed 0) c.join.ensures.0)
-
-pub returns-in-Refused : goal.returns-in-Refused
+pub returns-in-Err : goal.returns-in-Err
 unfolding said coded
-returns-in-Refused c = coded-as (said_of c.args.answer.edition) c.in-Refused.is c.refusal_code.ensures
+returns-in-Err c = coded-as said c.in-Err.is c.refusal_code.ensures

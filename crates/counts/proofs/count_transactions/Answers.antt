@@ -1,28 +1,10 @@
--- `count_transactions` meets its contract: the door lets in what the rows can hold. Assumes nothing.
-use native.Mathlib.Omega.{arith}
-use mathlib.Core.Path.{refl, ◌∙◌}
-use Rattle.event_log.specs.Columns.{columns}
-use Rattle.counts.specs.Answer.{transactions_of, transactions_answer}
-use Rattle.event_log.proofs.DoorLaws.{entered, behind}
+-- `count_transactions` meets its contract: behind the door it is what its closure answers. Assumes nothing.
+use Rattle.std.proofs.Common.{rules}
+use Rattle.event_log.proofs.DoorLaws.{judged-answer}
+use Rattle.opacity.specs.Counts.{counts}
+use Rattle.counts.specs.Answer.{transactions_answer}
 use Rattle.counts.proofs.count_transactions.Goals as goal
 
-pub returns-then-count-le-SHORT : goal.returns-then-count-le-SHORT
-unfolding transactions_answer
-returns-then-count-le-SHORT c =
-    c.count_begun.ensures
-    ∙ behind _ _ (columns c.args.kinds.now c.args.transactions.now c.args.registers.now c.args.values.now c.args.threads.now) c.args.count
-    c.admit-checked.result _ _ c.admit-checked.ensures.value c.admit-checked.ensures.taken
-    (λ m. omega arith) transactions_of (λ r g h. refl)
-
-pub count_begun-requires-2 : goal.count_begun-requires-2
-count_begun-requires-2 c =
-    entered _ _ (columns c.args.kinds.now c.args.transactions.now c.args.registers.now c.args.values.now c.args.threads.now) c.args.count
-    c.admit-checked-2.result _ _ c.admit-checked-2.ensures.value c.admit-checked-2.ensures.taken (λ m. m)
-
 pub returns : goal.returns
-unfolding transactions_answer
-returns c =
-    c.count_begun-2.ensures
-    ∙ behind _ _ (columns c.args.kinds.now c.args.transactions.now c.args.registers.now c.args.values.now c.args.threads.now) c.args.count
-    c.admit-checked-2.result _ _ c.admit-checked-2.ensures.value c.admit-checked-2.ensures.taken
-    (λ m. m) transactions_of (λ r g h. refl)
+unfolding transactions_answer counts
+returns c = judged-answer _ _ _ _ _ (λ y p. search rules) c.judged.ensures

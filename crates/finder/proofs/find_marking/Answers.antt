@@ -1,43 +1,23 @@
--- `finder::find_marking` meets its contract: a longer prefix is refused; else the columns are taken in, and their rows answered. Assumes nothing.
-use native.Mathlib.Omega.{arith}
-use Rattle.event_log.specs.Columns.{columns}
-use Rattle.event_log.proofs.DoorLaws.{entered as let-in, in_rows}
-use Rattle.finder.proofs.AnswerLaws.{longer-refused, find-rows}
+-- `finder::find_marking` meets its contract: 17, 3 and 18, one after the other, and then what is found of the prefix. Assumes nothing.
+use mathlib.Core.Path.{◌≡◌, ap, ◌∙◌}
+use Rattle.std.proofs.Common.{rules, Err}
+use Rattle.finder.specs.Answer.{Finding, gives}
+use Rattle.finder.proofs.AnswerLaws.{refused-17, refused-3, refused-18}
 use Rattle.finder.proofs.find_marking.Goals as goal
 
-pub returns-then-prefix-count : goal.returns-then-prefix-count
-returns-then-prefix-count c =
-    longer-refused c.args.edition c.args.starts.now (columns c.args.kinds.now c.args.transactions.now c.args.registers.now c.args.values.now
-    c.args.threads.now) c.args.count c.args.prefix c.args.output.now
-    c.prefix_refused.result c.columns_hold-held.result c.is_admitted-admitted.result c.prefix_refused.ensures
-    c.columns_hold-held.ensures c.is_admitted-admitted.ensures c.if-prefix-count.true
+pub returns-in_err-ask : goal.returns-in_err-ask
+returns-in_err-ask c =
+    let e : c.from_residual.result ≡ Err c.in_err-ask.field-0.0 = search rules in
+    ap (λ (r : Finding). gives r c.args.output.now) e ∙ refused-17 _ _ _ _ _ _ c.in_err-ask.ensures c.hold.ensures
 
-pub returns-then-count-le-SHORT : goal.returns-then-count-le-SHORT
-returns-then-count-le-SHORT c =
-    find-rows c.args.edition c.args.starts.now (columns c.args.kinds.now c.args.transactions.now c.args.registers.now c.args.values.now
-    c.args.threads.now) c.args.count c.args.prefix c.args.output.now _ c.admit-checked.result _ c.find_admitted.ensures
-    c.if-prefix-count.false c.admit-checked.ensures.value
-    (λ e.
-    (in_rows c.args.edition c.args.starts.now (columns c.args.kinds.now c.args.transactions.now c.args.registers.now c.args.values.now
-    c.args.threads.now) c.args.count c.admit-checked.result _ _ c.admit-checked.ensures.value c.admit-checked.ensures.taken
-    (λ m. omega arith) e).same)
+pub returns-in_err-ask-2 : goal.returns-in_err-ask-2
+returns-in_err-ask-2 c =
+    let e : c.from_residual-in_err-ask-2.result ≡ Err c.in_err-ask-2.field-0.0 = search rules in
+    ap (λ (r : Finding). gives r c.args.output.now) e
+    ∙ refused-3 _ _ _ _ _ _ c.in_ok-ask.ensures c.hold.ensures c.in_err-ask-2.ensures c.is_admitted.ensures
 
-pub find_admitted-requires-2 : goal.find_admitted-requires-2
-find_admitted-requires-2 c =
-    record {
-      entered = let-in c.args.edition c.args.starts.now (columns c.args.kinds.now c.args.transactions.now c.args.registers.now
-          c.args.values.now c.args.threads.now) c.args.count c.admit-checked-2.result _ _ c.admit-checked-2.ensures.value
-          c.admit-checked-2.ensures.taken
-          (λ m. m);
-      prefix_le_count = c.if-prefix-count.false;
-    }
-
-pub returns : goal.returns
-returns c =
-    find-rows c.args.edition c.args.starts.now (columns c.args.kinds.now c.args.transactions.now c.args.registers.now c.args.values.now
-    c.args.threads.now) c.args.count c.args.prefix c.args.output.now _ c.admit-checked-2.result _ c.find_admitted-2.ensures
-    c.if-prefix-count.false c.admit-checked-2.ensures.value
-    (λ e.
-    (in_rows c.args.edition c.args.starts.now (columns c.args.kinds.now c.args.transactions.now c.args.registers.now c.args.values.now
-    c.args.threads.now) c.args.count c.admit-checked-2.result _ _ c.admit-checked-2.ensures.value c.admit-checked-2.ensures.taken
-    (λ m. m) e).same)
+pub returns-in_err-ask-3 : goal.returns-in_err-ask-3
+returns-in_err-ask-3 c =
+    let e : c.from_residual-in_err-ask-3.result ≡ Err c.in_err-ask-3.field-0.0 = search rules in
+    ap (λ (r : Finding). gives r c.args.output.now) e
+    ∙ refused-18 _ _ _ _ _ _ c.in_ok-ask.ensures c.hold.ensures c.in_ok-ask-2.ensures c.is_admitted.ensures c.in_err-ask-3.ensures

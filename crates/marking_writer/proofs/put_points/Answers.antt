@@ -16,23 +16,19 @@ abbrev point : (s : Start) → ℕ → List ℕ
 point s i = read_bytes (is_gap (get_or s.args.gaps.now i 0)) i (get_or s.args.gaps.now i 0)
 
 pub loop-i-init : goal.loop-i-init
-loop-i-init c = (
-  omega arith,
-  put-none (points_in c.args.gaps.now) (point (goal.at.loop-i-init c).Start) (points_none _ _) (points-more _ _)
-      c.args.out.now c.args.from,
-)
+loop-i-init c =
+    put-none (points_in c.args.gaps.now) (point (goal.at.loop-i-init c).Start) (points_none _ _) (points-more _ _)
+    c.args.out.now c.args.from
 
 pub put_read-at-requires : goal.put_read-at-requires
 put_read-at-requires c =
     put-room (points_in c.args.gaps.now) (point (goal.at.put_read-at-requires c).Start) (points_none _ _) (points-more _ _) c.args.out.now
     c.args.from (length c.args.gaps.now) c.requires.gaps_in_bounds
-    c.loop-i.i (omega arith) c.loop-i.out c.loop-i.at c.loop-i.invariant.1
+    c.loop-i.i (omega arith) c.loop-i.out c.loop-i.at c.loop-i.invariant
 
 pub loop-i-preserved : goal.loop-i-preserved
-loop-i-preserved c = (
-  omega arith,
-  put-more (points_in c.args.gaps.now) (point (goal.at.loop-i-preserved c).Start) (points_none _ _) (points-more _ _) c.args.out.now
-      c.args.from (length c.args.gaps.now) c.requires.gaps_in_bounds
-      c.loop-i.i (omega arith) c.loop-i.out c.loop-i.at c.loop-i.invariant.1
-      c.put_read-at.new.out c.put_read-at.result c.put_read-at.auto.out c.put_read-at.ensures.out_after c.put_read-at.ensures.value,
-)
+loop-i-preserved c =
+    put-more (points_in c.args.gaps.now) (point (goal.at.loop-i-preserved c).Start) (points_none _ _) (points-more _ _) c.args.out.now
+    c.args.from (length c.args.gaps.now) c.requires.gaps_in_bounds
+    c.loop-i.i (omega arith) c.loop-i.out c.loop-i.at c.loop-i.invariant
+    c.put_read-at.new.out c.put_read-at.result c.put_read-at.auto.out c.put_read-at.ensures.out_after c.put_read-at.ensures.value

@@ -1,13 +1,8 @@
 -- `marking_writer::put_points` meets its contract.
 -- Assumes nothing.
-use Prim.Native.Nat.{◌-◌, ◌≤◌}
-use lib.ListN.{length}
 use Rattle.marking_writer.proofs.RunLaws.{Put}
 use Rattle.marking_writer.specs.Whole.{points_in}
 use Rattle.marking_writer.proofs.put_points.Given as goal
 
 abbrev pub invariant-loop-i : goal.invariant-loop-i
-invariant-loop-i l = (l.i ≤ length l.gaps) × Put (points_in l.gaps) l.initial.out l.from l.i l.out l.at
-
-abbrev pub decreases-loop-i : goal.decreases-loop-i
-decreases-loop-i l = length l.gaps - l.i
+invariant-loop-i l = Put (points_in l.gaps) l.initial.out l.from l.i l.out l.at

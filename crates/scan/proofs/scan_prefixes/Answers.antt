@@ -1,84 +1,63 @@
 -- `scan::scan_prefixes` meets its contract: the prefixes passed have a justification. Assumes nothing.
-use Prim.Native.Nat.{◌<◌}
-use mathlib.Core.Path.{sym, ◌∙◌}
+use mathlib.Core.Path.{refl, sym, ap, ◌∙◌}
 use native.Mathlib.Omega.{arith}
-use lib.ListN.{length}
-use Rattle.event_log.specs.Rows.{logged}
-use Rattle.event_log.proofs.RowLaws.{logged-length}
-use Rattle.tables.specs.Tables.{tables_by}
+use Rattle.events.specs.Events.{event_at}
+use Rattle.places.specs.Told.{told}
 use Rattle.lowest.proofs.GoodHistory.{tabled}
 use Rattle.witness.proofs.WitnessLaws.{judged-kept, judged-anew}
-use Rattle.scan.proofs.ScanLaws.{scanning-none, few-before, may-carry, few-begun, end-asked, scanning-more, scanning-quiet, scanning-fault, scanning-end}
+use Rattle.scan.proofs.ScanLaws.{Next, kept-told, scanning-none, few-before, may-carry, few-begun, end-asked, scanning-more, scanning-quiet, scanning-fault, scanning-end}
 use Rattle.scan.proofs.scan_prefixes.Goals as goal
-use Rattle.scan.proofs.scan_prefixes.Goals.{then-kept-eq-UNKEPT, else-kept-eq-UNKEPT, After-event_at-e}
+use Rattle.scan.proofs.scan_prefixes.Goals.{in-None, in-Some, In-loop-i}
 
--- the event is one of the history
-inside : (a : After-event_at-e) → a.loop-i.i < length (logged a.args.log.now)
-inside a = omega (arith, logged-length a.args.log.now)
+-- event i comes
+now : (c : In-loop-i) → let l = c.loop-i in
+    Next c.args.starts.now c.args.log.now l.i (event_at c.args.log.now l.i) l.tables l.n l.order
+now c = record { judged = c.requires; inside = omega arith; same = refl; passed = c.loop-i.invariant }
 
 pub loop-i-init : goal.loop-i-init
-loop-i-init c = scanning-none c.args.starts.now (logged c.args.log.now) _ c.no_events-s.ensures
+loop-i-init c = scanning-none c.args.starts.now c.args.log.now _ c.new-tables.ensures
 
 pub loop-i-preserved-then-is_quiet : goal.loop-i-preserved-then-is_quiet
 loop-i-preserved-then-is_quiet c =
-    scanning-quiet c.args.starts.now (logged c.args.log.now) c.requires c.loop-i.i
-    (inside (goal.at.loop-i-preserved-then-is_quiet c).After-event_at-e) c.event_at-e.result c.event_at-e.ensures
-    (tables_by c.loop-i.s c.loop-i.facts) c.loop-i.n c.loop-i.order c.loop-i.invariant
-    (sym c.is_quiet.ensures ∙ c.if-is_quiet.true)
+    scanning-quiet (now (goal.at.loop-i-preserved-then-is_quiet c).In-loop-i) (sym c.is_quiet.ensures ∙ c.if-is_quiet.true)
 
 pub carry-kept-requires : goal.carry-kept-requires
-carry-kept-requires c =
-    may-carry c.args.starts.now (logged c.args.log.now) c.requires c.loop-i.i (inside (goal.at.carry-kept-requires c).After-event_at-e)
-    c.event_at-e.result c.event_at-e.ensures (tables_by c.loop-i.s c.loop-i.facts) c.loop-i.n c.loop-i.order c.loop-i.invariant
+carry-kept-requires c = may-carry (now (goal.at.carry-kept-requires c).In-loop-i)
 
-pub step-s-requires : goal.step-s-requires
-step-s-requires c =
-    tabled (logged c.args.log.now) c.requires c.loop-i.i (inside (goal.at.step-s-requires c).After-event_at-e) c.event_at-e.result
-    c.event_at-e.ensures
+pub step-requires : goal.step-requires
+step-requires c = tabled c.args.log.now c.requires c.loop-i.i (omega arith) _ refl
 
 pub begun_after-n-requires : goal.begun_after-n-requires
-begun_after-n-requires c =
-    let few =
-    few-before c.args.starts.now (logged c.args.log.now) c.requires c.loop-i.i (inside (goal.at.begun_after-n-requires c).After-event_at-e)
-    c.event_at-e.result c.event_at-e.ensures (tables_by c.loop-i.s c.loop-i.facts) c.loop-i.n c.loop-i.order c.loop-i.invariant in
-    λ b. omega arith
+begun_after-n-requires c = let few = few-before (now (goal.at.begun_after-n-requires c).In-loop-i) in λ b. omega arith
 
-pub complete-order-requires : goal.complete-order-requires
-complete-order-requires c =
+pub complete-next-requires : goal.complete-next-requires
+complete-next-requires c =
+    let its = now (goal.at.complete-next-requires c).In-loop-i in
     record {
-      transactions_bound = few-begun c.args.starts.now (logged c.args.log.now) c.requires c.loop-i.i
-          (inside (goal.at.complete-order-requires c).After-event_at-e) c.event_at-e.result c.event_at-e.ensures
-          (tables_by c.loop-i.s c.loop-i.facts) c.loop-i.n c.loop-i.order c.loop-i.invariant
-          _ c.begun_after-n.result c.step-s.ensures c.begun_after-n.ensures;
-      end_asks = end-asked c.args.starts.now (logged c.args.log.now) c.requires c.loop-i.i
-          (inside (goal.at.complete-order-requires c).After-event_at-e) c.event_at-e.result c.event_at-e.ensures
-          (tables_by c.loop-i.s c.loop-i.facts) c.loop-i.n c.loop-i.order c.loop-i.invariant
-          _ c.begun_after-n.result c.step-s.ensures c.begun_after-n.ensures;
+      transactions_bound = few-begun its c.step.ensures c.begun_after-n.ensures;
+      end_asks = end-asked its c.step.ensures c.begun_after-n.ensures;
     }
 
-pub returns-then-order-eq0 : goal.returns-then-order-eq0
-returns-then-order-eq0 c =
+pub returns-in_default : goal.returns-in_default
+returns-in_default c =
+    let l = c.loop-i in
     c.faulted.ensures
-    ∙ scanning-fault c.args.starts.now (logged c.args.log.now) c.requires c.loop-i.i
-    (inside (goal.at.returns-then-order-eq0 c).After-event_at-e) c.event_at-e.result c.event_at-e.ensures
-    (tables_by c.loop-i.s c.loop-i.facts) c.loop-i.n c.loop-i.order c.loop-i.invariant
-    _ c.begun_after-n.result c.step-s.ensures c.begun_after-n.ensures c.carry-kept.result c.if-kept-eq-UNKEPT.order c.carry-kept.ensures
-    (elim c.if-kept-eq-UNKEPT.branch [
-      | then-kept-eq-UNKEPT w ↦ judged-anew _ _ _ _ _ w.if-kept-eq-UNKEPT.true w.order-is w.complete-order.ensures
-      | else-kept-eq-UNKEPT w ↦ judged-kept _ _ _ _ w.if-kept-eq-UNKEPT.false w.order-is
-    ]) c.if-order-eq0.true
+    ∙ scanning-fault (now (goal.at.returns-in_default c).In-loop-i) c.step.ensures c.begun_after-n.ensures
+    (kept-told c.new.result c.args.starts.now l.tables.facts l.n l.order _ (ap told c.new.ensures) c.carry-kept.ensures)
+    (elim c.match-kept.branch [
+      | in-None w ↦ judged-anew w.in-None.is w.next-is w.complete-next.ensures
+      | in-Some w ↦ judged-kept w.in-Some.is w.next-is
+    ]) c.in_default.is
 
 pub loop-i-preserved : goal.loop-i-preserved
 loop-i-preserved c =
-    scanning-more c.args.starts.now (logged c.args.log.now) c.requires c.loop-i.i (inside (goal.at.loop-i-preserved c).After-event_at-e)
-    c.event_at-e.result c.event_at-e.ensures (tables_by c.loop-i.s c.loop-i.facts) c.loop-i.n c.loop-i.order c.loop-i.invariant
-    _ c.begun_after-n.result c.step-s.ensures c.begun_after-n.ensures c.carry-kept.result c.if-kept-eq-UNKEPT.order c.carry-kept.ensures
-    (elim c.if-kept-eq-UNKEPT.branch [
-      | then-kept-eq-UNKEPT w ↦ judged-anew _ _ _ _ _ w.if-kept-eq-UNKEPT.true w.order-is w.complete-order.ensures
-      | else-kept-eq-UNKEPT w ↦ judged-kept _ _ _ _ w.if-kept-eq-UNKEPT.false w.order-is
-    ]) c.if-order-eq0.false
+    let l = c.loop-i in
+    scanning-more (now (goal.at.loop-i-preserved c).In-loop-i) c.step.ensures c.begun_after-n.ensures
+    (kept-told c.new.result c.args.starts.now l.tables.facts l.n l.order _ (ap told c.new.ensures) c.carry-kept.ensures)
+    (elim c.match-kept.branch [
+      | in-None w ↦ judged-anew w.in-None.is w.next-is w.complete-next.ensures
+      | in-Some w ↦ judged-kept w.in-Some.is w.next-is
+    ]) _ c.in-Some-next.is
 
 pub returns : goal.returns
-returns c =
-    scanning-end c.args.starts.now (logged c.args.log.now) c.loop-i.i (tables_by c.loop-i.s c.loop-i.facts) c.loop-i.n c.loop-i.order
-    (omega (arith, logged-length c.args.log.now)) c.loop-i.invariant
+returns c = scanning-end c.args.starts.now c.args.log.now c.loop-i.i _ _ _ (omega arith) c.loop-i.invariant

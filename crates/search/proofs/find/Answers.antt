@@ -1,15 +1,18 @@
 -- `search::find` meets its contract: the search starts with all transactions unplaced, as both the unplaced and the candidates.
 -- Assumes nothing.
-use mathlib.Core.Path.{◌≡◌, refl, sym, ap}
+use Rattle.std.specs.Prelude.{None}
+use mathlib.Core.Path.{◌≡◌, refl, sym, ap, ◌∙◌}
 use Prim.Native.Nat.{ℕ, ◌-◌, ◌^◌}
 use native.Mathlib.Omega.{arith}
-use lib.Bits.{and_le_l}
+use lib.Bits.{bit_and, and_le_l}
 use lib.Pow.{pow_pos}
 use Rattle.places.specs.declared.state.Search.{Search}
-use Rattle.places.specs.Facts.{end_row, all_registers, after_of}
+use Rattle.places.specs.Facts.{end_row, after_of}
 use Rattle.places.specs.Places.{codes_of}
 use Rattle.places.specs.State.{Sound}
-use Rattle.places.specs.Tree.{asking, constraints}
+use Rattle.places.specs.declared.lookup
+use Rattle.places.specs.Told.{told}
+use Rattle.places.specs.Tree.{asking, first_completion}
 use Rattle.search.proofs.TreeLaws.{start-sound, start-answers, answered-as, answered-none}
 use Rattle.places.proofs.SetLaws.{within-self}
 use Rattle.pruning.proofs.EffectLaws.{nothing_known}
@@ -34,15 +37,18 @@ choose_transaction-requires c =
     record {
       sound = sound (goal.at.choose_transaction-requires c).After-bit;
       within = within-self _;
-      effects = nothing_known c.args.facts.now all_registers;
     }
+
+pub invariant_of-tree : goal.invariant_of-tree
+invariant_of-tree c = record { known = nothing_known _ _ }
 
 pub returns-then-n-lt-FEW : goal.returns-then-n-lt-FEW
 unfolding codes_of
 returns-then-n-lt-FEW c =
-    let a = c.args in
-    start-answers (constraints a.starts.now a.facts.now) a.n _ c.choose_transaction.result c.requires
-    (all (goal.at.returns-then-n-lt-FEW c).After-bit) c.choose_transaction.ensures
+    answered-as c.args.n c.choose_transaction.result
+    (start-answers (told c.new-all.result) c.args.n _ c.choose_transaction.result c.requires (all (goal.at.returns-then-n-lt-FEW c).After-bit)
+    c.choose_transaction.ensures)
+    (ap (λ (k : lookup.Constraints.Constraints). first_completion (told k) c.args.n) c.new-all.ensures)
 
 pub stranded-requires : goal.stranded-requires
 stranded-requires c =
@@ -59,19 +65,21 @@ pub returns-then-stranded : goal.returns-then-stranded
 unfolding codes_of
 returns-then-stranded c =
     let a = c.args in
-    let D = constraints a.starts.now a.facts.now in
+    let D = told c.new-all.result in
     let u = c.bit.result - 1 in
     let s : Search = record { unplaced = u; filled = 0; placed = 1 } in
-    start-answers D a.n u 0 c.requires (all (goal.at.returns-then-stranded c).After-bit)
+    let same = ap (λ (k : lookup.Constraints.Constraints). bit_and u (after_of k.facts.now end_row)) (sym c.new-all.ensures) in
+    let asks : c.before_end.result ≡ bit_and u (after_of D.facts end_row) = c.before_end.ensures ∙ same in
+    answered-as a.n None (start-answers D a.n u None c.requires (all (goal.at.returns-then-stranded c).After-bit)
     (answered-none _ (sym (orphaned-none D s u _ (sound (goal.at.returns-then-stranded c).After-bit) refl
-    (needs-of D s u _ c.before_end.ensures (λ k h. h)) (c.stranded.ensures c.if-stranded.true))))
+    (needs-of D s u _ asks (λ k h. h)) (c.stranded.ensures c.if-stranded.true)))))
+    (ap (λ (k : lookup.Constraints.Constraints). first_completion (told k) a.n) c.new-all.ensures)
 
 pub choose_transaction-requires-2 : goal.choose_transaction-requires-2
 choose_transaction-requires-2 c =
     record {
       sound = sound (goal.at.choose_transaction-requires-2 c).After-bit;
       within = within-self _;
-      effects = c.effects_among-effects.ensures;
     }
 
 -- the tree in which fewer registers are asked about is the same

@@ -4,9 +4,9 @@ use Rattle.std.proofs.Common.{arith}
 use Rattle.std.proofs.lemmas.Grind.{common_steps}
 use Rattle.sendoshi.proofs.hand_over.Goals as goal
 
-pub returns-in-Read : goal.returns-in-Read
+pub returns-in-Ok : goal.returns-in-Ok
 unfolding starts_after
-returns-in-Read c = grind (arith, common_steps)
+returns-in-Ok c = grind (arith, common_steps)
 
 pub returns-in_default : goal.returns-in_default
 unfolding starts_after

@@ -1,7 +1,9 @@
 -- `sendoshi::sendoshi_find` meets its contract.
 -- Assumes nothing.
-use mathlib.Core.Path.{ap}
+use mathlib.Core.Path.{ap, ◌∙◌}
 use native.Mathlib.Omega.{arith}
+use Rattle.event_log.specs.declared.columns.History.{History}
+use Rattle.event_log.specs.Lent.{columns_of}
 use Rattle.event_log.specs.Columns.{columns}
 use Rattle.events.specs.Said.{Said}
 use Rattle.finder.specs.Answer.{Given, found_answer, said}
@@ -26,12 +28,12 @@ decodable s =
 
 pub found_code-requires : goal.found_code-requires
 found_code-requires c =
-    answer-known said_by one_value never c.find_marking-answer.ensures (decodable (goal.at.found_code-requires c).Start)
+    answer-known said_by one_value never (c.find_marking.ensures ∙ ap (λ (h : History). found_answer h.edition h.starts.now (columns_of h.columns) h.count c.args.prefix c.args.output.now) c.history_of-history.ensures) (decodable (goal.at.found_code-requires c).Start)
 
 pub returns : goal.returns
 unfolding find_call
 returns c =
-    let g = c.find_marking-answer.ensures in
+    let g = c.find_marking.ensures ∙ ap (λ (h : History). found_answer h.edition h.starts.now (columns_of h.columns) h.count c.args.prefix c.args.output.now) c.history_of-history.ensures in
     let n = c.found_code.ensures in
     record {
       output_after = rw n (ap found_filled g);

@@ -1,6 +1,9 @@
 -- `sendoshi::sendoshi_scan` meets its contract.
 -- Assumes nothing.
+use mathlib.Core.Path.{ap, ◌∙◌}
 use native.Mathlib.Omega.{arith}
+use Rattle.event_log.specs.declared.columns.History.{History}
+use Rattle.event_log.specs.Lent.{columns_of}
 use Rattle.event_log.specs.Columns.{columns}
 use Rattle.scan.specs.Answer.{scan_answer, said}
 use Rattle.codes.specs.Decoded.{no_value, never}
@@ -19,12 +22,12 @@ decodable s = scan-decodable s.args.edition s.args.starts.now (columns s.args.ki
 
 pub scan_code-requires : goal.scan_code-requires
 scan_code-requires c =
-    answer-known said no_value never c.scan_history-answer.ensures (decodable (goal.at.scan_code-requires c).Start)
+    answer-known said no_value never (c.scan_history.ensures ∙ ap (λ (h : History). scan_answer h.edition h.starts.now (columns_of h.columns) h.count) c.history_of-history.ensures) (decodable (goal.at.scan_code-requires c).Start)
 
 pub returns : goal.returns
 unfolding scan_call
 returns c =
-    let g = c.scan_history-answer.ensures in
+    let g = c.scan_history.ensures ∙ ap (λ (h : History). scan_answer h.edition h.starts.now (columns_of h.columns) h.count) c.history_of-history.ensures in
     let d = decodable (goal.at.returns c).Start in
     record {
       value = call-coded said no_value never g d c.scan_code.ensures;

@@ -1,7 +1,9 @@
 -- `sendoshi::sendoshi_straighten` meets its contract.
 -- Assumes nothing.
-use mathlib.Core.Path.{ap}
+use mathlib.Core.Path.{ap, ◌∙◌}
 use native.Mathlib.Omega.{arith}
+use Rattle.event_log.specs.declared.columns.History.{History}
+use Rattle.event_log.specs.Lent.{columns_of}
 use Rattle.event_log.specs.Columns.{columns}
 use Rattle.events.specs.Said.{Said}
 use Rattle.straighten.specs.Answer.{Given, straightened_answer, said}
@@ -27,12 +29,12 @@ decodable s =
 
 pub straighten_code-requires : goal.straighten_code-requires
 straighten_code-requires c =
-    answer-known said_by two_values of_marking c.straighten-answer.ensures (decodable (goal.at.straighten_code-requires c).Start)
+    answer-known said_by two_values of_marking (c.straighten.ensures ∙ ap (λ (h : History). straightened_answer h.edition h.starts.now (columns_of h.columns) h.count c.args.file.now c.args.output.now c.args.moved.now) c.history_of-history.ensures) (decodable (goal.at.straighten_code-requires c).Start)
 
 pub returns : goal.returns
 unfolding straighten_call
 returns c =
-    let g = c.straighten-answer.ensures in
+    let g = c.straighten.ensures ∙ ap (λ (h : History). straightened_answer h.edition h.starts.now (columns_of h.columns) h.count c.args.file.now c.args.output.now c.args.moved.now) c.history_of-history.ensures in
     let n = c.straighten_code.ensures in
     record {
       moved_after = rw n (ap straighten_filled g);

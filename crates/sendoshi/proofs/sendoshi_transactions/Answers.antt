@@ -1,6 +1,9 @@
 -- `sendoshi::sendoshi_transactions` meets its contract.
 -- Assumes nothing.
+use mathlib.Core.Path.{ap, ◌∙◌}
 use native.Mathlib.Omega.{arith}
+use Rattle.event_log.specs.declared.columns.History.{History}
+use Rattle.event_log.specs.Lent.{columns_of}
 use Rattle.event_log.specs.Columns.{columns}
 use Rattle.counts.specs.Answer.{transactions_answer, count_said}
 use Rattle.codes.specs.Decoded.{one_value, never}
@@ -17,16 +20,16 @@ decodable : (s : Start)
 decodable s = transactions-decodable s.args.edition s.args.starts.now (columns s.args.kinds.now s.args.transactions.now s.args.registers.now
     s.args.values.now s.args.threads.now) s.args.count (omega arith)
 
-pub count_code-requires : goal.count_code-requires
-count_code-requires c =
-    answer-known count_said one_value never c.count_transactions-answer.ensures (decodable (goal.at.count_code-requires c).Start)
+pub number_code-requires : goal.number_code-requires
+number_code-requires c =
+    answer-known count_said one_value never (c.count_transactions.ensures ∙ ap (λ (h : History). transactions_answer h.edition h.starts.now (columns_of h.columns) h.count) c.history_of-history.ensures) (decodable (goal.at.number_code-requires c).Start)
 
 pub returns : goal.returns
 unfolding transactions_call
 returns c =
-    let g = c.count_transactions-answer.ensures in
+    let g = c.count_transactions.ensures ∙ ap (λ (h : History). transactions_answer h.edition h.starts.now (columns_of h.columns) h.count) c.history_of-history.ensures in
     let d = decodable (goal.at.returns c).Start in
     record {
-      value = call-coded count_said one_value never g d c.count_code.ensures;
-      result_value = call-decoded count_said one_value never g d c.count_code.ensures;
+      value = call-coded count_said one_value never g d c.number_code.ensures;
+      result_value = call-decoded count_said one_value never g d c.number_code.ensures;
     }

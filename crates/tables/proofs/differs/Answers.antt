@@ -1,14 +1,14 @@
--- `tables::differs` meets its contract.
--- Assumes nothing.
-use borrow.Author.Tests.{eq-eqb, ne_eqb}
+-- `tables::differs` meets its contract. Assumes nothing.
+use Rattle.std.proofs.Common.{arith}
+use Rattle.std.proofs.lemmas.Grind.{common_steps}
 use Rattle.lists.specs.Lists.{◌and◌}
 use Rattle.tables.specs.Tables.{clashes}
 use Rattle.tables.proofs.differs.Goals as goal
 
-pub returns-then-old-eq0 : goal.returns-then-old-eq0
+pub returns-then-old-ne0 : goal.returns-then-old-ne0
 unfolding clashes ◌and◌
-returns-then-old-eq0 c = simp (eq-eqb _ _ c.if-old-eq0.true)
+returns-then-old-ne0 c = grind (arith, common_steps)
 
-pub returns : goal.returns
+pub returns-else-old-ne0 : goal.returns-else-old-ne0
 unfolding clashes ◌and◌
-returns c = simp (ne_eqb _ _ c.if-old-eq0.false)
+returns-else-old-ne0 c = grind (arith, common_steps)

@@ -1,14 +1,14 @@
--- `tables::read_contradicts` meets its contract: by the test. Assumes nothing.
-use mathlib.Core.Path.{sym, ◌∙◌}
+-- `tables::read_contradicts` meets its contract. Assumes nothing.
+use Rattle.std.proofs.Common.{arith}
+use Rattle.std.proofs.lemmas.Grind.{common_steps}
 use Rattle.lists.specs.Lists.{◌and◌}
 use Rattle.tables.specs.Tables.{contradicts}
 use Rattle.tables.proofs.read_contradicts.Goals as goal
 
-pub returns-then-not-is_read : goal.returns-then-not-is_read
+pub returns-then-is_read : goal.returns-then-is_read
 unfolding contradicts ◌and◌
-returns-then-not-is_read c = rw (sym c.is_read.ensures ∙ c.if-not-is_read.true)
+returns-then-is_read c = grind (arith, common_steps)
 
-pub returns : goal.returns
+pub returns-else-is_read : goal.returns-else-is_read
 unfolding contradicts ◌and◌
-returns c =
-    rw (sym c.is_read.ensures ∙ c.if-not-is_read.false, ← c.expected_at.ensures, ← c.stored.ensures) c.differs.ensures
+returns-else-is_read c = grind (arith, common_steps)

@@ -1,13 +1,14 @@
--- `tables::reads_store` meets its contract: by the test. Assumes nothing.
-use mathlib.Core.Path.{sym, ◌∙◌}
+-- `tables::reads_store` meets its contract. Assumes nothing.
+use Rattle.std.proofs.Common.{arith}
+use Rattle.std.proofs.lemmas.Grind.{common_steps}
 use Rattle.lists.specs.Lists.{◌and◌}
 use Rattle.tables.specs.Tables.{reads_store}
 use Rattle.tables.proofs.reads_store.Goals as goal
 
-pub returns-then-not-is_read : goal.returns-then-not-is_read
+pub returns-then-is_read : goal.returns-then-is_read
 unfolding reads_store ◌and◌
-returns-then-not-is_read c = rw (sym c.is_read.ensures ∙ c.if-not-is_read.true)
+returns-then-is_read c = grind (arith, common_steps)
 
-pub returns : goal.returns
+pub returns-else-is_read : goal.returns-else-is_read
 unfolding reads_store ◌and◌
-returns c = rw (sym c.is_read.ensures ∙ c.if-not-is_read.false)
+returns-else-is_read c = grind (arith, common_steps)

@@ -14,16 +14,16 @@ loop-i-preserved c =
     let at = c.loop-i in
     let n = c.args.count in
     let code = c.code_at.ensures ∙ sym (code-at-place n c.args.order at.i (n - 1 - at.i) (omega arith)) in
-    let long = length-codes n c.args.order in (
-      omega arith,
-      length-set at.codes at.i _ ∙ at.invariant.1,
-      take_more at.codes (codes_of n c.args.order) at.i _ (omega (arith, at.invariant.1)) (omega arith) code at.invariant.2,
-    )
+    let long = length-codes n c.args.order in
+    record {
+      long = length-set at.codes at.i _ ∙ at.invariant.long;
+      same = take_more at.codes (codes_of n c.args.order) at.i _ (omega (arith, at.invariant.long)) (omega arith) code at.invariant.same;
+    }
 
 pub returns : goal.returns
 returns c =
     let at = c.loop-i in
     let n = c.args.count in
     let e : at.i ≡ n = omega arith in
-    ap (λ (k : ℕ). take k at.codes) (sym e) ∙ at.invariant.2 ∙ ap (λ (k : ℕ). take k (codes_of n c.args.order)) e
+    ap (λ (k : ℕ). take k at.codes) (sym e) ∙ at.invariant.same ∙ ap (λ (k : ℕ). take k (codes_of n c.args.order)) e
     ∙ take_all n (codes_of n c.args.order) (omega (arith, length-codes n c.args.order))

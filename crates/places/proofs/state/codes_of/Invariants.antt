@@ -1,13 +1,12 @@
 -- `places::state::codes_of` meets its contract.
 -- Assumes nothing.
 use mathlib.Core.Path.{◌≡◌}
-use Prim.Native.Nat.{◌≤◌, ◌-◌}
 use lib.ListN.{length, take}
 use Rattle.places.specs.Places.{codes_of}
 use Rattle.places.proofs.state.codes_of.Given as goal
 
 abbrev pub invariant-loop-i : goal.invariant-loop-i
-invariant-loop-i l = (l.i ≤ l.count) × (length l.codes ≡ 10) × (take l.i l.codes ≡ take l.i (codes_of l.count l.order))
-
-abbrev pub decreases-loop-i : goal.decreases-loop-i
-decreases-loop-i l = l.count - l.i
+invariant-loop-i l = record {
+  long : length l.codes ≡ 10;
+  same : take l.i l.codes ≡ take l.i (codes_of l.count l.order);
+}

@@ -3,10 +3,12 @@
 use mathlib.Core.Path.{◌≡◌}
 use mathlib.Core.List.{List, [], ◌∷◌, ◌++◌}
 use mathlib.Core.Bool.{true}
-use Prim.Native.Nat.{ℕ, ◌+◌, ◌*◌, ◌%◌, ◌^◌, ◌<◌}
+use Prim.Native.Nat.{ℕ, ◌+◌, ◌*◌, ◌%◌, ◌<◌}
 use lib.Bits.{bit_and}
 use Rattle.lists.specs.Bits.{bit_at}
+use Rattle.places.specs.Facts.{reads_asked}
 use Rattle.places.specs.Tree.{legal_at}
+use Rattle.places.proofs.SetLaws.{Walked}
 use Rattle.pruning.proofs.effects.effect.Given as goal
 
 -- the read of k was legal before, if it is
@@ -25,11 +27,11 @@ pub record Spoilt (facts : List (List ℕ)) (x t set : ℕ) : Type 0 where
   pub is_in : bit_at register set ≡ 1
   pub never : Never facts x t register
 
-abbrev pub invariant-loop-left : goal.invariant-loop-left
-invariant-loop-left l =
-    (l.left < 2 ^ 32) × ((k : ℕ) → bit_at k l.left ≡ 1 → bit_at k (bit_and l.registers l.writes) ≡ 1)
-    × ((k : ℕ) → (bit_at k l.left ≡ 1 → ⊥) → bit_at k (bit_and l.registers l.writes) ≡ 1 → l.done ≡ 0 → Same l.facts l.x l.t k)
-    × ((l.done % 4294967296 ≡ 0 → ⊥) → Spoilt l.facts l.x l.t (bit_and l.registers l.writes))
-
-abbrev pub decreases-loop-left : goal.decreases-loop-left
-decreases-loop-left l = l.left
+abbrev pub invariant-loop-r : goal.invariant-loop-r
+invariant-loop-r l =
+    let f = l.constraints.facts.now in
+    let set = bit_and (reads_asked f l.constraints.asked l.t) l.writes in
+    record {
+      walk : Walked (λ (k : ℕ). l.done ≡ 0 → Same f l.x l.t k) set l.r-iterator.left;
+      spoilt : (l.done % 4294967296 ≡ 0 → ⊥) → Spoilt f l.x l.t set;
+    }

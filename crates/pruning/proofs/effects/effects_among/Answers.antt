@@ -1,24 +1,22 @@
--- `pruning::effects::effects_among` meets its contract: what the table says is right from the beginning, where it says nothing.
+-- `pruning::effects::effects_among` meets its contract.
 -- Assumes nothing.
 use mathlib.Core.Path.{◌∙◌}
+use mathlib.Core.List.{[]}
 use native.Mathlib.Omega.{arith}
 use lib.ListN.{length-set}
-use Rattle.places.specs.Tree.{legal_reads}
-use Rattle.pruning.proofs.EffectLaws.{nothing_known, known_on}
-use Rattle.std.proofs.Common.{rules}
+use Rattle.pruning.specs.Runs.{RowEffects}
+use Rattle.pruning.proofs.EffectLaws.{one_entry}
 use Rattle.pruning.proofs.effects.effects_among.Goals as goal
 
-pub loop-i-init : goal.loop-i-init
-loop-i-init c = (omega arith, search rules, nothing_known c.args.facts.now c.args.asked)
-
-pub loop-i-preserved : goal.loop-i-preserved
-unfolding legal_reads
-loop-i-preserved c =
-    let at = c.loop-i in
+pub loop-x-preserved : goal.loop-x-preserved
+loop-x-preserved c =
+    let at = c.loop-x in
     let a = c.args in
-    let reads = c.reads_asked-registers.ensures in (
-      omega arith,
-      length-set at.effects at.i c.effect.result ∙ at.invariant.1,
-      known_on a.facts.now a.asked at.effects at.i c.effect.result at.invariant.1 (omega arith) at.invariant.2
-          (rw reads at c.effect.ensures),
-    )
+    record {
+      long = length-set at.effects at.x _ ∙ at.invariant.long;
+      at = one_entry (RowEffects a.constraints.now.facts.now a.constraints.now.asked) at.effects [] at.x _ (omega (arith, at.invariant.long))
+          c.effects_of.ensures at.invariant.at;
+    }
+
+pub returns : goal.returns
+returns c = record { at = λ x t l m. (c.loop-x.invariant.at x (omega arith)).at t m }

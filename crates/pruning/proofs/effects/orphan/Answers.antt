@@ -1,43 +1,40 @@
 -- `pruning::effects::orphan` meets its contract.
 -- Assumes nothing.
+use mathlib.Core.Path.{◌≡◌, ap, ◌∙◌}
+use Prim.Native.Nat.{ℕ, ◌<◌}
 use native.Mathlib.Omega.{arith}
-use Rattle.lists.proofs.BitLaws.{member-lt, member-off}
-use Rattle.places.proofs.SetLaws.{lowest-member}
+use lib.Bits.{bit_and}
+use Rattle.lists.specs.Bits.{bit_at}
+use Rattle.lists.proofs.BitLaws.{member-lt, and-member}
+use Rattle.places.specs.Facts.{reads_asked}
+use Rattle.places.proofs.SetLaws.{all-left, within-all, within-on}
 use Rattle.pruning.proofs.effects.orphan.Goals as goal
+use Rattle.pruning.proofs.effects.orphan.Goals.{In-Some}
 
-pub orphan_at-requires : goal.orphan_at-requires
-orphan_at-requires c =
-    let at = c.loop-left in
-    let r = c.lowest-r.result in
-    let is_in = lowest-member r at.left (omega (arith, at.invariant.0)) c.loop-left-test.true c.lowest-r.ensures in
-    record {
-      sound = c.requires.sound;
-      t_bound = c.requires.t_bound;
-      register_bound = member-lt r at.left 32 is_in at.invariant.0;
-    }
+-- the register of a turn is read by t, and asked about
+is_read : (c : In-Some) → bit_at c.in-Some.r (reads_asked c.args.constraints.now.facts.now c.args.constraints.now.asked c.args.t) ≡ 1
+is_read c =
+    let a = c.args in
+    (and-member c.in-Some.r (reads_asked a.constraints.now.facts.now a.constraints.now.asked a.t) a.overwritten
+    (c.loop-r.invariant.is_in c.in-Some.r c.in-Some.ensures.steps.is_in)).0
+
+low : (c : In-Some) → c.in-Some.r < 32
+low c = member-lt c.in-Some.r _ 32 (is_read c) (omega (arith, c.reads_asked.ensures.value, c.reads_asked.ensures.low))
+
+pub loop-r-init : goal.loop-r-init
+loop-r-init c = within-all (all-left c.into_iter-r-iterator.ensures.into_iter_gives c.members-r-items.ensures
+    ∙ ap (λ (m : ℕ). bit_and m c.args.overwritten) c.reads_asked.ensures.value)
+
+pub orphan_at-requires-clause-register_bound : goal.orphan_at-requires-clause-register_bound
+orphan_at-requires-clause-register_bound c = low (goal.at.orphan_at-requires-clause-register_bound c).In-Some
 
 pub returns-then-orphan_at : goal.returns-then-orphan_at
-returns-then-orphan_at c =
-    let at = c.loop-left in
-    let r = c.lowest-r.result in
-    let is_in = lowest-member r at.left (omega (arith, at.invariant.0)) c.loop-left-test.true c.lowest-r.ensures in
-    λ e. record {
-      register = r;
-      low = member-lt r at.left 32 is_in at.invariant.0;
-      is_read = at.invariant.1 r is_in;
-      lost = c.orphan_at.ensures c.if-orphan_at.true;
-    }
+returns-then-orphan_at c = λ e. record {
+  register = c.in-Some.r;
+  low = low (goal.at.returns-then-orphan_at c).In-Some;
+  is_read = is_read (goal.at.returns-then-orphan_at c).In-Some;
+  lost = c.orphan_at.ensures c.if-orphan_at.true;
+}
 
-pub without-left-requires : goal.without-left-requires
-without-left-requires c =
-    let at = c.loop-left in
-    let r = c.lowest-r.result in
-    let is_in = lowest-member r at.left (omega (arith, at.invariant.0)) c.loop-left-test.true c.lowest-r.ensures in
-    is_in
-
-pub loop-left-preserved : goal.loop-left-preserved
-loop-left-preserved c =
-    let at = c.loop-left in
-    let r = c.lowest-r.result in
-    let is_in = lowest-member r at.left (omega (arith, at.invariant.0)) c.loop-left-test.true c.lowest-r.ensures in
-    (omega (arith, at.invariant.0), λ k h. at.invariant.1 k (member-off r k at.left is_in (rw c.without-left.ensures at h)))
+pub loop-r-preserved : goal.loop-r-preserved
+loop-r-preserved c = within-on c.loop-r.invariant c.in-Some.ensures.steps

@@ -3,8 +3,5 @@
 use Rattle.places.specs.State.{Within}
 use Rattle.pruning.proofs.effects.orphaned.Given as goal
 
-abbrev pub invariant-loop-left : goal.invariant-loop-left
-invariant-loop-left l = Within l.need l.left
-
-abbrev pub decreases-loop-left : goal.decreases-loop-left
-decreases-loop-left l = l.left
+abbrev pub invariant-loop-t : goal.invariant-loop-t
+invariant-loop-t l = Within l.need l.t-iterator.left

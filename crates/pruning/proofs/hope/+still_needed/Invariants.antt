@@ -2,23 +2,15 @@
 -- Assumes nothing.
 use mathlib.Core.Path.{◌≡◌}
 use mathlib.Core.Bool.{false}
-use mathlib.Core.List.{List}
 use Prim.Native.Nat.{ℕ}
-use Rattle.lists.specs.Bits.{bit_at}
-use Rattle.places.specs.State.{Within}
+use lib.Bits.{bit_and}
+use Rattle.places.proofs.SetLaws.{Walked}
 use Rattle.pruning.specs.Runs.{other_than}
 use Rattle.pruning.proofs.hope.+still_needed.Given as goal
 
--- k may not be passed over
-abbrev pub Stays : List (List ℕ) → ℕ → ℕ → ℕ → Type 0
-Stays facts need ready k = bit_at k need ≡ 1 → bit_at k ready ≡ 1 → other_than facts need k 1 ≡ false
-
-abbrev pub invariant-loop-left : goal.invariant-loop-left
-invariant-loop-left l = Within l.need l.left × Within l.ready l.left
-    × ((k : ℕ) → (bit_at k l.left ≡ 1 → ⊥) → Stays l.facts l.need l.ready k)
-
-abbrev pub decreases-loop-left : goal.decreases-loop-left
-decreases-loop-left l = l.left
+-- those passed may not be passed over
+abbrev pub invariant-loop-t : goal.invariant-loop-t
+invariant-loop-t l = Walked (λ (k : ℕ). other_than l.facts l.need k 1 ≡ false) (bit_and l.need l.ready) l.t-iterator.left
 
 -- the set of what is needed: each call has one member less
 abbrev pub decreases-still_needed : goal.decreases-still_needed

@@ -11,10 +11,8 @@ pub loop-t-preserved : goal.loop-t-preserved
 unfolding codes_of
 loop-t-preserved c =
     let at = c.loop-t in
-    let a = c.args in (
-      omega arith,
-      below_more _ at.t at.invariant.1
-          (asked-same a.starts.now a.facts.now c.written_by_any-any.result at.t
-          (no_other a.facts.now a.writes.now c.written_by_any-any.result c.requires c.written_by_any-any.ensures) (omega arith)
-          (sym c.legal_reads.ensures ∙ c.if-not-legal_reads.false)),
-    )
+    let a = c.args in
+    below_more _ at.t at.invariant
+    (asked-same a.starts.now a.facts.now c.written_by_any-any.result at.t
+    (no_other a.facts.now a.writes.now c.written_by_any-any.result c.requires c.written_by_any-any.ensures) (omega arith)
+    (sym c.legal_reads.ensures ∙ c.if-not-legal_reads.false))

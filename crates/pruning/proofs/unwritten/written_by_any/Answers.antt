@@ -21,7 +21,8 @@ one_more writes any t has k r l h = go (eqb k t) refl
     go true e = let q : k ≡ t = eqb-true _ _ e in member-or-r r any (get_or writes t 0) (rw q at h)
     go false e = let n : k ≡ t → ⊥ = eqb-false _ _ e in member-or-l r any (get_or writes t 0) (has k r (omega arith) h)
 
-pub loop-t-preserved : goal.loop-t-preserved
-loop-t-preserved c =
-    let at = c.loop-t in
-    (omega arith, one_more c.args.writes.now at.any at.t at.invariant.1)
+pub loop-registers-preserved : goal.loop-registers-preserved
+loop-registers-preserved c = one_more c.args.writes.now c.loop-registers.any c.loop-registers.registers-index c.loop-registers.invariant
+
+pub returns : goal.returns
+returns c = record { has = λ t r l h. c.loop-registers.invariant t r (omega arith) h }

@@ -1,10 +1,7 @@
--- `judge` meets its contract: A and B, and then the rules of reads, by the tables.
+-- `judge` meets its contract: the tables are those of the marking, and what they say is its verdict.
 -- Assumes nothing.
-use mathlib.Core.Path.{ap, ◌∙◌}
-use Rattle.event_log.specs.Rows.{logged}
+use mathlib.Core.Path.{◌∙◌}
 use Rattle.event_log.specs.Starts.{start_of}
-use Rattle.opacity.specs.declared.verdict.Verdict.{Verdict}
-use Rattle.rules.specs.Judge.{and_then, reads_verdict}
 use Rattle.rules.proofs.JudgeLaws.{all_apart, all-pointable, verdict-parts}
 use Rattle.rules.proofs.judge.judge.Goals as goal
 
@@ -14,12 +11,10 @@ places_of-place-requires c = all_apart c.requires.judgeable c.transactions_begun
 pub writers_of-writers-requires : goal.writers_of-writers-requires
 writers_of-writers-requires c = all_apart c.requires.judgeable c.transactions_begun-begun.ensures
 
-pub judge_after-requires : goal.judge_after-requires
-judge_after-requires c =
-    let t = c.tables_of-tables.ensures in
+pub invariant_of-points : goal.invariant_of-points
+invariant_of-points c =
     record {
-      own_writes = c.requires.own_writes;
-      pointable = all-pointable c.requires.judgeable c.transactions_begun-begun.ensures c.places_of-place.ensures t.writes t.sets
+      pointable = all-pointable c.requires.judgeable c.transactions_begun-begun.ensures c.places_of-place.ensures c.tables_of-tables.ensures
           c.writers_of-writers.ensures;
     }
 
@@ -27,8 +22,6 @@ pub returns : goal.returns
 returns c =
     let a = c.args in
     c.judge_after.ensures
-    ∙ (ap (λ (v : Verdict). and_then v (reads_verdict (start_of a.starts.now) (logged a.log.now) a.link.now
-    c.writers_of-writers.result c.places_of-place.result a.gaps.now)) c.judge_places-placed.ensures
-    ∙ verdict-parts c.requires.judgeable c.transactions_begun-begun.ensures c.places_of-place.ensures (start_of a.starts.now)
-    c.tables_of-tables.ensures
-    c.writers_of-writers.ensures)
+    ∙ rw c.judge_places-placed.ensures
+    (verdict-parts c.requires.judgeable c.transactions_begun-begun.ensures c.places_of-place.ensures (start_of a.starts.now)
+    c.tables_of-tables.ensures c.writers_of-writers.ensures)

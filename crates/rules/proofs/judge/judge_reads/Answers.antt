@@ -1,45 +1,30 @@
 -- `judge_reads` meets its contract: each rule in turn, with what the search for its first breach said.
 -- Assumes nothing.
-use Prim.Native.Nat.{ℕ}
-use mathlib.Core.Path.{sym, ◌∙◌}
-use mathlib.Core.Bool.{Bool}
-use Rattle.event_log.specs.Rows.{logged}
-use Rattle.event_log.specs.Starts.{start_of}
-use Rattle.event_log.proofs.RowLaws.{logged-length}
-use Rattle.links.proofs.LogLaws.{in-history}
-use Rattle.opacity.specs.declared.verdict.Verdict.TheVariants.{Accepted}
-use Rattle.opacity.specs.declared.verdict.Rule.{Rule}
-use Rattle.opacity.specs.declared.verdict.Rule.TheVariants.{C, D, E}
-use Rattle.opacity.specs.Transactions.{own_right}
-use Rattle.rules.specs.Walks.{point_rule}
-use Rattle.rules.specs.Judge.{tried, reads_verdict}
-use Rattle.rules.proofs.JudgeLaws.{broken-here, broken-later}
-use Rattle.std.proofs.Common.{rules, arith}
-use Rattle.std.proofs.lemmas.Grind.{common_steps}
+use mathlib.Core.Path.{◌∙◌}
+use Rattle.rules.proofs.Numbers.{some-inside}
+use Rattle.rules.proofs.JudgeLaws.{breaks-c, breaks-d, breaks-e, breaks-none}
 use Rattle.rules.proofs.judge.judge_reads.Goals as goal
-use Rattle.rules.proofs.judge.judge_reads.Goals.{Start}
 
-abbrev points : (s : Start) → Rule → ℕ → Bool
-points s = point_rule (start_of s.args.starts.now) (logged s.args.log.now) s.args.link.now s.args.writers.now s.args.place.now
-    s.args.gaps.now
+pub broken_at-requires : goal.broken_at-requires
+broken_at-requires c = some-inside _ _ c.in-Some.ensures
 
-pub returns-then-c-log : goal.returns-then-c-log
-unfolding reads_verdict
-returns-then-c-log c =
-    c.broken_at.ensures
-    ∙ sym (broken-here (logged c.args.log.now) C (own_right (logged c.args.log.now))
-    (tried (logged c.args.log.now) D (points (goal.at.returns-then-c-log c).Start D)
-    (tried (logged c.args.log.now) E (points (goal.at.returns-then-c-log c).Start E) Accepted)) c.first_not_own-c.ensures
-    (in-history c.args.log.now c.if-c-log.true))
+pub returns-in-Some : goal.returns-in-Some
+returns-in-Some c = c.broken_at.ensures ∙ breaks-c _ _ _ _ _ _ c.in-Some.ensures
 
-pub returns-then-d-log : goal.returns-then-d-log
-unfolding reads_verdict
-returns-then-d-log c = grind (arith, common_steps, logged-length, in-history, broken-here, broken-later, rules, arith)
+pub broken_at-requires-in-Some-first_broken : goal.broken_at-requires-in-Some-first_broken
+broken_at-requires-in-Some-first_broken c = some-inside _ _ c.in-Some-first_broken.ensures
 
-pub returns-then-e-log : goal.returns-then-e-log
-unfolding reads_verdict
-returns-then-e-log c = grind (arith, common_steps, logged-length, in-history, broken-here, broken-later, rules, arith)
+pub returns-in-Some-first_broken : goal.returns-in-Some-first_broken
+returns-in-Some-first_broken c =
+    c.broken_at-in-Some-first_broken.ensures ∙ breaks-d _ _ _ _ _ _ c.in_default.ensures c.in-Some-first_broken.ensures
+
+pub broken_at-requires-in-Some-first_broken-2 : goal.broken_at-requires-in-Some-first_broken-2
+broken_at-requires-in-Some-first_broken-2 c = some-inside _ _ c.in-Some-first_broken-2.ensures
+
+pub returns-in-Some-first_broken-2 : goal.returns-in-Some-first_broken-2
+returns-in-Some-first_broken-2 c =
+    c.broken_at-in-Some-first_broken-2.ensures
+    ∙ breaks-e _ _ _ _ _ _ c.in_default.ensures c.in_default-first_broken.ensures c.in-Some-first_broken-2.ensures
 
 pub returns : goal.returns
-unfolding reads_verdict
-returns c = grind (arith, common_steps, logged-length, in-history, broken-here, broken-later, rules, arith)
+returns c = breaks-none _ _ _ _ _ _ c.in_default.ensures c.in_default-first_broken.ensures c.in_default-first_broken-2.ensures

@@ -6,4 +6,4 @@ use Rattle.rules.proofs.order.outcome_kept.Goals as goal
 
 pub returns : goal.returns
 unfolding outcome_by
-returns c = c.allowed.ensures ∙ rw c.index_of-p.ensures
+returns c = c.allowed.ensures ∙ rw c.from.ensures

@@ -1,19 +1,23 @@
 -- `rules::order::pair_kept` meets its contract.
 -- Assumes nothing.
-use borrow.Author.Tests.{eq-eqb, ne_eqb, lt-ltb, le-ltb}
+use borrow.Author.Tests.{lt-ltb, le-ltb, le-leb}
 use Rattle.lists.specs.Lists.{◌implies◌}
 use Rattle.links.specs.Tables.{earlier}
 use Rattle.rules.specs.Orders.{pair_by}
 use Rattle.rules.proofs.order.pair_kept.Goals as goal
 
-pub returns-then-ended-t-eq0 : goal.returns-then-ended-t-eq0
+pub returns-then-begin-end : goal.returns-then-begin-end
 unfolding pair_by earlier ◌implies◌
-returns-then-ended-t-eq0 c = rw (eq-eqb _ _ c.if-ended-t-eq0.true)
+returns-then-begin-end c = rw (c.in-Some-Some.is-0, c.in-Some-Some.is-1, le-leb _ _ c.if-begin-end.true, le-ltb _ _ c.if-begin-end.true)
 
-pub returns-then-ended-t : goal.returns-then-ended-t
+pub returns-else-begin-end : goal.returns-else-begin-end
 unfolding pair_by earlier ◌implies◌
-returns-then-ended-t c = rw (ne_eqb _ _ c.if-ended-t-eq0.false, lt-ltb _ _ c.if-ended-t.true)
+returns-else-begin-end c = rw (c.in-Some-Some.is-0, c.in-Some-Some.is-1, lt-ltb _ _ c.if-begin-end.false)
 
-pub returns : goal.returns
+pub returns-in_default : goal.returns-in_default
 unfolding pair_by earlier ◌implies◌
-returns c = rw (ne_eqb _ _ c.if-ended-t-eq0.false, le-ltb _ _ c.if-ended-t.false)
+returns-in_default c = rw (c.in_default.is-0, c.in_default.is-1)
+
+pub returns-in_default-2 : goal.returns-in_default-2
+unfolding pair_by earlier ◌implies◌
+returns-in_default-2 c = rw c.in_default.is-0

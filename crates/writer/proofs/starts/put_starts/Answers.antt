@@ -26,7 +26,7 @@ room s r l = omega (arith, starts-grow s.args.starts.now _ 32 l, starts-longer s
 
 pub loop-r-init : goal.loop-r-init
 unfolding starts_to
-loop-r-init c = (omega arith, refl, sym (placed-none c.args.out.now 6))
+loop-r-init c = (refl, sym (placed-none c.args.out.now 6))
 
 pub put_start-requires : goal.put_start-requires
 unfolding start_of
@@ -34,10 +34,10 @@ put_start-requires c =
     let l = c.loop-r in
     omega (
       arith,
-      l.invariant.1,
+      l.invariant.0,
       room (goal.at.put_start-requires c).Start l.r c.loop-r-test.true,
       long (goal.at.put_start-requires c).Start
-          l.r l.out l.invariant.0 l.invariant.2,
+          l.r l.out (omega arith) l.invariant.1,
     )
 
 pub loop-r-preserved : goal.loop-r-preserved
@@ -47,11 +47,10 @@ loop-r-preserved c =
     let v = c.args.starts.now in
     let m = starts_more v l.r in
     let d = start_record l.r (start_of v l.r) in
-    let k = starts-grow v l.r 32 l.invariant.0 in (
-      omega arith,
-      omega (arith, l.invariant.1, ap length m, length-append (starts_to v l.r) d, c.start_length-at.ensures.0 l.r),
+    let k = starts-grow v l.r 32 (omega arith) in (
+      omega (arith, l.invariant.0, ap length m, length-append (starts_to v l.r) d, c.start_length-at.ensures.0 l.r),
       c.put_start.ensures
-          ∙ (ap (λ (o : List ℕ). placed o l.at d) l.invariant.2
-          ∙ (placed-more c.args.out.now 6 (starts_to v l.r) d l.at (sym l.invariant.1) (omega arith)
+          ∙ (ap (λ (o : List ℕ). placed o l.at d) l.invariant.1
+          ∙ (placed-more c.args.out.now 6 (starts_to v l.r) d l.at (sym l.invariant.0) (omega arith)
           ∙ ap (placed c.args.out.now 6) (sym m))),
     )

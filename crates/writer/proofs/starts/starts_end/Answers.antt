@@ -7,17 +7,17 @@ use Rattle.writer.specs.Writing.{starts_to}
 use Rattle.writer.proofs.StartLaws.{starts-most, starts-longer}
 use Rattle.writer.proofs.starts.starts_end.Goals as goal
 
-pub loop-r-init : goal.loop-r-init
+pub loop-value-init : goal.loop-value-init
 unfolding starts_to
-loop-r-init c = (omega arith, refl)
+loop-value-init c = refl
 
 pub overflow_add-at : goal.overflow_add-at
 overflow_add-at c =
-    let l = c.loop-r in
-    omega (arith, l.invariant.0, l.invariant.1, starts-most c.args.starts.now l.r)
+    let l = c.loop-value in
+    omega (arith, l.invariant, starts-most c.args.starts.now l.value-index)
 
-pub loop-r-preserved : goal.loop-r-preserved
+pub loop-value-preserved : goal.loop-value-preserved
 unfolding start_of
-loop-r-preserved c =
-    let l = c.loop-r in
-    (omega arith, rw add-one (omega (arith, l.invariant.1, starts-longer c.args.starts.now l.r, c.start_length-at.ensures.0 l.r)))
+loop-value-preserved c =
+    let l = c.loop-value in
+    rw add-one (omega (arith, l.invariant, starts-longer c.args.starts.now l.value-index, c.start_length-at.ensures.0 l.value-index))
