@@ -22,7 +22,7 @@ use marking::check::Unchecked;
 use notes::Note;
 use opacity::verdict::{Cause, Rule, Scanned, Verdict};
 use reader::HistoryRead;
-use straighten::Straightening;
+use straighten::{Straightened, Unstraightened};
 
 // What a code is multiplied by.
 const SHIFT: u64 = 4294967296;
@@ -190,20 +190,30 @@ pub fn check_code(answer: Result<Verdict, Unchecked>) -> u64
     }
 }
 
-// Codes the answer of the straightening: the place of a marking holds the number moved and the length.
-pub fn straighten_code(answer: Straightening) -> u64
-    requires { Known (straight_said answer) }
-    ensures { result ≡ coded (straight_said answer) }
+// Codes why nothing was straightened: the rule that is broken, or the question.
+fn unstraightened_code(unstraightened: Unstraightened) -> u64
+    requires { Known (straight_said (Err unstraightened)) }
+    ensures { result ≡ coded (straight_said (Err unstraightened)) }
 {
-    match answer {
-        Straightening::Straightened { length, moved } => pack(0, join(moved, length)),
-        Straightening::Broken {
+    match unstraightened {
+        Unstraightened::Broken {
             rule,
             event,
             transaction,
         } => broken_code(rule, event, transaction),
-        Straightening::Refused(refusal) => refusal_code(refusal),
-        Straightening::MarkingRefused(refusal) => refusal_code(refusal),
+        Unstraightened::Refused(refusal) => refusal_code(refusal),
+        Unstraightened::MarkingRefused(refusal) => refusal_code(refusal),
+    }
+}
+
+// Codes the answer of the straightening: the place of a marking holds the number moved and the length.
+pub fn straighten_code(answer: Result<Straightened, Unstraightened>) -> u64
+    requires { Known (straight_said answer) }
+    ensures { result ≡ coded (straight_said answer) }
+{
+    match answer {
+        Ok(written) => pack(0, join(written.moved, written.length)),
+        Err(unstraightened) => unstraightened_code(unstraightened),
     }
 }
 

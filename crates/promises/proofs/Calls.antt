@@ -42,8 +42,8 @@ use Rattle.scan.specs.Answer.{scan_answer, said as scan_said}
 use Rattle.scan.proofs.AnswerLaws.{said-fault}
 use Rattle.scan.proofs.Theorems.{no-cause-four}
 use Rattle.marking.specs.Answer.{verdict_answer, said as check_said}
-use Rattle.straighten.specs.declared.Straightening.TheVariants.{Straightened, Broken}
-use Rattle.straighten.specs.Answer.{straightened_answer, said as straight_said}
+use Rattle.straighten.specs.declared.Unstraightened.TheVariants.{Broken}
+use Rattle.straighten.specs.Answer.{moved_to, straightened_answer, said as straight_said}
 use Rattle.straighten.proofs.AnswerLaws.{answer-means as straight-means}
 use Rattle.straighten.proofs.Theorems.{said-straightened, said-broken, never-broken-D, untouched, written_behind, written-accepted}
 use Rattle.counts.specs.declared.tally.Tally.{Tally}
@@ -223,7 +223,7 @@ module _ (edition : ℕ) (starts : List ℕ) (c : Columns) (count : ℕ) (small 
       (λ k l w. n (done-code two_values of_marking (straighten-decodable edition starts c count small file out list) _ (ap straight_said w)))
 
   module _ (n k : ℕ) (straight : decoded two_values of_marking (straighten_call edition starts c count file out list).number ≡ done (n ∷ k ∷ [])) where
-    is-straight : (straightened_answer edition starts c count file out list).result ≡ Straightened n k
+    is-straight : (straightened_answer edition starts c count file out list).result ≡ moved_to n k
     is-straight = said-straightened _ n k (sym straighten-says ∙ straight)
 
     pub straighten-then-check : check_call edition starts c count (take n (straighten_call edition starts c count file out list).output) ≡ coded (done [])
@@ -255,7 +255,7 @@ pub straighten-never-204 : (edition : ℕ) (starts : List ℕ) (c : Columns) (co
     → decoded two_values of_marking (straighten_call edition starts c count file out list).number ≡ broken 4 e t → ⊥
 straighten-never-204 edition starts c count small file out list e t x =
     let s = said-broken _ D e t (sym (straighten-says edition starts c count small file out list) ∙ x) in
-    let w = (straight-means edition starts c count file out list (Broken D e t) s).0 in
+    let w = (straight-means edition starts c count file out list (Err (Broken D e t)) s).0 in
     never-broken-D edition starts c count file out list w.0 w.1 e t s
 
 -- ---- the tally

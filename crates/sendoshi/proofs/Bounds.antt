@@ -63,9 +63,8 @@ use Rattle.counts.specs.Tally.{has_status, of_status, tally}
 use Rattle.counts.specs.Answer.{counted, transactions_answer, store_reads_answer, tallied, tally_answer, count_said, tally_said}
 use Rattle.straighten.specs.Straight.{straightened}
 use Rattle.marking.specs.declared.check.Unchecked.TheVariants.{HistoryRefused, MarkingRefused}
-use Rattle.straighten.specs.declared.Straightening.{Straightening}
-use Rattle.straighten.specs.declared.Straightening.TheVariants.{Straightened, Broken, Refused, MarkingRefused as Unmarked}
-use Rattle.straighten.specs.Answer.{straightened_answer, said as straight_said}
+use Rattle.straighten.specs.declared.Unstraightened.TheVariants.{Broken, Refused, MarkingRefused as Unmarked}
+use Rattle.straighten.specs.Answer.{Straightening, moved_to, straightened_answer, said as straight_said}
 use Rattle.straighten.proofs.StraightLaws.{straight-length, moved-few}
 use Rattle.straighten.proofs.AnswerLaws.{answer-means}
 use Rattle.codes.specs.Codes.{most, place, Within, Halves, Quarters, Known}
@@ -253,9 +252,9 @@ module _ (edition : ℕ) (starts : List ℕ) (c : Columns) (count : ℕ) (small 
 
   -- ---- the straightening
 
-  straightened-halves : (file output list : List ℕ) (n k : ℕ) → (straightened_answer edition starts c count file output list).result ≡ Straightened n k → Halves k n
+  straightened-halves : (file output list : List ℕ) (n k : ℕ) → (straightened_answer edition starts c count file output list).result ≡ moved_to n k → Halves k n
   straightened-halves file output list n k x =
-      let d = answer-means edition starts c count file output list (Straightened n k) x in
+      let d = answer-means edition starts c count file output list (moved_to n k) x in
       let m = d.marking in
       let h = history c count in
       let r = call-readable edition starts c count d.passes.fine in
@@ -274,15 +273,15 @@ module _ (edition : ℕ) (starts : List ℕ) (c : Columns) (count : ℕ) (small 
       broken-known q i t k = k
 
       go : (j : Straightening) → (straightened_answer edition starts c count file output list).result ≡ j → Decodable two_values of_marking (straight_said j)
-      go (Straightened n k) w = let h = straightened-halves file output list n k w in (h, two_back k n h)
-      go (Broken q i t) w =
-          let d = (answer-means edition starts c count file output list (Broken q i t) w).0 in
+      go (Ok d) w = let h = straightened-halves file output list d.length d.moved w in (h, two_back d.moved d.length h)
+      go (Err (Broken q i t)) w =
+          let d = (answer-means edition starts c count file output list (Err (Broken q i t)) w).0 in
           let h = history c count in
           let r = call-readable edition starts c count d.1.fine in
           let m = straightened (start_of starts) h d.0 in
           broken-known q i t (verdict-decodable h r no_value refl (start_of starts) m (Verdict.Broken q i t) d.2)
-      go (Refused r) w = history-decodable small (straighten-refusal edition starts c count file output list r w) two_values (omega arith) (omega arith)
-      go (Unmarked r) w = marking-decodable two_values (straighten-marking edition starts c count file output list r w)
+      go (Err (Refused r)) w = history-decodable small (straighten-refusal edition starts c count file output list r w) two_values (omega arith) (omega arith)
+      go (Err (Unmarked r)) w = marking-decodable two_values (straighten-marking edition starts c count file output list r w)
 
 -- ---- the counts and the tally
 

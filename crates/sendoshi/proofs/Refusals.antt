@@ -31,7 +31,7 @@ use Rattle.marking_reader.specs.File.{known, FileRead, content, refused, file_re
 use Rattle.marking.specs.Answer.{ruled, after_columns, verdict_answer}
 use Rattle.marking.proofs.Theorems.{history-refused}
 use Rattle.marking.specs.declared.check.Unchecked.TheVariants.{HistoryRefused, MarkingRefused}
-use Rattle.straighten.specs.declared.Straightening.TheVariants.{Refused, MarkingRefused as Unmarked}
+use Rattle.straighten.specs.declared.Unstraightened.TheVariants.{Refused, MarkingRefused as Unmarked}
 use Rattle.straighten.specs.Answer.{straightened_answer}
 use Rattle.straighten.proofs.AnswerLaws.{answer-means as straight-means}
 use Rattle.sendoshi.proofs.Numbers.{Asked, widen, events-number, call-number, asked-number, then-cases}
@@ -126,14 +126,14 @@ check-marking edition starts c count file r x = go (history_answer edition start
     go (Err p) k = let z : ◌≡◌ {A = ℕ} 0 1 = cc in absurd (omega arith)
 
 pub straighten-refusal : (edition : ℕ) (starts : List ℕ) (c : Columns) (count : ℕ) (file output list : List ℕ) (r : Refusal)
-    → (straightened_answer edition starts c count file output list).result ≡ Refused r → Asked 3 17 count r
+    → (straightened_answer edition starts c count file output list).result ≡ Err (Refused r) → Asked 3 17 count r
 straighten-refusal edition starts c count file output list r x =
     ⊎_elim
     (λ a. call-number edition starts c count r a)
     (λ b. short-refusal count r (sym b.1))
-    (straight-means edition starts c count file output list (Refused r) x).0
+    (straight-means edition starts c count file output list (Err (Refused r)) x).0
 
 pub straighten-marking : (edition : ℕ) (starts : List ℕ) (c : Columns) (count : ℕ) (file output list : List ℕ) (r : Refusal)
-    → (straightened_answer edition starts c count file output list).result ≡ Unmarked r → OfMarking r
+    → (straightened_answer edition starts c count file output list).result ≡ Err (Unmarked r) → OfMarking r
 straighten-marking edition starts c count file output list r x =
-    marking-number (known (history c count)) file r.question r.at (straight-means edition starts c count file output list (Unmarked r) x).0.1
+    marking-number (known (history c count)) file r.question r.at (straight-means edition starts c count file output list (Err (Unmarked r)) x).0.1

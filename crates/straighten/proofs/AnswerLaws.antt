@@ -27,10 +27,9 @@ use Rattle.opacity.specs.declared.verdict.Verdict.{Verdict}
 use Rattle.opacity.specs.declared.verdict.Verdict.TheVariants.{Accepted, Broken as Breaks}
 use Rattle.opacity.specs.Marking.{Marking, ReadableFor, marking_bytes, verdict}
 use Rattle.marking_reader.specs.File.{known, FileRead, content, refused, file_read}
-use Rattle.straighten.specs.declared.Straightening.{Straightening}
-use Rattle.straighten.specs.declared.Straightening.TheVariants.{Straightened, Broken, Refused, MarkingRefused}
+use Rattle.straighten.specs.declared.Unstraightened.TheVariants.{Broken, Refused, MarkingRefused}
 use Rattle.straighten.specs.Straight.{straightened, moved_events}
-use Rattle.straighten.specs.Answer.{Given, gives, after_verdict, judged, roomy, after_file, after_columns, straightened_answer, Passes, Short}
+use Rattle.straighten.specs.Answer.{Straightening, moved_to, Given, gives, after_verdict, judged, roomy, after_file, after_columns, straightened_answer, Passes, Short}
 use Rattle.straighten.proofs.StraightLaws.{accepted-same}
 
 -- ---- 15 is no question of the history
@@ -92,16 +91,16 @@ pub record Done (edition : ℕ) (starts : List ℕ) (c : Columns) (n : ℕ) (fil
   pub entries : list' ≡ over (moved_events (start_of starts) (history c n) marking) list
 
 module _ (edition : ℕ) (starts : List ℕ) (c : Columns) (n : ℕ) (file output list : List ℕ) where
-  pub history-said : (r : Refusal) → history_answer edition starts c n ≡ Err r → straightened_answer edition starts c n file output list ≡ gives (Refused r) output list
+  pub history-said : (r : Refusal) → history_answer edition starts c n ≡ Err r → straightened_answer edition starts c n file output list ≡ gives (Err (Refused r)) output list
   unfolding straightened_answer
   history-said r x = rw x
 
   pub marking-said : (q byte : ℕ) → history_answer edition starts c n ≡ Ok tt → file_read (known (history c n)) file ≡ refused q byte
-      → straightened_answer edition starts c n file output list ≡ gives (MarkingRefused (refuse q byte)) output list
+      → straightened_answer edition starts c n file output list ≡ gives (Err (MarkingRefused (refuse q byte))) output list
   unfolding straightened_answer
   marking-said q byte x y = rw (x, y)
 
-  pub short-said : Short edition starts c n file output list → straightened_answer edition starts c n file output list ≡ gives (Refused (refuse 15 n)) output list
+  pub short-said : Short edition starts c n file output list → straightened_answer edition starts c n file output list ≡ gives (Err (Refused (refuse 15 n))) output list
   unfolding straightened_answer
   short-said s = rw (s.fine, s.holds, s.room)
 
@@ -112,33 +111,33 @@ module _ (edition : ℕ) (starts : List ℕ) (c : Columns) (n : ℕ) (file outpu
 
     pub done-said : verdict (start_of starts) (history c n) (straightened (start_of starts) (history c n) m) ≡ Accepted
         → straightened_answer edition starts c n file output list
-        ≡ gives (Straightened (length (marking_bytes (straightened (start_of starts) (history c n) m))) (length (moved_events (start_of starts) (history c n) m)))
+        ≡ gives (moved_to (length (marking_bytes (straightened (start_of starts) (history c n) m))) (length (moved_events (start_of starts) (history c n) m)))
         (over (marking_bytes (straightened (start_of starts) (history c n) m)) output) (over (moved_events (start_of starts) (history c n) m) list)
     unfolding judged
     done-said v = judged-said ∙ rw v
 
     pub broken-said : (q : Rule) (i t : ℕ) → verdict (start_of starts) (history c n) (straightened (start_of starts) (history c n) m) ≡ Breaks q i t
-        → straightened_answer edition starts c n file output list ≡ gives (Broken q i t) output list
+        → straightened_answer edition starts c n file output list ≡ gives (Err (Broken q i t)) output list
     unfolding judged
     broken-said q i t v = judged-said ∙ rw v
 
     -- a marking that the rules accept is written as it is
     pub same-said : ReadableFor (history c n) m → verdict (start_of starts) (history c n) m ≡ Accepted → file ≡ marking_bytes m
-        → straightened_answer edition starts c n file output list ≡ gives (Straightened (length file) 0) (over file output) list
+        → straightened_answer edition starts c n file output list ≡ gives (moved_to (length file) 0) (over file output) list
     same-said f v e =
         let s = accepted-same (start_of starts) (history c n) m f v in
         done-said (ap (verdict (start_of starts) (history c n)) s.0 ∙ v)
-        ∙ (λ i. gives (Straightened (length (marking_bytes (s.0 i))) (length (s.1 i))) (over (marking_bytes (s.0 i)) output) (over (s.1 i) list))
-        ∙ ap (λ (b : List ℕ). gives (Straightened (length b) 0) (over b output) list) (sym e)
+        ∙ (λ i. gives (moved_to (length (marking_bytes (s.0 i))) (length (s.1 i))) (over (marking_bytes (s.0 i)) output) (over (s.1 i) list))
+        ∙ ap (λ (b : List ℕ). gives (moved_to (length b) 0) (over b output) list) (sym e)
 
   -- what a result tells
   abbrev pub Tells : Straightening → List ℕ → List ℕ → Type 0
-  Tells (Straightened k l) o s = Done edition starts c n file output list k l o s
-  Tells (Broken q i t) o s =
+  Tells (Ok d) o s = Done edition starts c n file output list d.length d.moved o s
+  Tells (Err (Broken q i t)) o s =
       ((m : Marking) × Passes edition starts c n file output list m × (verdict (start_of starts) (history c n) (straightened (start_of starts) (history c n) m) ≡ Breaks q i t))
       × (o ≡ output) × (s ≡ list)
-  Tells (Refused r) o s = ((history_answer edition starts c n ≡ Err r) ⊎ (Short edition starts c n file output list × (r ≡ refuse 15 n))) × (o ≡ output) × (s ≡ list)
-  Tells (MarkingRefused r) o s =
+  Tells (Err (Refused r)) o s = ((history_answer edition starts c n ≡ Err r) ⊎ (Short edition starts c n file output list × (r ≡ refuse 15 n))) × (o ≡ output) × (s ≡ list)
+  Tells (Err (MarkingRefused r)) o s =
       ((history_answer edition starts c n ≡ Ok tt) × (file_read (known (history c n)) file ≡ refused r.question r.at))
       × (o ≡ output) × (s ≡ list)
 
@@ -155,7 +154,7 @@ module _ (edition : ℕ) (starts : List ℕ) (c : Columns) (n : ℕ) (file outpu
       rules m p (Breaks q i t) v = ((m, p, v), refl, refl)
 
       buffers : (fine : history_answer edition starts c n ≡ Ok tt) (m : Marking) (holds : file_read (known (history c n)) file ≡ content m) (b : Bool) → roomy (history c n) file output list ≡ b
-          → TellsOf (cond b (judged (start_of starts) (history c n) m output list) (gives (Refused (refuse 15 n)) output list))
+          → TellsOf (cond b (judged (start_of starts) (history c n) m output list) (gives (Err (Refused (refuse 15 n))) output list))
       buffers fine m holds true r = rules m (record { fine = fine; holds = holds; room = r }) (verdict (start_of starts) (history c n) (straightened (start_of starts) (history c n) m)) refl
       buffers fine m holds false r = (inr (record { fine = fine; marking = m; holds = holds; room = r }, refl), refl, refl)
 

@@ -35,10 +35,9 @@ use Rattle.marking_reader.proofs.ContentLaws.{content-readable}
 use Rattle.marking_reader.proofs.ReadBack.{bytes-content}
 use Rattle.marking_reader.proofs.WriteBack.{content-bytes}
 use Rattle.marking.proofs.Theorems.{by-verdict, accepted-iff, bytes-judged}
-use Rattle.straighten.specs.declared.Straightening.{Straightening}
-use Rattle.straighten.specs.declared.Straightening.TheVariants.{Straightened, Broken, Refused, MarkingRefused}
+use Rattle.straighten.specs.declared.Unstraightened.TheVariants.{Broken, Refused, MarkingRefused}
 use Rattle.straighten.specs.Straight.{straightened, moved_events, FirstIllegal}
-use Rattle.straighten.specs.Answer.{Given, gives, after_verdict, judged, roomy, after_file, after_columns, straightened_answer, first_edition_answer, said, Passes, Short}
+use Rattle.straighten.specs.Answer.{Straightening, moved_to, Given, gives, after_verdict, judged, roomy, after_file, after_columns, straightened_answer, first_edition_answer, said, Passes, Short}
 use Rattle.straighten.specs.Words.{Written}
 use Rattle.straighten.proofs.StraightLaws.{moved-rise, straight-readable, straight-accepted, straight-length}
 use Rattle.straighten.proofs.RuleLaws.{order-rules-same, never-D, E-first-illegal}
@@ -56,37 +55,37 @@ module _ (edition : ℕ) (starts : List ℕ) (c : Columns) (n : ℕ) (file outpu
   -- ---- which answer comes when
 
   -- 17, 3 of the start values or an event's own question comes before all else, with its event, for 17 and 3 the count; 15 is not among them.
-  pub history-refused : (r : Refusal) → (r.question ≡ 15 → ⊥) → (given.result ≡ Refused r) ↔ (history_answer edition starts c n ≡ Err r)
+  pub history-refused : (r : Refusal) → (r.question ≡ 15 → ⊥) → (given.result ≡ Err (Refused r)) ↔ (history_answer edition starts c n ≡ Err r)
   history-refused r u = (
-    λ x. ⊎_elim (λ a. a) (λ b. absurd (u (ap (λ (y : Refusal). y.question) b.1))) (answer-means edition starts c n file output list (Refused r) x).0,
+    λ x. ⊎_elim (λ a. a) (λ b. absurd (u (ap (λ (y : Refusal). y.question) b.1))) (answer-means edition starts c n file output list (Err (Refused r)) x).0,
     λ x. ap (λ (g : Given). g.result) (history-said edition starts c n file output list r x),
   )
 
   -- Then the marking's questions, with the byte.
-  pub marking-refused : (q byte : ℕ) → (given.result ≡ MarkingRefused (refuse q byte)) ↔ ((history_answer edition starts c n ≡ Ok tt) × (file_read (known events) file ≡ refused q byte))
+  pub marking-refused : (q byte : ℕ) → (given.result ≡ Err (MarkingRefused (refuse q byte))) ↔ ((history_answer edition starts c n ≡ Ok tt) × (file_read (known events) file ≡ refused q byte))
   marking-refused q byte = (
-    λ x. (answer-means edition starts c n file output list (MarkingRefused (refuse q byte)) x).0,
+    λ x. (answer-means edition starts c n file output list (Err (MarkingRefused (refuse q byte))) x).0,
     λ w. ap (λ (g : Given). g.result) (marking-said edition starts c n file output list q byte w.0 w.1),
   )
 
   -- Then 15, with the count: the output is shorter than the marking, or the list has no entry for every store read.
-  pub short-refused : (e : ℕ) → (given.result ≡ Refused (refuse 15 e)) ↔ (Short edition starts c n file output list × (e ≡ n))
+  pub short-refused : (e : ℕ) → (given.result ≡ Err (Refused (refuse 15 e))) ↔ (Short edition starts c n file output list × (e ≡ n))
   short-refused e = (
     λ x.
         ⊎_elim (λ a. absurd (never-15 edition starts c n e a)) (λ b. (b.0, ap (λ (y : Refusal). y.at) b.1))
-        (answer-means edition starts c n file output list (Refused (refuse 15 e)) x).0,
-    λ w. ap (λ (g : Given). g.result) (short-said edition starts c n file output list w.0) ∙ ap (λ (i : ℕ). Refused (refuse 15 i)) (sym w.1),
+        (answer-means edition starts c n file output list (Err (Refused (refuse 15 e))) x).0,
+    λ w. ap (λ (g : Given). g.result) (short-said edition starts c n file output list w.0) ∙ ap (λ (i : ℕ). Err (Refused (refuse 15 i))) (sym w.1),
   )
 
   -- Whatever the answer is but success, output and list are as they were.
-  pub untouched : ((k l : ℕ) → given.result ≡ Straightened k l → ⊥) → (given.output ≡ output) × (given.list ≡ list)
+  pub untouched : ((k l : ℕ) → given.result ≡ moved_to k l → ⊥) → (given.output ≡ output) × (given.list ≡ list)
   untouched u = go given.result refl
     where
       go : (r : Straightening) → given.result ≡ r → (given.output ≡ output) × (given.list ≡ list)
-      go (Straightened k l) x = absurd (u k l x)
-      go (Broken q i t) x = let w = answer-means edition starts c n file output list (Broken q i t) x in (w.1, w.2)
-      go (Refused r) x = let w = answer-means edition starts c n file output list (Refused r) x in (w.1, w.2)
-      go (MarkingRefused r) x = let w = answer-means edition starts c n file output list (MarkingRefused r) x in (w.1, w.2)
+      go (Ok d) x = absurd (u d.length d.moved x)
+      go (Err (Broken q i t)) x = let w = answer-means edition starts c n file output list (Err (Broken q i t)) x in (w.1, w.2)
+      go (Err (Refused r)) x = let w = answer-means edition starts c n file output list (Err (Refused r)) x in (w.1, w.2)
+      go (Err (MarkingRefused r)) x = let w = answer-means edition starts c n file output list (Err (MarkingRefused r)) x in (w.1, w.2)
 
   -- ---- where no question refuses the call, and m is what the file holds
 
@@ -102,23 +101,23 @@ module _ (edition : ℕ) (starts : List ℕ) (c : Columns) (n : ℕ) (file outpu
     verdict-of m' v e x = ap (λ (y : Marking). verdict (start_of starts) events (straightened (start_of starts) events y)) (sym (the-content m' e)) ∙ x
 
     -- It succeeds exactly if the outcomes and order are a justification.
-    pub succeeds-exactly : ((k : ℕ) × (l : ℕ) × (given.result ≡ Straightened k l)) ↔ Justified (start_of starts) events m.places
+    pub succeeds-exactly : ((k : ℕ) × (l : ℕ) × (given.result ≡ moved_to k l)) ↔ Justified (start_of starts) events m.places
     succeeds-exactly = (
       λ w.
-          let d = answer-means edition starts c n file output list (Straightened w.0 w.1) w.2 in
+          let d = answer-means edition starts c n file output list (moved_to w.0 w.1) w.2 in
           (straight-accepted (start_of starts) events m readable-for).0 (verdict-of d.marking Accepted d.passes.holds d.accepted),
       λ j. (_, _, ap (λ (g : Given). g.result) (done-said edition starts c n file output list m p ((straight-accepted (start_of starts) events m readable-for).1 j))),
     )
 
     -- Otherwise the answer is the checker's verdict on the straightened marking,
-    pub broken-exactly : (q : Rule) (i t : ℕ) → (given.result ≡ Broken q i t) ↔ (verdict (start_of starts) events (straightened (start_of starts) events m) ≡ Breaks q i t)
+    pub broken-exactly : (q : Rule) (i t : ℕ) → (given.result ≡ Err (Broken q i t)) ↔ (verdict (start_of starts) events (straightened (start_of starts) events m) ≡ Breaks q i t)
     broken-exactly q i t = (
-      λ x. let w = (answer-means edition starts c n file output list (Broken q i t) x).0 in verdict-of w.0 (Breaks q i t) w.1.holds w.2,
+      λ x. let w = (answer-means edition starts c n file output list (Err (Broken q i t)) x).0 in verdict-of w.0 (Breaks q i t) w.1.holds w.2,
       λ v. ap (λ (g : Given). g.result) (broken-said edition starts c n file output list m p q i t v),
     )
 
     -- for A, B and C that on the file given,
-    pub order-rule-exactly : (q : Rule) → rule_number q < 4 → (i t : ℕ) → (given.result ≡ Broken q i t) ↔ (verdict_answer edition starts c n file ≡ Ok (Breaks q i t))
+    pub order-rule-exactly : (q : Rule) → rule_number q < 4 → (i t : ℕ) → (given.result ≡ Err (Broken q i t)) ↔ (verdict_answer edition starts c n file ≡ Ok (Breaks q i t))
     order-rule-exactly q l i t =
         let a = broken-exactly q i t in
         let b = order-rules-same (start_of starts) events m q l i t in
@@ -126,11 +125,11 @@ module _ (edition : ℕ) (starts : List ℕ) (c : Columns) (n : ℕ) (file outpu
         (λ x. d.1 (b.0 (a.0 x)), λ x. a.1 (b.1 (d.0 x)))
 
     -- never D,
-    pub never-broken-D : (i t : ℕ) → given.result ≡ Broken D i t → ⊥
+    pub never-broken-D : (i t : ℕ) → given.result ≡ Err (Broken D i t) → ⊥
     never-broken-D i t x = never-D (start_of starts) events m readable-for i t ((broken-exactly D i t).0 x)
 
     -- and E exactly if A, B and C hold, with the first store read that is not legal in the order and its transaction.
-    pub E-exactly : (i t : ℕ) → (given.result ≡ Broken E i t) ↔ (FirstIllegal (start_of starts) events m i × (t ≡ (event_at events i).transaction))
+    pub E-exactly : (i t : ℕ) → (given.result ≡ Err (Broken E i t)) ↔ (FirstIllegal (start_of starts) events m i × (t ≡ (event_at events i).transaction))
     E-exactly i t =
         let a = broken-exactly E i t in
         let b = E-first-illegal (start_of starts) events m readable-for i t in
@@ -138,7 +137,7 @@ module _ (edition : ℕ) (starts : List ℕ) (c : Columns) (n : ℕ) (file outpu
 
   -- A file that the checker accepts comes back byte by byte, with nothing moved.
   pub accepted-back : verdict_answer edition starts c n file ≡ Ok Accepted → Bytes file → roomy events file output list ≡ true
-      → given ≡ gives (Straightened (length file) 0) (over file output) list
+      → given ≡ gives (moved_to (length file) 0) (over file output) list
   accepted-back x by room =
       let j = (accepted-iff edition starts c n file).0 x in
       let p : Passes edition starts c n file output list j.marking = record { fine = j.fine; holds = j.holds; room = room } in
@@ -147,9 +146,9 @@ module _ (edition : ℕ) (starts : List ℕ) (c : Columns) (n : ℕ) (file outpu
 
   -- ---- what is written
 
-  module _ (k l : ℕ) (x : given.result ≡ Straightened k l) where
+  module _ (k l : ℕ) (x : given.result ≡ moved_to k l) where
     done : Done edition starts c n file output list k l given.output given.list
-    done = answer-means edition starts c n file output list (Straightened k l) x
+    done = answer-means edition starts c n file output list (moved_to k l) x
 
     bytes-written : take k given.output ≡ marking_bytes (straightened (start_of starts) events done.marking)
     bytes-written = ap (take k) done.bytes ∙ take-over (marking_bytes (straightened (start_of starts) events done.marking)) output k done.size
@@ -192,53 +191,56 @@ module _ (edition : ℕ) (starts : List ℕ) (c : Columns) (n : ℕ) (file outpu
 
     -- Straightening what was written moves nothing: with room, those bytes come back.
     pub again : (output₂ list₂ : List ℕ) → roomy events (take k given.output) output₂ list₂ ≡ true
-        → straightened_answer edition starts c n (take k given.output) output₂ list₂ ≡ gives (Straightened k 0) (over (take k given.output) output₂) list₂
+        → straightened_answer edition starts c n (take k given.output) output₂ list₂ ≡ gives (moved_to k 0) (over (take k given.output) output₂) list₂
     again output₂ list₂ room =
         let m : Marking = straightened (start_of starts) events done.marking in
         let e = bytes-content events m (history-readable edition starts c n done.passes.fine).1 written-readable in
         same-said edition starts c n (take k given.output) output₂ list₂ m
         (record { fine = done.passes.fine; holds = ap (file_read (known events)) bytes-written ∙ e; room = room }) written-readable done.accepted bytes-written
-        ∙ ap (λ (i : ℕ). gives (Straightened i 0) (over (take k given.output) output₂) list₂) (ap length bytes-written ∙ done.size)
+        ∙ ap (λ (i : ℕ). gives (moved_to i 0) (over (take k given.output) output₂) list₂) (ap length bytes-written ∙ done.size)
 
 -- ---- what the straightening says, for every call
 
-pub said-straightened : (x : Straightening) (k l : ℕ) → said x ≡ is_done (k ∷ l ∷ []) → x ≡ Straightened k l
+pub said-straightened : (x : Straightening) (k l : ℕ) → said x ≡ is_done (k ∷ l ∷ []) → x ≡ moved_to k l
 unfolding said
-said-straightened (Straightened a b) k l e = cc
-said-straightened (Broken q i t) k l e = absurd (let z : ◌≡◌ {A = ℕ} 0 1 = cc in omega arith)
-said-straightened (Refused r) k l e = absurd (let z : ◌≡◌ {A = ℕ} 0 1 = cc in omega arith)
-said-straightened (MarkingRefused r) k l e = absurd (let z : ◌≡◌ {A = ℕ} 0 1 = cc in omega arith)
+said-straightened (Ok d) k l e =
+    let a : d.length ≡ k = cc in
+    let b : d.moved ≡ l = cc in
+    λ i. moved_to (a i) (b i)
+said-straightened (Err (Broken q i t)) k l e = absurd (let z : ◌≡◌ {A = ℕ} 0 1 = cc in omega arith)
+said-straightened (Err (Refused r)) k l e = absurd (let z : ◌≡◌ {A = ℕ} 0 1 = cc in omega arith)
+said-straightened (Err (MarkingRefused r)) k l e = absurd (let z : ◌≡◌ {A = ℕ} 0 1 = cc in omega arith)
 
-pub said-broken : (x : Straightening) (q : Rule) (i t : ℕ) → said x ≡ broken (rule_number q) i t → x ≡ Broken q i t
+pub said-broken : (x : Straightening) (q : Rule) (i t : ℕ) → said x ≡ broken (rule_number q) i t → x ≡ Err (Broken q i t)
 unfolding said
-said-broken (Straightened a b) q i t e = absurd (let z : ◌≡◌ {A = ℕ} 0 1 = cc in omega arith)
-said-broken (Broken r j u) q i t e =
+said-broken (Ok d) q i t e = absurd (let z : ◌≡◌ {A = ℕ} 0 1 = cc in omega arith)
+said-broken (Err (Broken r j u)) q i t e =
     let a : rule_number r ≡ rule_number q = cc in
     let b : j ≡ i = cc in
     let d : u ≡ t = cc in
-    λ k. Broken (same-rule r q a k) (b k) (d k)
-said-broken (Refused r) q i t e = absurd (let z : ◌≡◌ {A = ℕ} 0 1 = cc in omega arith)
-said-broken (MarkingRefused r) q i t e = absurd (let z : ◌≡◌ {A = ℕ} 0 1 = cc in omega arith)
+    λ k. Err (Broken (same-rule r q a k) (b k) (d k))
+said-broken (Err (Refused r)) q i t e = absurd (let z : ◌≡◌ {A = ℕ} 0 1 = cc in omega arith)
+said-broken (Err (MarkingRefused r)) q i t e = absurd (let z : ◌≡◌ {A = ℕ} 0 1 = cc in omega arith)
 
-said-refused : (x : Straightening) (q e : ℕ) → said x ≡ at_event q e → x ≡ Refused (refuse q e)
+said-refused : (x : Straightening) (q e : ℕ) → said x ≡ at_event q e → x ≡ Err (Refused (refuse q e))
 unfolding said
-said-refused (Straightened a b) q e k = absurd (let z : ◌≡◌ {A = ℕ} 0 1 = cc in omega arith)
-said-refused (Broken r j u) q e k = absurd (let z : ◌≡◌ {A = ℕ} 0 1 = cc in omega arith)
-said-refused (Refused r) q e k =
+said-refused (Ok d) q e k = absurd (let z : ◌≡◌ {A = ℕ} 0 1 = cc in omega arith)
+said-refused (Err (Broken r j u)) q e k = absurd (let z : ◌≡◌ {A = ℕ} 0 1 = cc in omega arith)
+said-refused (Err (Refused r)) q e k =
     let a : r.question ≡ q = cc in
     let b : r.at ≡ e = cc in
-    λ i. Refused (refuse (a i) (b i))
-said-refused (MarkingRefused r) q e k = absurd (let z : ◌≡◌ {A = ℕ} 0 1 = cc in omega arith)
+    λ i. Err (Refused (refuse (a i) (b i)))
+said-refused (Err (MarkingRefused r)) q e k = absurd (let z : ◌≡◌ {A = ℕ} 0 1 = cc in omega arith)
 
-said-unread : (x : Straightening) (q b : ℕ) → said x ≡ at_byte q b → x ≡ MarkingRefused (refuse q b)
+said-unread : (x : Straightening) (q b : ℕ) → said x ≡ at_byte q b → x ≡ Err (MarkingRefused (refuse q b))
 unfolding said
-said-unread (Straightened n m) q b k = absurd (let z : ◌≡◌ {A = ℕ} 0 1 = cc in omega arith)
-said-unread (Broken r j u) q b k = absurd (let z : ◌≡◌ {A = ℕ} 0 1 = cc in omega arith)
-said-unread (Refused r) q b k = absurd (let z : ◌≡◌ {A = ℕ} 0 1 = cc in omega arith)
-said-unread (MarkingRefused r) q b k =
+said-unread (Ok d) q b k = absurd (let z : ◌≡◌ {A = ℕ} 0 1 = cc in omega arith)
+said-unread (Err (Broken r j u)) q b k = absurd (let z : ◌≡◌ {A = ℕ} 0 1 = cc in omega arith)
+said-unread (Err (Refused r)) q b k = absurd (let z : ◌≡◌ {A = ℕ} 0 1 = cc in omega arith)
+said-unread (Err (MarkingRefused r)) q b k =
     let a : r.question ≡ q = cc in
     let d : r.at ≡ b = cc in
-    λ i. MarkingRefused (refuse (a i) (d i))
+    λ i. Err (MarkingRefused (refuse (a i) (d i)))
 
 module _ (edition : ℕ) (starts : List ℕ) (c : Columns) (n : ℕ) (file output list : List ℕ) where
   abbrev result : Straightening
@@ -251,7 +253,7 @@ module _ (edition : ℕ) (starts : List ℕ) (c : Columns) (n : ℕ) (file outpu
   straightened-said = (
     λ w.
         let x = said-straightened result w.0 w.1 w.2 in
-        let d = answer-means edition starts c n file output list (Straightened w.0 w.1) x in
+        let d = answer-means edition starts c n file output list (moved_to w.0 w.1) x in
         (d.marking, d.passes, (succeeds-exactly edition starts c n file output list d.marking d.passes).0 (w.0, w.1, x)),
     λ w.
         let d = (succeeds-exactly edition starts c n file output list w.0 w.1).1 w.2 in
@@ -263,7 +265,7 @@ module _ (edition : ℕ) (starts : List ℕ) (c : Columns) (n : ℕ) (file outpu
       ↔ ((m : Marking) × Passes edition starts c n file output list m × (verdict (start_of starts) (history c n) (straightened (start_of starts) (history c n) m) ≡ Breaks q i t))
   unfolding said
   broken-said-exactly q i t = (
-    λ x. (answer-means edition starts c n file output list (Broken q i t) (said-broken result q i t x)).0,
+    λ x. (answer-means edition starts c n file output list (Err (Broken q i t)) (said-broken result q i t x)).0,
     λ w. ap said ((broken-exactly edition starts c n file output list w.0 w.1 q i t).1 w.2),
   )
 
@@ -272,11 +274,11 @@ module _ (edition : ℕ) (starts : List ℕ) (c : Columns) (n : ℕ) (file outpu
       ↔ ((history_answer edition starts c n ≡ Err (refuse q e)) ⊎ (Short edition starts c n file output list × (refuse q e ≡ refuse 15 n)))
   unfolding said
   refused-said q e = (
-    λ x. (answer-means edition starts c n file output list (Refused (refuse q e)) (said-refused result q e x)).0,
+    λ x. (answer-means edition starts c n file output list (Err (Refused (refuse q e))) (said-refused result q e x)).0,
     λ w.
         ⊎_elim
         (λ a. ap (λ (g : Given). said g.result) (history-said edition starts c n file output list (refuse q e) a))
-        (λ b. ap (λ (g : Given). said g.result) (short-said edition starts c n file output list b.0) ∙ ap (λ (r : Refusal). said (Refused r)) (sym b.1))
+        (λ b. ap (λ (g : Given). said g.result) (short-said edition starts c n file output list b.0) ∙ ap (λ (r : Refusal). said (Err (Refused r))) (sym b.1))
         w,
   )
 
@@ -303,7 +305,7 @@ module _ (start : ℕ → ℕ) (h : List Event) (n : ℕ) (file output list befo
       rules-same m moved (Breaks q i t) = refl
 
       room-same : (m : Marking) (b : Bool)
-          → (cond b (judged start h m output list) (gives (Refused (refuse 15 n)) output list)).result ≡ (cond b (judged start h m before marks) (gives (Refused (refuse 15 n)) before marks)).result
+          → (cond b (judged start h m output list) (gives (Err (Refused (refuse 15 n))) output list)).result ≡ (cond b (judged start h m before marks) (gives (Err (Refused (refuse 15 n))) before marks)).result
       room-same m true = rules-same _ _ (verdict start h (straightened start h m))
       room-same m false = refl
 

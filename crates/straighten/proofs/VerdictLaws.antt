@@ -27,7 +27,8 @@ use Rattle.marking_reader.proofs.WriteBack.{content-bytes}
 use Rattle.marking_writer.specs.Points.{is_gap, points_to}
 use Rattle.marking_writer.specs.Whole.{points_in, bytes_in}
 use Rattle.marking_writer.proofs.PointLaws.{points-are, points-same}
-use Rattle.straighten.specs.declared.Straightening.TheVariants.{Refused}
+use Rattle.std.specs.Prelude.{Err}
+use Rattle.straighten.specs.declared.Unstraightened.TheVariants.{Refused}
 use Rattle.straighten.specs.Straight.{straightened, moved_events}
 use Rattle.straighten.specs.Answer.{gives, after_verdict, judged, roomy, after_file}
 use Rattle.straighten.specs.Tables.{Room, listed}
@@ -79,7 +80,7 @@ file-size h file m holds by f = ap length (content-bytes (known h) file by m hol
 
 module _ (start : ℕ → ℕ) (h : List Event) (n : ℕ) (file output list : List ℕ) (m : Marking) (holds : file_read (known h) file ≡ content m)
     (room : Bool) (asked : room ≡ (leb (length file) (length output) and leb (length (store_reads h)) (length list))) where
-  pub after-short : room ≡ false → gives (Refused (refuse 15 n)) output list ≡ after_file start h n file output list (file_read (known h) file)
+  pub after-short : room ≡ false → gives (Err (Refused (refuse 15 n))) output list ≡ after_file start h n file output list (file_read (known h) file)
   unfolding roomy
   after-short z = let e : roomy h file output list ≡ false = sym asked ∙ z in rw (holds, e)
 

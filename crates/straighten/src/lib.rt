@@ -41,15 +41,17 @@ use rules::judge::{judge_after, judge_places};
 use rules::places::{places_of, writers_of};
 use rules::walk::Points;
 
-// The answer: the length of the marking written and the number of events moved; the rule that is
-// broken wherever the points are; the question that refuses the history or a lent buffer, with its
-// event; or the question that refuses the marking, with its byte.
+// A marking straightened: the length of what was written, and the number of events moved.
 #[derive(Clone, Copy)]
-pub enum Straightening {
-    Straightened {
-        length: usize,
-        moved: usize,
-    },
+pub struct Straightened {
+    pub length: usize,
+    pub moved: usize,
+}
+
+// Why nothing is written: a rule is broken wherever the points are; a question refuses the history or a
+// lent buffer, with its event; or one refuses the marking, with its byte.
+#[derive(Clone, Copy)]
+pub enum Unstraightened {
     Broken {
         rule: Rule,
         event: usize,
@@ -70,7 +72,7 @@ fn write_moved(
     moves: &[bool],
     output: &mut [u8],
     moved: &mut [u32],
-) -> Straightening
+) -> Result<Straightened, Unstraightened>
     requires begun_bound { (begun ≤ 64) × (length gaps.now ≤ 2048) × (length gaps.now ≤ length moves.now) }
     requires gaps_in_bounds { length (bytes_in order.now outcomes.now begun gaps.now) ≤ length output.old }
     requires gaps_in_bounds_2 { length (listed moves.now (length gaps.now)) ≤ length moved.old }
@@ -84,18 +86,18 @@ fn write_moved(
         transaction,
     } = verdict
     {
-        return Straightening::Broken {
+        return Err(Unstraightened::Broken {
             rule,
             event,
             transaction,
-        };
+        });
     }
     let length = write_marking(order, outcomes, begun, gaps, output);
     let number = list_moved(moves, gaps.len(), moved);
-    Straightening::Straightened {
+    Ok(Straightened {
         length,
         moved: number,
-    }
+    })
 }
 
 // Moves the points of a marking that was read, and judges what comes out, both by the same tables: a
@@ -162,7 +164,7 @@ pub fn straighten_log(
     file: &[u8],
     output: &mut [u8],
     moved: &mut [u32],
-) -> Straightening
+) -> Result<Straightened, Unstraightened>
     requires { readable log.now ≡ true }
     ensures { gives result output.new moved.new
         ≡ after_file (start_of starts.now) log.now (length log.now)
@@ -181,13 +183,13 @@ pub fn straighten_log(
     let mut outcomes = [0u8; 64];
     let mut gaps = [NO_POINT; MOST];
     if let Err(refusal) = read_marking(&marked, file, &mut order, &mut outcomes, &mut gaps) {
-        return Straightening::MarkingRefused(refusal);
+        return Err(Unstraightened::MarkingRefused(refusal));
     }
     if !has_room(file.len(), begun, output.len(), moved.len()) {
-        return Straightening::Refused(Refusal {
+        return Err(Unstraightened::Refused(Refusal {
             question: 15,
             at: log.len(),
-        });
+        }));
     }
     let mut moves = [false; MOST];
     let verdict = judge_moved(starts, &marked, &order, &outcomes, &mut gaps, &mut moves);
@@ -210,7 +212,7 @@ fn straighten_within<const N: usize>(
     file: &[u8],
     output: &mut [u8],
     moved: &mut [u32],
-) -> Straightening
+) -> Result<Straightened, Unstraightened>
     requires rows { IsRoom history.now.count N }
     requires few { N ≤ 2048 }
     ensures { gives result output.new moved.new
@@ -220,7 +222,7 @@ fn straighten_within<const N: usize>(
     let mut rows = [BLANK; N];
     match admit(history, &mut rows) {
         Ok(()) => { straighten_log(history.starts, &rows[..history.count], file, output, moved) }
-        Err(refusal) => Straightening::Refused(refusal),
+        Err(refusal) => Err(Unstraightened::Refused(refusal)),
     }
 }
 
@@ -231,7 +233,7 @@ pub fn straighten(
     file: &[u8],
     output: &mut [u8],
     moved: &mut [u32],
-) -> Straightening
+) -> Result<Straightened, Unstraightened>
     ensures { gives result output.new moved.new
         ≡ straightened_answer history.now.edition history.now.starts.now
         (columns_of history.now.columns) history.now.count file.now output.old moved.old }

@@ -8,32 +8,14 @@ use Rattle.codes.proofs.straighten_code.Goals as goal
 
 pub join-requires : goal.join-requires
 unfolding said
-join-requires c = known_as said c.in-Straightened.is c.requires
+join-requires c = known_as said c.in-Ok.is c.requires
 
-pub broken_code-requires : goal.broken_code-requires
-unfolding said
-broken_code-requires c = (known_as said c.in-Broken.is c.requires).1
+pub unstraightened_code-requires : goal.unstraightened_code-requires
+unstraightened_code-requires c = known_as said c.in-Err.is c.requires
 
-pub refusal_code-requires : goal.refusal_code-requires
-unfolding said
-refusal_code-requires c = (known_as said c.in-Refused.is c.requires).1
-
-pub refusal_code-requires-in-MarkingRefused : goal.refusal_code-requires-in-MarkingRefused
-unfolding said
-refusal_code-requires-in-MarkingRefused c = (known_as said c.in-MarkingRefused.is c.requires).1
-
-pub returns-in-Straightened : goal.returns-in-Straightened
+pub returns-in-Ok : goal.returns-in-Ok
 unfolding said coded place
-returns-in-Straightened c = coded-as said c.in-Straightened.is (c.pack.ensures ∙ ap (packed 0) c.join.ensures.0)
+returns-in-Ok c = coded-as said c.in-Ok.is (c.pack.ensures ∙ ap (packed 0) c.join.ensures.0)
 
-pub returns-in-Broken : goal.returns-in-Broken
-unfolding said
-returns-in-Broken c = coded-as said c.in-Broken.is c.broken_code.ensures
-
-pub returns-in-Refused : goal.returns-in-Refused
-unfolding said coded
-returns-in-Refused c = coded-as said c.in-Refused.is c.refusal_code.ensures
-
-pub returns-in-MarkingRefused : goal.returns-in-MarkingRefused
-unfolding said coded
-returns-in-MarkingRefused c = coded-as said c.in-MarkingRefused.is c.refusal_code-in-MarkingRefused.ensures
+pub returns-in-Err : goal.returns-in-Err
+returns-in-Err c = coded-as said c.in-Err.is c.unstraightened_code.ensures
