@@ -65,6 +65,14 @@ module _ (a : Asked) where
   unfolding body_step record_questions refusal ◌or◌
   body-other at kind body end e d = rw (e, d)
 
+-- ---- questions that none or one refuses
+
+pub unless-none : (o : Option ℕ) (at : ℕ) (x : MarkingStep) → o ≡ none → ◌≡◌ {A = Stepped} (Ok x) (unless o at x)
+unless-none o at x e = rw e
+
+pub unless-some : (o : Option ℕ) (at : ℕ) (x : MarkingStep) (q : ℕ) → o ≡ some q → ◌≡◌ {A = Stepped} (Err (refuse q at)) (unless o at x)
+unless-some o at x q e = rw e
+
 -- ---- questions asked one after another
 
 module _ (q at : ℕ) {b p : Bool} (qs : List Question) (same : b ≡ p) where
@@ -109,6 +117,9 @@ module _ (o : Option ℕ) (at : ℕ) (x : MarkingStep) where
       go (some q) e = cc
 
 -- ---- what an answer tells
+
+placed≢pointed : (x y w t o e : ℕ) → Placed x y w ≡ Pointed t o e → ⊥
+placed≢pointed x y w t o e d = cc
 
 -- a body that is answered with something other than a refusal has its size, and no question says no
 body-given : (b : Bool) (o : Option ℕ) (at : ℕ) (x y : MarkingStep) → ◌≡◌ {A = Stepped} (cond b (unless o at x) (Err (refuse 23 at))) (Ok y)

@@ -7,7 +7,7 @@ use Prim.Native.Nat.{ℕ, zero, suc, ◌+◌, ◌-◌, ◌/◌, ◌%◌, ◌^◌
 use native.Mathlib.Nat.{zero-add, add-zero, add-suc, suc-add, le_refl}
 use native.Mathlib.Omega.{arith}
 use lib.Dec.{eqb}
-use lib.Bits.{bit_and}
+use lib.Bits.{bit_and, and_le_l, and_le_r}
 use lib.Count.{count_trailing_zeros}
 use lib.ListN.{length}
 use borrow.Author.Tests.{eqb-true, eqb-false}
@@ -57,9 +57,24 @@ within-trans u c d w v = record { few = omega (arith, w.few, v.few); is_in = λ 
 pub within-rest : (u c t r : ℕ) → Within u c → bit_at t c ≡ 1 → r ≡ c - 2 ^ t → Within u r
 within-rest u c t r w h e = record { few = omega (arith, w.few); is_in = λ k g. w.is_in k (member-off t k c h (rw e at g)) }
 
+pub within-and-l : (a b : ℕ) → Within a (bit_and a b)
+within-and-l a b = record { few = and_le_l a b; is_in = λ k h. (and-member k a b h).0 }
+
+pub within-and-r : (a b : ℕ) → Within b (bit_and a b)
+within-and-r a b = record { few = and_le_r a b; is_in = λ k h. (and-member k a b h).1 }
+
 -- what is left without t has members other than t
 pub not-gone : (t k n : ℕ) → bit_at t n ≡ 1 → bit_at k (n - 2 ^ t) ≡ 1 → k ≡ t → ⊥
 not-gone t k n h g e = let z : bit_at t (n - 2 ^ t) ≡ 1 = rw e at g in omega (arith, member-gone t n h)
+
+-- a walk: what holds of the lowest and of all passed before holds of all passed after it
+pub passed-one : (P : ℕ → Type 0) (t left rest : ℕ) → bit_at t left ≡ 1 → rest ≡ left - 2 ^ t → P t → ((k : ℕ) → (bit_at k left ≡ 1 → ⊥) → P k)
+    → (k : ℕ) → (bit_at k rest ≡ 1 → ⊥) → P k
+passed-one P t left rest h e here before k out = go (eqb k t) refl
+  where
+    go : (b : Bool) → eqb k t ≡ b → P k
+    go true q = subst P (sym (eqb-true k t q)) here
+    go false q = before k (λ g. out (rw e (member-kept t k left h (eqb-false k t q) g)))
 
 -- ---- a walk
 

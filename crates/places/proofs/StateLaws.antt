@@ -54,6 +54,12 @@ unfolding codes_of
 codes-back zero n l = absurd (omega arith)
 codes-back (suc k) n l = let e : suc k - 1 ≡ k = omega arith in rw e
 
+pub coded-back : (k n : ℕ) → 0 < k → Coded k n → (n % 32 < 20) × Coded (k - 1) (n / 32)
+coded-back zero n l c = absurd (omega arith)
+coded-back (suc k) n l c =
+    let e : suc k - 1 ≡ k = omega arith in
+    rw e (rw (last_code k n) at (c.codes k (omega arith)), record { few = omega (arith, c.few); codes = λ i m. rw (earlier-code k n i m) at (c.codes i (omega arith)) })
+
 -- one place more
 pub one_more : (k n c : ℕ) → c < 32 → codes_of (k + 1) (n * 32 + c) ≡ codes_of k n ++ (c ∷ [])
 unfolding codes_of

@@ -22,7 +22,7 @@ use Rattle.events.specs.Questions.{readable}
 use Rattle.opacity.specs.Transactions.{last_write, own_write, is_own_read, is_store_read, store_reads, is_value, own_right}
 use Rattle.opacity.specs.Counts.{one}
 use Rattle.events.proofs.RegisterLaws.{register-low}
-use Rattle.opacity.proofs.Bounds.{transaction-known}
+use Rattle.opacity.proofs.Bounds.{transaction-known, transaction-low}
 use Rattle.opacity.proofs.HowMany.{how-many-more, how-many-low}
 use Rattle.reads.specs.Own.{last_at, noted, noted_at, reads_store, value_before, OwnWrites}
 
@@ -45,6 +45,9 @@ pub record Low (b : ℕ) (e : Event) : Type 0 where
 -- every event has a slot among those of the transactions begun, of which there are at most 64
 pub low : (h : List Event) → readable h ≡ true → (i : ℕ) → i < length h → Low (begins h) (event_at h i)
 low h r i l = record { transaction = transaction-known h r i l; register = register-low h r i l }
+
+pub low-64 : (h : List Event) → readable h ≡ true → (i : ℕ) → i < length h → Low 64 (event_at h i)
+low-64 h r i l = record { transaction = transaction-low h r i l; register = register-low h r i l }
 
 -- the last write with one event more
 write-more : (h : List Event) (i : ℕ) → i < length h → (t r : ℕ)

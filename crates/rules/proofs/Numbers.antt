@@ -1,13 +1,16 @@
 -- The first number that fails a test, as a program finds it by going upwards; tests that agree.
 -- Assumes nothing.
-use Prim.Native.Nat.{ℕ, zero, suc, ◌<◌}
-use native.Mathlib.Nat.{le_step, lt-suc_self}
+use Prim.Native.Nat.{ℕ, zero, suc, ◌+◌, ◌≤◌, ◌<◌}
+use native.Mathlib.Nat.{not-suc-le-zero, le_step, lt-suc_self}
+use native.Mathlib.Numerals.{add-one}
+use native.Mathlib.Omega.{arith}
 use mathlib.Core.Path.{◌≡◌, refl, sym, ap, ◌∙◌}
+use mathlib.Core.Logic.{⊎_elim}
 use mathlib.Core.Bool.{Bool, true, false, not, cond}
 use mathlib.Core.Option.{Option as Found, none, some}
 use Rattle.std.specs.Prelude.{Option, Some, None, is_some}
 use Rattle.lists.specs.Lists.{◌and◌, or_else, first, lowest, every}
-use Rattle.lists.proofs.ListLaws.{clash, not-true, not-false, first-none, every-e, every-i, first_some, none_first, lowest-here}
+use Rattle.lists.proofs.ListLaws.{clash, not-true, not-false, first-none, every-e, every-i, first_some, none_first, lowest-here, below-cases}
 use Rattle.links.specs.Writes.{given}
 use Rattle.rules.specs.Orders.{broken}
 
@@ -59,6 +62,39 @@ every-unbroken p n {o} e {b} t = go o e b t
     go None e false t = absurd (cc)
     go (Some c) e true t = absurd (cc)
     go (Some c) e false t = let r = first_some (λ j. not (p j)) n (some_of p n e) in sym (every-fails p n c r.inside (not-true (p c) r.passes))
+
+-- ---- going upwards
+
+-- the numbers below i pass the test, of those below n
+pub record Passing (p : ℕ → Bool) (n i : ℕ) : Type 0 where
+  pub within : i ≤ n
+  pub before : (k : ℕ) → k < i → p k ≡ true
+
+pub passing-first : (p : ℕ → Bool) (n : ℕ) → Passing p n 0
+passing-first p n = record { within = omega arith; before = λ k l. absurd (not-suc-le-zero l) }
+
+module _ (p : ℕ → Bool) {n i : ℕ} (w : Passing p n i) where
+  -- one more, with what the test said of i
+  module _ (l : i < n) {b : Bool} (e : b ≡ p i) where
+    pub passing-more : b ≡ true → Passing p n (i + 1)
+    passing-more q = record { within = omega arith; before = λ k m. ⊎_elim (λ z. rw z (sym e ∙ q)) (w.before k) (below-cases (rw (add-one i) at m)) }
+
+    pub fails-here : b ≡ false → Some i ≡ broken p n
+    fails-here q = sym (broken-at p n i l w.before (sym e ∙ q))
+
+    pub not-every : b ≡ false → false ≡ every p n
+    not-every q = sym (every-fails p n i l (sym e ∙ q))
+
+  -- all of them
+  module _ (l : n ≤ i) where
+    all_pass : (k : ℕ) → k < n → p k ≡ true
+    all_pass k m = w.before k (omega arith)
+
+    pub none-fails : None ≡ broken p n
+    none-fails = sym (broken-none p n all_pass)
+
+    pub every_one : true ≡ every p n
+    every_one = sym (every-i p n all_pass)
 
 -- ---- tests that agree
 

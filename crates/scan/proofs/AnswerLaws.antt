@@ -3,6 +3,7 @@
 use Rattle.std.specs.Prelude.{Result, Ok, Err}
 use mathlib.Core.Path.{◌≡◌, refl, sym, ap, ◌∙◌}
 use Prim.Native.Nat.{ℕ, ◌≤◌, ◌<◌}
+use native.Mathlib.Omega.{arith}
 use mathlib.Core.Bool.{Bool, true, false}
 use mathlib.Core.List.{List, [], ◌∷◌}
 use lib.Dec.{leb}
@@ -22,10 +23,11 @@ use Rattle.event_log.proofs.StartLaws.{fine, fine-answer}
 use Rattle.events.proofs.QuestionLaws.{readable-in}
 use Rattle.event_log.proofs.AnswerLaws.{columns-readable, readable-columns}
 use Rattle.opacity.specs.declared.verdict.Cause.{Cause}
+use Rattle.opacity.specs.declared.verdict.Cause.TheVariants.{Read, Commit, Abort, Other}
 use Rattle.opacity.specs.Scan.{Scanned, cause_number, opaque, fault, scan}
 use Rattle.event_log.specs.Calls.{asked_of}
 use Rattle.event_log.proofs.CallLaws.{asked-none, asked-yes, asked-no, asked-e, then-readable, then-refused, then-e}
-use Rattle.scan.specs.Answer.{Scanning, Passed, said, size_refusal, scan_refusal, decided, scan_answer}
+use Rattle.scan.specs.Answer.{Scanning, Passed, scanned_said, said, size_refusal, scan_refusal, decided, scan_answer}
 use Rattle.scan.specs.Logs.{scan_of}
 
 -- ---- what is decided
@@ -49,6 +51,38 @@ refused-e (Err p) s r w = cc
 refused-e (Ok tt) s r w = cc
 
 -- ---- what is said
+
+-- each cause has a number of its own
+same_cause : (c d : Cause) → cause_number c ≡ cause_number d → c ≡ d
+same_cause Read Read e = refl
+same_cause Read Commit e = absurd (omega (arith, e))
+same_cause Read Abort e = absurd (omega (arith, e))
+same_cause Read Other e = absurd (omega (arith, e))
+same_cause Commit Read e = absurd (omega (arith, e))
+same_cause Commit Commit e = refl
+same_cause Commit Abort e = absurd (omega (arith, e))
+same_cause Commit Other e = absurd (omega (arith, e))
+same_cause Abort Read e = absurd (omega (arith, e))
+same_cause Abort Commit e = absurd (omega (arith, e))
+same_cause Abort Abort e = refl
+same_cause Abort Other e = absurd (omega (arith, e))
+same_cause Other Read e = absurd (omega (arith, e))
+same_cause Other Commit e = absurd (omega (arith, e))
+same_cause Other Abort e = absurd (omega (arith, e))
+same_cause Other Other e = refl
+
+pub said-scanned : (x : Scanning) (s : Scanned) → said x ≡ scanned_said s → x ≡ Ok s
+unfolding said
+said-scanned (Ok (Ok u)) (Ok v) k = refl
+said-scanned (Ok (Err f)) (Err g) k =
+    let a : f.event ≡ g.event = cc in
+    let b : cause_number f.cause ≡ cause_number g.cause = cc in
+    let c : f.cause ≡ g.cause = same_cause f.cause g.cause b in
+    λ i. Ok (fault (a i) (c i))
+said-scanned (Ok (Ok u)) (Err g) k = cc
+said-scanned (Ok (Err f)) (Ok v) k = cc
+said-scanned (Err r) (Ok v) k = cc
+said-scanned (Err r) (Err g) k = cc
 
 pub said-opaque : (x : Scanning) → said x ≡ done [] → x ≡ Ok opaque
 unfolding said

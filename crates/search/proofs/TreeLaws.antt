@@ -26,6 +26,9 @@ use Rattle.places.proofs.SetLaws.{members-first, members-remove, lowest-member}
 pub first_found : {x : Completion} (n a : ℕ) (y : Completion) → read_answer n (Some a) ≡ x → read_answer n (Some a) ≡ or_else x y
 first_found n a y e = rw (← e) refl
 
+pub answer-none : (n : ℕ) (a : Answer ℕ) → a ≡ None → read_answer n a ≡ none
+answer-none n a e = rw e
+
 pub first-none : {x y z : Completion} → x ≡ none → z ≡ y → z ≡ or_else x y
 first-none e f = rw e f
 

@@ -1,18 +1,28 @@
--- What is put into the list one event more at a time, and tables filled from the front.
+-- Two tests one after the other, what is put into the list one event more at a time, and tables filled from the front.
 -- Assumes nothing.
 use Prim.Native.Nat.{ℕ, suc, ◌+◌, ◌≤◌, ◌<◌}
 use native.Mathlib.Omega.{arith}
-use mathlib.Core.Path.{◌≡◌, refl, ◌∙◌}
-use mathlib.Core.Bool.{Bool, false}
+use mathlib.Core.Path.{◌≡◌, refl, sym, ap, ◌∙◌}
+use mathlib.Core.Bool.{Bool, true, false, not}
 use mathlib.Core.List.{List, [], ◌∷◌, ◌++◌, append_assoc}
 use lib.ListN.{length, get_or, take, drop, set}
 use lib.Seq.{sets-eq}
 use Rattle.records.specs.Bytes.{placed}
-use Rattle.lists.specs.Lists.{push, keep, range}
+use Rattle.lists.specs.Lists.{◌and◌, push, keep, range}
 use Rattle.lists.proofs.ListLaws.{keep_append}
 use Rattle.lists.specs.Filled.{Front}
 use Rattle.std.proofs.Common.{below_more}
 use Rattle.straighten.specs.Tables.{listed}
+
+-- ---- two tests, one after the other
+
+pub first-fails : (a b x : Bool) → x ≡ a → x ≡ false → true ≡ not (a and b)
+unfolding ◌and◌
+first-fails a b x e f = let z : a ≡ false = sym e ∙ f in rw z
+
+pub second-tells : (a b x y : Bool) → x ≡ a → x ≡ true → y ≡ b → not y ≡ not (a and b)
+unfolding ◌and◌
+second-tells a b x y e f g = let z : a ≡ true = sym e ∙ f in rw z (ap not g)
 
 -- ---- what is put into the list, one run more
 

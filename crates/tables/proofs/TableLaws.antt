@@ -7,13 +7,22 @@ use mathlib.Core.List.{List, [], ◌∷◌, ◌++◌}
 use lib.ListN.{length, take, get_or, set}
 use lib.Seq.{take-suc, set-set, set-get_or, get_or-set_same}
 use Rattle.events.specs.declared.event.Event.{Event}
-use mathlib.Core.Bool.{true}
+use mathlib.Core.Bool.{true, false}
 use Rattle.lists.specs.Lists.{◌and◌}
-use Rattle.events.specs.Events.{no_event, event_at, is_quiet}
+use Rattle.events.specs.Events.{no_event, event_at, is_read, is_write, is_quiet}
 use Rattle.events.proofs.KindLaws.{quiet}
 use Rattle.places.specs.Facts.{fact, put}
 use Rattle.tables.specs.declared.Tables.{Tables}
-use Rattle.tables.specs.Tables.{put_if, joined, contradicts, reads_store, rule_with, next, empty, go_through, tables_of}
+use Rattle.tables.specs.Tables.{put_if, joined, contradicts, reads_store, read_with, written_with, rule_with, next, empty, go_through, tables_of}
+
+-- what does not read and does not write leaves the facts of reads and of writes, and contradicts nothing
+pub unread : (f : List (List ℕ)) (e : Event) → is_read e ≡ false → (read_with f e ≡ f) × (contradicts f e ≡ false)
+unfolding reads_store contradicts put_if ◌and◌
+unread f e n = (rw n, rw n)
+
+pub unwritten : (f : List (List ℕ)) (e : Event) → is_write e ≡ false → written_with f e ≡ f
+unfolding put_if
+unwritten f e n = rw n
 
 -- what stands at a place, put there again, leaves the table
 put-again : (f : List (List ℕ)) (t k : ℕ) → put f t k (fact f t k) ≡ f

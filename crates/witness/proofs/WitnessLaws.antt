@@ -6,14 +6,14 @@ use Prim.Native.Nat.{ℕ, ◌+◌, ◌*◌, ◌-◌, ◌/◌, ◌%◌, ◌^◌, 
 use native.Mathlib.Nat.{le_of_lt}
 use native.Mathlib.Numerals.{add-one}
 use native.Mathlib.Omega.{arith}
-use mathlib.Core.Bool.{Bool, true, false, not, cond}
+use mathlib.Core.Bool.{Bool, true, false, not, cond, false≢true}
 use mathlib.Core.List.{List, [], ◌∷◌, ◌++◌}
 use mathlib.Core.Option.{Option, none, some, get_or}
 use lib.Dec.{eqb, ltb}
 use lib.ListN.{length, take}
 use lib.Pow.{pow-add, pow_mono}
 use borrow.Author.Tests.{eq-eqb, ne_eqb, ltb-true, lt-ltb}
-use Rattle.lists.specs.Lists.{◌implies◌, all}
+use Rattle.lists.specs.Lists.{◌or◌, ◌implies◌, all}
 use Rattle.events.specs.declared.event.Event.{Event}
 use Rattle.events.specs.Events.{event_at, is_begin, is_read, is_commit, is_abort, is_end, begins}
 use Rattle.event_log.specs.Starts.{start_of}
@@ -59,6 +59,38 @@ module _ (start : ℕ → ℕ) (w : List (List ℕ)) (J : List Place) (t r : ℕ
       go (some y) k = absurd (omega arith)
 
 -- ---- what an event leaves of the witness
+
+module _ (starts : List ℕ) (w : List (List ℕ)) (n order : ℕ) (e : Event) where
+  -- one that begins reads what its register holds after the order
+  module _ (b : is_begin e ≡ true) (code : ℕ) (its : code ≡ code_of e) where
+    pub kept-lone-read : is_read e ≡ true → (v x : ℕ) → v ≡ contents (start_of starts) (writes_in w) (decode (codes_of n order)) e.register → x ≡ e.value
+        → cond (eqb v x) (Some (order * 32 + code)) None ≡ kept starts w n order e
+    unfolding kept carries carried_code ◌implies◌
+    kept-lone-read r v x p q = rw (its, p, q, b, r)
+
+    pub kept-begin : is_read e ≡ false → Some (order * 32 + code) ≡ kept starts w n order e
+    unfolding kept carries carried_code ◌implies◌
+    kept-begin r = rw (its, b, r)
+
+  module _ (b : is_begin e ≡ false) where
+    pub kept_read : is_read e ≡ true
+        → cond (eqb (seen (start_of starts) (writes_in w) (decode (codes_of n order)) e.transaction e.register) e.value) (Some order) None
+        ≡ kept starts w n order e
+    unfolding kept carries carried_code
+    kept_read r = rw (b, r)
+
+    pub kept-end : is_read e ≡ false → is_end e ≡ true
+        → cond (cond (is_commit e) (outcome e.transaction (decode (codes_of n order))) (not (outcome e.transaction (decode (codes_of n order))))) (Some order) None
+        ≡ kept starts w n order e
+    unfolding kept carries carried_code is_end ◌or◌
+    kept-end r t = rw (b, r) (go (is_commit e) (is_abort e) t)
+      where
+        go : (c a : Bool) → (c or a) ≡ true
+            → cond (cond c (outcome e.transaction (decode (codes_of n order))) (not (outcome e.transaction (decode (codes_of n order))))) (Some order) None
+            ≡ cond (cond c (outcome e.transaction (decode (codes_of n order))) (cond a (not (outcome e.transaction (decode (codes_of n order)))) true)) (Some order) None
+        go true a k = refl
+        go false true k = refl
+        go false false k = absurd (false≢true k)
 
 -- what begins, reads and ends nothing leaves the order
 pub kept-quiet : (starts : List ℕ) (w : List (List ℕ)) (n order : ℕ) (e : Event) → is_begin e ≡ false → is_read e ≡ false → is_end e ≡ false
