@@ -1,15 +1,32 @@
 // Checks the paper's marking examples, and a file for each refusal, and prints a line for each.
 #![tactic(auto)]
 
-use Part::{Byte, Field, Head, Place, Point, Zeros};
+ghost use Rattle.std.specs.Prelude.{◌≤◌};
+
+use Part::{Byte, Field, Head, Place, Point};
 use event_log::columns::{Columns, History};
+use event_log::rows::SHORT;
 use events::event::Event;
 use events::refusal::Refusal;
 use marking::check::{Unchecked, check_marking};
 use opacity::verdict::{Rule, Verdict};
 use records::record::Record;
-use std::alloc::{AllocError, Global};
-use std::{fmt, io, iter};
+use std::fmt::{self, Write as _};
+
+// The number of standard output.
+const STDOUT: i32 = 1;
+
+// Standard output, with no buffer: each text is a write of its own. One that cannot be written is left out, and
+// those behind it are tried all the same.
+#[derive(Clone, Copy)]
+struct Output;
+
+impl fmt::Write for Output {
+    fn write_str(&mut self, s: &str) -> fmt::Result {
+        io::write_all(STDOUT, s.as_bytes());
+        Ok(())
+    }
+}
 
 // An answer of the checker, or a part of one, as a line shows it.
 #[derive(Clone, Copy)]
@@ -18,11 +35,11 @@ struct Shown<T>(T);
 impl fmt::Display for Shown<Rule> {
     fn fmt<W: fmt::Write>(&self, f: &mut fmt::Formatter<W>) -> fmt::Result {
         f.write_str(match self.0 {
-            Rule::A => "A",
-            Rule::B => "B",
-            Rule::C => "C",
-            Rule::D => "D",
-            Rule::E => "E",
+            Rule::A => "marking rule A",
+            Rule::B => "marking rule B",
+            Rule::C => "marking rule C",
+            Rule::D => "marking rule D",
+            Rule::E => "marking rule E",
         })
     }
 }
@@ -30,14 +47,14 @@ impl fmt::Display for Shown<Rule> {
 impl fmt::Display for Shown<Verdict> {
     fn fmt<W: fmt::Write>(&self, f: &mut fmt::Formatter<W>) -> fmt::Result {
         match self.0 {
-            Verdict::Accepted => write!(f, "accepted"),
+            Verdict::Accepted => f.write_str("marking accepted"),
             Verdict::Broken {
                 rule,
                 event,
                 transaction,
             } => {
                 let rule = Shown(rule);
-                write!(f, "rule {rule} event {event} transaction {transaction}")
+                write!(f, "{rule} event {event} transaction {transaction}")
             }
         }
     }
@@ -46,7 +63,7 @@ impl fmt::Display for Shown<Verdict> {
 impl fmt::Display for Shown<Result<Verdict, Unchecked>> {
     fn fmt<W: fmt::Write>(&self, f: &mut fmt::Formatter<W>) -> fmt::Result {
         match self.0 {
-            Ok(verdict) => write!(f, "marking {}", Shown(verdict)),
+            Ok(verdict) => write!(f, "{}", Shown(verdict)),
             Err(Unchecked::HistoryRefused(Refusal { question, at })) => write!(
                 f,
                 "history refused {question} event {at}"
@@ -65,7 +82,7 @@ const ABORTED: u16 = 0;
 const COMMITTED: u16 = 1;
 
 // What a marking file is made of: the head; the place of a transaction, with its outcome; the read point of an
-// event, with its gap; and a field of two bytes, a byte, and zeros, of which files are made that are refused.
+// event, with its gap; and a field of two bytes and a byte, of which files are made that are refused.
 #[derive(Clone, Copy)]
 enum Part {
     Head,
@@ -73,12 +90,52 @@ enum Part {
     Point(u32, u16),
     Field(u16),
     Byte(u8),
-    Zeros(usize),
+}
+
+// The bytes of a marking file, at most 64: what is put beyond them is left out.
+#[derive(Clone, Copy)]
+struct File {
+    bytes: [u8; 64],
+    length: usize,
+}
+
+impl File {
+    fn new() -> File {
+        File {
+            bytes: [0; 64],
+            length: 0,
+        }
+    }
+
+    fn push(&mut self, b: u8) {
+        let at = self.length;
+        if at < 64 {
+            self.bytes[at] = b;
+            self.length = at + 1;
+        }
+    }
+
+    fn extend_from_slice(&mut self, bytes: &[u8]) {
+        for b in bytes {
+            self.push(*b);
+        }
+    }
+
+    // Gives how many bytes are put.
+    fn size(self) -> usize
+        ensures { result ≤ 64 }
+    {
+        self.length.min(64)
+    }
+
+    fn as_slice(&self) -> &[u8] {
+        &self.bytes[..self.size()]
+    }
 }
 
 impl Part {
     // Puts the part behind what a file has.
-    fn put(self, file: &mut Vec<u8>) -> Result<(), AllocError> {
+    fn put(self, file: &mut File) {
         match self {
             Head => put_fields(
                 file,
@@ -89,23 +146,21 @@ impl Part {
                 &[Record::PLACE_LENGTH, Record::PLACE, transaction, outcome],
             ),
             Point(event, gap) => {
-                put_fields(file, &[Record::POINT_LENGTH, Record::POINT])?;
-                file.extend_from_slice(&event.to_le_bytes())?;
-                put_fields(file, &[gap])
+                put_fields(file, &[Record::POINT_LENGTH, Record::POINT]);
+                file.extend_from_slice(&event.to_le_bytes());
+                put_fields(file, &[gap]);
             }
             Field(n) => put_fields(file, &[n]),
-            Byte(b) => Ok(file.push(b)?),
-            Zeros(n) => file.extend(iter::repeat_n(0, n)),
+            Byte(b) => file.push(b),
         }
     }
 }
 
 // Puts fields of two bytes behind what a file has.
-fn put_fields(file: &mut Vec<u8>, fields: &[u16]) -> Result<(), AllocError> {
+fn put_fields(file: &mut File, fields: &[u16]) {
     for n in fields {
-        file.extend_from_slice(&n.to_le_bytes())?;
+        file.extend_from_slice(&n.to_le_bytes());
     }
-    Ok(())
 }
 
 // How the files of the cases begin: the head; T1, aborted, and then T0, committed; and T0, committed, and then
@@ -210,6 +265,46 @@ fn own() -> [Event; 5] {
     ]
 }
 
+// As many events as the longest history of a case has: each column has an entry for so many.
+const LONGEST: usize = 10;
+
+// Gives the answer for a file and the first `count` events of a history of edition 1, in which every register starts
+// at 0.
+fn answer(events: &[Event], count: usize, file: &[u8]) -> Result<Verdict, Unchecked> {
+    let mut kinds = [0; LONGEST];
+    let mut transactions = [0; LONGEST];
+    let mut registers = [0; LONGEST];
+    let mut values = [0; LONGEST];
+    let mut threads = [0; LONGEST];
+    for (i, e) in events.iter().enumerate().take(LONGEST) {
+        kinds[i] = e.kind;
+        transactions[i] = e.transaction;
+        registers[i] = e.register;
+        values[i] = e.value;
+        threads[i] = e.thread;
+    }
+    let history = History {
+        edition: Record::EDITION,
+        starts: &[0; 32],
+        columns: Columns {
+            kinds: &kinds,
+            transactions: &transactions,
+            registers: &registers,
+            values: &values,
+            threads: &threads,
+        },
+        // Every history here is short. A count that shows it spares the stack for the tables of a long one.
+        count: count.min(SHORT),
+    };
+    check_marking(&history, file)
+}
+
+// Shows the answer for a file and the first `count` events of a history. This is the only call of `answer`, so that
+// the compiler takes both as one, and sees there how short the history is.
+fn show_answer(label: &str, events: &[Event], count: usize, file: &[u8]) {
+    let _ = writeln!(Output, "{label}: {}", Shown(answer(events, count, file)));
+}
+
 // A marking file that is checked against the first `count` events of a history. The file begins with the parts
 // `start`, and `rest` are those behind them.
 #[derive(Clone, Copy)]
@@ -237,150 +332,114 @@ impl<'a> Case<'a> {
         Case { rest, ..self }
     }
 
-    fn file(&self, alloc: Global) -> Result<Vec<u8>, AllocError> {
-        let mut file = Vec::new(alloc);
+    fn file(&self) -> File {
+        let mut file = File::new();
         for part in self.start.iter().chain(self.rest) {
-            part.put(&mut file)?;
+            part.put(&mut file);
         }
-        Ok(file)
+        file
     }
 
-    // Gives the answer for a history of edition 1, in which every register starts at 0.
-    fn answer(&self, alloc: Global) -> Result<Result<Verdict, Unchecked>, AllocError> {
-        let events = self.history;
-        let kinds: Vec<u16> = events.iter().map(|e| e.kind).collect(alloc)?;
-        let transactions: Vec<u16> = events.iter().map(|e| e.transaction).collect(alloc)?;
-        let registers: Vec<u16> = events.iter().map(|e| e.register).collect(alloc)?;
-        let values: Vec<u32> = events.iter().map(|e| e.value).collect(alloc)?;
-        let threads: Vec<u16> = events.iter().map(|e| e.thread).collect(alloc)?;
-        let file = self.file(alloc)?;
-        let history = History {
-            edition: Record::EDITION,
-            starts: &[0; 32],
-            columns: Columns {
-                kinds: kinds.as_slice(),
-                transactions: transactions.as_slice(),
-                registers: registers.as_slice(),
-                values: values.as_slice(),
-                threads: threads.as_slice(),
-            },
-            count: self.count,
-        };
-        Ok(check_marking(&history, file.as_slice()))
+    fn show(&self) {
+        show_answer(self.label, self.history, self.count, self.file().as_slice());
     }
 }
 
 // Shows the answer of each case.
-fn show(rt: &(impl Print + AllocGlobal), cases: &[Case<'_>]) -> io::Result<()> {
+fn show(cases: &[Case<'_>]) {
     for case in cases {
-        println!(rt; "{}: {}", case.label, Shown(case.answer(rt.alloc())?))?;
+        case.show();
     }
-    Ok(())
 }
 
 // Shows the paper's markings. H0 has 0 at event 9, and H7 has 7 there.
-fn show_examples(rt: &(impl Print + AllocGlobal)) -> io::Result<()> {
+fn show_examples() {
     let h0 = h0_with(0);
     let h7 = h0_with(7);
-    show(
-        rt,
-        &[
-            Case::new("H0, both reads at gap 0", &h0, T1_T0).then(&[Point(5, 0), Point(9, 0)]),
-            Case::new("H0, event 9 at gap 1", &h0, T1_T0).then(&[Point(5, 0), Point(9, 1)]),
-            Case::new("H0, event 9 at gap 2", &h0, T1_T0).then(&[Point(5, 0), Point(9, 2)]),
-            Case::new("H0, T0 aborted", &h0, HEAD).then(&[
-                Place(1, ABORTED),
-                Place(0, ABORTED),
-                Point(5, 0),
-                Point(9, 0),
-            ]),
-            Case::new("H7, T0 then T1, both reads at gap 1", &h7, T0_T1).then(&[
-                Point(5, 1),
-                Point(9, 1),
-            ]),
-            Case::new("H7, event 5 at gap 0", &h7, T0_T1).then(&[Point(5, 0), Point(9, 1)]),
-            Case::new("T1 began after T0's end, order T1, T0", &late(), T1_T0).then(&[Point(7, 0)]),
-            Case::new("own read of 0 after a write of 5", &own(), HEAD).then(&[Place(0, ABORTED)]),
-        ],
-    )
+    show(&[
+        Case::new("H0, both reads at gap 0", &h0, T1_T0).then(&[Point(5, 0), Point(9, 0)]),
+        Case::new("H0, event 9 at gap 1", &h0, T1_T0).then(&[Point(5, 0), Point(9, 1)]),
+        Case::new("H0, event 9 at gap 2", &h0, T1_T0).then(&[Point(5, 0), Point(9, 2)]),
+        Case::new("H0, T0 aborted", &h0, HEAD).then(&[
+            Place(1, ABORTED),
+            Place(0, ABORTED),
+            Point(5, 0),
+            Point(9, 0),
+        ]),
+        Case::new("H7, T0 then T1, both reads at gap 1", &h7, T0_T1).then(&[
+            Point(5, 1),
+            Point(9, 1),
+        ]),
+        Case::new("H7, event 5 at gap 0", &h7, T0_T1).then(&[Point(5, 0), Point(9, 1)]),
+        Case::new("T1 began after T0's end, order T1, T0", &late(), T1_T0).then(&[Point(7, 0)]),
+        Case::new("own read of 0 after a write of 5", &own(), HEAD).then(&[Place(0, ABORTED)]),
+    ]);
 }
 
+// One byte more than a marking file may have.
+const TOO_LONG: &[u8] = &[0; 32769];
+
 // Shows the question of the file's length: 1. The history is that of one begin.
-fn show_length(rt: &(impl Print + AllocGlobal)) -> io::Result<()> {
-    show(
-        rt,
-        &[Case::new("1, a byte too many", &[begin(0, 0)], &[]).then(&[Zeros(32769)])],
-    )
+fn show_length() {
+    show_answer("1, a byte too many", &[begin(0, 0)], 1, TOO_LONG);
 }
 
 // Shows the questions of the first record and of every record: 2, 21, 22 and 23.
-fn show_records(rt: &(impl Print + AllocGlobal)) -> io::Result<()> {
+fn show_records() {
     let h0 = h0_with(0);
-    show(
-        rt,
-        &[
-            Case::new("2, a record cut short", &h0, HEAD).then(&[Field(6), Byte(32)]),
-            Case::new("21, an empty file", &h0, &[]),
-            Case::new("21, edition 2", &h0, &[]).then(&[Field(4), Field(2), Field(2)]),
-            Case::new("22, kind 34", &h0, HEAD).then(&[Field(2), Field(34)]),
-            Case::new("23, a place with 2 bytes", &h0, HEAD).then(&[Field(4), Field(32), Field(1)]),
-        ],
-    )
+    show(&[
+        Case::new("2, a record cut short", &h0, HEAD).then(&[Field(6), Byte(32)]),
+        Case::new("21, an empty file", &h0, &[]),
+        Case::new("21, edition 2", &h0, &[]).then(&[Field(4), Field(2), Field(2)]),
+        Case::new("22, kind 34", &h0, HEAD).then(&[Field(2), Field(34)]),
+        Case::new("23, a place with 2 bytes", &h0, HEAD).then(&[Field(4), Field(32), Field(1)]),
+    ]);
 }
 
 // Shows the questions of a place: 24 and 25.
-fn show_places(rt: &(impl Print + AllocGlobal)) -> io::Result<()> {
+fn show_places() {
     let h0 = h0_with(0);
-    show(
-        rt,
-        &[
-            Case::new("24, T1 placed twice", &h0, HEAD).then(&[
-                Place(1, ABORTED),
-                Place(1, ABORTED),
-            ]),
-            Case::new("24, a place after a read point", &h0, T1_T0).then(&[
-                Point(5, 0),
-                Place(0, COMMITTED),
-            ]),
-            Case::new("25, outcome 2", &h0, HEAD).then(&[Place(1, 2)]),
-        ],
-    )
+    show(&[
+        Case::new("24, T1 placed twice", &h0, HEAD).then(&[Place(1, ABORTED), Place(1, ABORTED)]),
+        Case::new("24, a place after a read point", &h0, T1_T0).then(&[
+            Point(5, 0),
+            Place(0, COMMITTED),
+        ]),
+        Case::new("25, outcome 2", &h0, HEAD).then(&[Place(1, 2)]),
+    ]);
 }
 
 // Shows the questions of a read point and of the end: 28, 26, 27 and 29.
-fn show_points(rt: &(impl Print + AllocGlobal)) -> io::Result<()> {
+fn show_points() {
     let h0 = h0_with(0);
-    show(
-        rt,
-        &[
-            Case::new("28, a read point before T0 is placed", &h0, HEAD).then(&[
-                Place(1, ABORTED),
-                Point(4, 9),
-            ]),
-            Case::new("28, the head alone", &h0, HEAD),
-            Case::new("26, event 5 after event 9", &h0, T1_T0).then(&[Point(9, 0), Point(5, 0)]),
-            Case::new("26, event 4 is no read", &h0, T1_T0).then(&[Point(4, 0)]),
-            Case::new("27, gap 3 of 2 transactions", &h0, T1_T0).then(&[Point(5, 3)]),
-            Case::new("29, event 9 has no point", &h0, T1_T0).then(&[Point(5, 0)]),
-        ],
-    )
+    show(&[
+        Case::new("28, a read point before T0 is placed", &h0, HEAD).then(&[
+            Place(1, ABORTED),
+            Point(4, 9),
+        ]),
+        Case::new("28, the head alone", &h0, HEAD),
+        Case::new("26, event 5 after event 9", &h0, T1_T0).then(&[Point(9, 0), Point(5, 0)]),
+        Case::new("26, event 4 is no read", &h0, T1_T0).then(&[Point(4, 0)]),
+        Case::new("27, gap 3 of 2 transactions", &h0, T1_T0).then(&[Point(5, 3)]),
+        Case::new("29, event 9 has no point", &h0, T1_T0).then(&[Point(5, 0)]),
+    ]);
 }
 
 // Shows the question of the columns' lengths: 17.
-fn show_count(rt: &(impl Print + AllocGlobal)) -> io::Result<()> {
+fn show_count() {
     let h0 = h0_with(0);
     let past = Case {
         count: 11,
         ..Case::new("17, a count past the columns", &h0, &[])
     };
-    show(rt, &[past])
+    show(&[past]);
 }
 
-fn main(rt: HostRuntime) -> io::Result<()> {
-    show_examples(&rt)?;
-    show_length(&rt)?;
-    show_records(&rt)?;
-    show_places(&rt)?;
-    show_points(&rt)?;
-    show_count(&rt)
+fn main() {
+    show_examples();
+    show_length();
+    show_records();
+    show_places();
+    show_points();
+    show_count();
 }
