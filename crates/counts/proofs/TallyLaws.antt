@@ -1,6 +1,7 @@
 -- How far the tally has come after the first t transactions: the four counts say how many of them stand so.
 -- Assumes nothing.
 use Prim.Native.Nat.{ℕ, ◌+◌, ◌≤◌, ◌<◌}
+use native.Mathlib.Nat.{le_refl}
 use native.Mathlib.Omega.{arith}
 use mathlib.Core.Path.{◌≡◌, refl, ap, ◌∙◌}
 use mathlib.Core.Bool.{true}
@@ -18,11 +19,16 @@ use Rattle.opacity.specs.Counts.{one}
 use Rattle.opacity.proofs.HowMany.{how_many, how-many-more, how-many-low}
 use Rattle.links.specs.declared.tables.Rank.{Rank}
 use Rattle.links.specs.declared.tables.Rank.TheVariants.{Live, Pending, Aborted, Committed}
-use Rattle.links.specs.declared.tables.Transaction.{Transaction}
-use Rattle.links.specs.Tables.{blank, AllTabled}
-use Rattle.links.proofs.TableLaws.{status_rank, its-rank}
+use Rattle.links.specs.Tables.{Ranked}
+use Rattle.links.proofs.TableLaws.{status_rank, rank-told}
 use Rattle.counts.specs.declared.tally.Tally.{Tally}
 use Rattle.counts.specs.Tally.{has_status, of_status, tally}
+
+pub status-low : (s : Status) → status_number s < 4
+status-low committed = le_refl 4
+status-low aborted = omega arith
+status-low pending = omega arith
+status-low live = omega arith
 
 -- the tally with one transaction more, which has come so far
 abbrev pub with_rank : Rank → Tally → Tally
@@ -109,20 +115,20 @@ module _ (h : List Event) where
         live = (w.live ∙ ap (how_many (has_status live h)) e) i;
       }
 
--- the tables of the transactions begun
-module _ (h : List Event) (r : readable h ≡ true) (tables : List Transaction) (y : AllTabled h tables) (n : ℕ) (e : n ≡ begins h) where
-  pub tabled : n ≤ length tables
-  tabled = omega (arith, y.size, e, at-most-64 h r)
+-- how far the transactions begun have come
+module _ (h : List Event) (r : readable h ≡ true) (ranks : List Rank) (y : Ranked h ranks) (n : ℕ) (e : n ≡ begins h) where
+  pub ranked : n ≤ length ranks
+  ranked = omega (arith, y.size, e, at-most-64 h r)
 
-  pub tabled-length : length (take n tables) ≡ n
-  tabled-length = length-take-le n tables tabled
+  pub ranked-length : length (take n ranks) ≡ n
+  ranked-length = length-take-le n ranks ranked
 
-  pub tabled-rank : (t : ℕ) → t < length (take n tables) → (get_or (take n tables) t blank).rank ≡ status_rank (status h t)
-  tabled-rank t l =
-      let few : t < n = omega (arith, tabled-length) in
+  pub ranked-at : (t : ℕ) → t < length (take n ranks) → get_or (take n ranks) t Live ≡ status_rank (status h t)
+  ranked-at t l =
+      let few : t < n = omega (arith, ranked-length) in
       let low : t < 64 = omega (arith, few, e, at-most-64 h r) in
-      ap (λ (x : Transaction). x.rank) (get_or-take n tables t blank few) ∙ its-rank y t low
+      get_or-take n ranks t Live few ∙ rank-told y t low
 
   -- so many fit a number of the machine
-  pub few-enough : (t : ℕ) → t < length (take n tables) → t < 64
-  few-enough t l = omega (arith, tabled-length, e, at-most-64 h r)
+  pub few-enough : (t : ℕ) → t < length (take n ranks) → t < 64
+  few-enough t l = omega (arith, ranked-length, e, at-most-64 h r)

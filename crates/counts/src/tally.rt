@@ -5,7 +5,7 @@ ghost use Rattle.counts.specs.Tally.{tally};
 
 use event_log::rows::transactions_begun;
 use events::event::Event;
-use links::tables::{Rank, tables_of};
+use links::tables::{Rank, ranks_of};
 
 // How many transactions are committed, aborted, pending (commit is called and unanswered) and live
 // (the others not ended).
@@ -22,7 +22,7 @@ pub fn tally_of(log: &[Event]) -> Tally
     requires { readable log.now ≡ true }
     ensures { result ≡ tally log.now }
 {
-    let tables = tables_of(log);
+    let ranks = ranks_of(log);
     let begun = transactions_begun(log);
     let mut tally = Tally {
         committed: 0,
@@ -30,8 +30,8 @@ pub fn tally_of(log: &[Event]) -> Tally
         pending: 0,
         live: 0,
     };
-    for transaction in &tables[..begun] {
-        match transaction.rank {
+    for rank in &ranks[..begun] {
+        match *rank {
             Rank::Committed => tally.committed += 1,
             Rank::Aborted => tally.aborted += 1,
             Rank::Pending => tally.pending += 1,

@@ -22,7 +22,7 @@ use Rattle.opacity.proofs.Snoc.{precedes-more}
 use Rattle.links.specs.declared.tables.Rank.{Rank}
 use Rattle.links.specs.declared.tables.Rank.TheVariants.{Live, Pending, Aborted, Committed}
 use Rattle.links.specs.declared.tables.Transaction.{Transaction}
-use Rattle.links.specs.Tables.{last_one, first_one, rank, rank_of, further, blank, noted, slot, Slots, AllTabled, earlier, past}
+use Rattle.links.specs.Tables.{last_one, first_one, rank, rank_of, further, blank, noted, rank_noted, slot, Slots, AllTabled, Ranked, earlier, past}
 
 -- ---- filling
 
@@ -232,7 +232,18 @@ module _ (h : List Event) (t : ℕ) where
   pub status-table : (standing h t (length h)).rank ≡ status_rank (status h t)
   status-table = status-slot (length h) (le_refl _) ∙ ap (λ (g : List Event). status_rank (status g t)) (take-length h)
 
+  -- how far it has come, where that alone is noted
+  rank-alone : (m : ℕ) → slot Live rank_noted h t m ≡ (standing h t m).rank
+  unfolding slot
+  rank-alone zero = refl
+  rank-alone (suc m) =
+      ap (λ (x : Rank). cond (eqb (event_at h m).transaction t) (further x (rank_of (event_at h m))) x) (rank-alone m)
+      ∙ sym (standing-more (λ (x : Transaction). x.rank) h t m)
+
 -- ---- the tables of a whole history
+
+pub rank-told : {h : List Event} {ranks : List Rank} → Ranked h ranks → (t : ℕ) → t < 64 → get_or ranks t Live ≡ status_rank (status h t)
+rank-told {h} y t l = y.holds t l ∙ (rank-alone h t (length h) ∙ status-table h t)
 
 module _ {h : List Event} {tables : List Transaction} (y : AllTabled h tables) where
   pub its-rank : (t : ℕ) → t < 64 → (get_or tables t blank).rank ≡ status_rank (status h t)

@@ -56,6 +56,10 @@ noted e i x =
 abbrev pub write_noted : Event → ℕ → Option ℕ → Option ℕ
 write_noted e i x = last_one (is_write e) i x
 
+-- what it makes of how far its transaction has come alone
+abbrev pub rank_noted : Event → ℕ → Rank → Rank
+rank_noted e i x = further x (rank_of e)
+
 -- what stands at t after n events, where d stood before them
 unfoldable pub slot : {A : Type 0} → A → (Event → ℕ → A → A) → List Event → ℕ → ℕ → A
 slot d note h t zero = d
@@ -70,6 +74,10 @@ pub record Slots {A : Type 0} (d : A) (note : Event → ℕ → A → A) (h : Li
 -- the tables of a whole history
 abbrev pub AllTabled : List Event → List Transaction → Type 0
 AllTabled h tables = Slots blank noted h (length h) tables
+
+-- how far each transaction of a whole history has come
+abbrev pub Ranked : List Event → List Rank → Type 0
+Ranked h ranks = Slots Live rank_noted h (length h) ranks
 
 -- an end comes before a begin
 unfoldable pub earlier : Option ℕ → Option ℕ → Bool

@@ -1,7 +1,7 @@
 // What the events say of each transaction, tabled by going once through them.
 ghost use Rattle.std.specs.Prelude.{◌≡◌, true, ◌<◌};
 ghost use Rattle.events.specs.Questions.{readable};
-ghost use Rattle.links.specs.Tables.{last_one, first_one, rank_of, with_written, noted, AllTabled};
+ghost use Rattle.links.specs.Tables.{last_one, first_one, further, rank_of, with_written, noted, AllTabled, Ranked};
 
 use events::event::{Event, asks_commit, is_abort, is_begin, is_commit, is_end, is_write};
 use lists::sets::with_register;
@@ -30,6 +30,13 @@ fn rank_of(e: Event) -> Rank
         return Rank::Pending;
     }
     Rank::Live
+}
+
+// How far a transaction has come with its event e.
+fn rank_with(rank: Rank, e: Event) -> Rank
+    ensures { result ≡ further rank (rank_of e) }
+{
+    rank.max(rank_of(e))
 }
 
 // The last event that passes, where x was the last one before event i.
@@ -86,7 +93,7 @@ impl Transaction {
         ensures { result ≡ noted e i self }
     {
         Transaction {
-            rank: self.rank.max(rank_of(e)),
+            rank: rank_with(self.rank, e),
             ended: first_one(is_end(e), i, self.ended),
             began: last_one(is_begin(e), i, self.began),
             written: last_one(is_write(e), i, self.written),
@@ -107,4 +114,18 @@ pub fn tables_of(log: &[Event]) -> [Transaction; 64]
         tables[t] = tables[t].noted(*e, i as u16);
     }
     tables
+}
+
+// How far each transaction of a log has come. A tally asks no more, and filling whole tables took it two fifths longer.
+#[tactic(auto, using(crate::proofs::LogLaws::readable_log))]
+pub fn ranks_of(log: &[Event]) -> [Rank; 64]
+    requires { readable log.now ≡ true }
+    ensures { Ranked log.now result }
+{
+    let mut ranks = [Rank::Live; 64];
+    for e in log {
+        let t = usize::from(e.transaction);
+        ranks[t] = rank_with(ranks[t], *e);
+    }
+    ranks
 }

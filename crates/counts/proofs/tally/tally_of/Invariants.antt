@@ -2,5 +2,5 @@
 use Rattle.counts.proofs.TallyLaws.{Counted}
 use Rattle.counts.proofs.tally.tally_of.Given as goal
 
-abbrev pub invariant-loop-transaction : goal.invariant-loop-transaction
-invariant-loop-transaction l = Counted l.log l.tally l.transaction-index
+abbrev pub invariant-loop-rank : goal.invariant-loop-rank
+invariant-loop-rank l = Counted l.log l.tally l.rank-index
