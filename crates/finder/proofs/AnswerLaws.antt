@@ -2,13 +2,13 @@
 -- Assumes nothing.
 use Rattle.std.specs.Prelude.{Ok, Err, Some, None}
 use mathlib.Core.Path.{◌≡◌, refl, sym, ap₂, ◌∙◌}
-use Prim.Native.Nat.{ℕ, ◌≤◌}
+use Prim.Native.Nat.{ℕ, ◌≤◌, ◌<◌}
 use mathlib.Core.Bool.{Bool, true, false, cond}
 use mathlib.Core.List.{List, [], ◌∷◌}
 use mathlib.Core.Option.{Option, none, some, none-ne-some, some-ne-none, some-injective}
 use lib.Dec.{leb}
 use lib.ListN.{length, take}
-use borrow.Author.Tests.{le-leb, leb-true}
+use borrow.Author.Tests.{le-leb, lt-leb, leb-true}
 use Rattle.events.specs.declared.event.Event.{Event}
 use Rattle.event_log.specs.Checked.{Checked, asked}
 use Rattle.events.specs.declared.refusal.Refusal.{Refusal}
@@ -275,3 +275,7 @@ marking-none start h e = go (lowest_of start h) e
     go : (o : Option (List Place)) → marking_of h o ≡ none → o ≡ none
     go none x = refl
     go (some J) x = absurd (some-ne-none (marking_bytes (marked h J)) x)
+
+-- 18, put to a prefix that is longer
+pub longer : (prefix count : ℕ) → count < prefix → ◌≡◌ {A = Checked} (Err (refuse 18 count)) (asked (leb prefix count) 18 count)
+longer prefix count l = rw (lt-leb prefix count l)

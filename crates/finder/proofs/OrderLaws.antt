@@ -1,5 +1,6 @@
 -- The marking of the order found.
 -- Assumes nothing.
+use Rattle.std.specs.Prelude.{Option as Answer, None}
 use mathlib.Core.Path.{◌≡◌, sym, ap, ◌∙◌}
 use Prim.Native.Nat.{ℕ, ◌≤◌}
 use native.Mathlib.Omega.{arith}
@@ -17,7 +18,7 @@ use Rattle.opacity.proofs.Least.{lowest-justifies}
 use Rattle.opacity.proofs.MarkingBytes.{marking-length}
 use Rattle.opacity.proofs.Orders.{filled}
 use Rattle.places.specs.Places.{codes_of, decode}
-use Rattle.lowest.specs.Order.{Judged}
+use Rattle.lowest.specs.Order.{Judged, order_of}
 use Rattle.opacity.specs.Marking.{marking_bytes}
 use Rattle.finder.specs.Answer.{marking_size, lowest_marking}
 
@@ -46,3 +47,6 @@ module _ (start : ℕ → ℕ) (h : List Event) (j : Judged h) where
   pub marking-none : none ≡ lowest_of start h → lowest_marking start h ≡ none
   unfolding lowest_marking
   marking-none e = rw (sym e)
+
+  pub answer-none : (a : Answer ℕ) → a ≡ None → order_of h a ≡ lowest_of start h → none ≡ lowest_of start h
+  answer-none a z e = rw z at e

@@ -83,8 +83,8 @@ fn find_within<const N: usize>(
 }
 
 // The length of the lowest marking of the first `prefix` events of a history, if they have one, written from the output's first byte. The
-// prefix keeps the edition and the start values of its history. 18 comes before the events' own questions, so it is asked first. A short
-// history does not pay for the rows of a long one.
+// prefix keeps the edition and the start values of its history. 18 comes before the events' own questions, so it is asked first, and of a
+// prefix that is longer 17 and 3 before it. A short history does not pay for the rows of a long one.
 pub fn find_marking(
     history: &History,
     prefix: usize,
@@ -95,9 +95,14 @@ pub fn find_marking(
         output.old }
 {
     let count = history.count;
-    ask(history.columns.hold(count), 17, count)?;
-    ask(is_admitted(history.edition, history.starts), 3, count)?;
-    ask(prefix <= count, 18, count)?;
+    if prefix > count {
+        ask(history.columns.hold(count), 17, count)?;
+        ask(is_admitted(history.edition, history.starts), 3, count)?;
+        return Err(Refusal {
+            question: 18,
+            at: count,
+        });
+    }
     if count <= SHORT {
         find_within::<SHORT>(history, prefix, output)
     } else {

@@ -2,7 +2,7 @@
 use mathlib.Core.Path.{◌≡◌, ap, ◌∙◌}
 use Rattle.std.proofs.Common.{rules, Err}
 use Rattle.finder.specs.Answer.{Finding, gives}
-use Rattle.finder.proofs.AnswerLaws.{refused-17, refused-3, refused-18}
+use Rattle.finder.proofs.AnswerLaws.{refused-17, refused-3, refused-18, longer}
 use Rattle.finder.proofs.find_marking.Goals as goal
 
 pub returns-in_err-ask : goal.returns-in_err-ask
@@ -16,8 +16,6 @@ returns-in_err-ask-2 c =
     ap (λ (r : Finding). gives r c.args.output.now) e
     ∙ refused-3 _ _ _ _ _ _ c.in_ok-ask.ensures c.hold.ensures c.in_err-ask-2.ensures c.is_admitted.ensures
 
-pub returns-in_err-ask-3 : goal.returns-in_err-ask-3
-returns-in_err-ask-3 c =
-    let e : c.from_residual-in_err-ask-3.result ≡ Err c.in_err-ask-3.field-0.0 = search rules in
-    ap (λ (r : Finding). gives r c.args.output.now) e
-    ∙ refused-18 _ _ _ _ _ _ c.in_ok-ask.ensures c.hold.ensures c.in_ok-ask-2.ensures c.is_admitted.ensures c.in_err-ask-3.ensures
+pub returns-then-prefix-count : goal.returns-then-prefix-count
+returns-then-prefix-count c =
+    refused-18 _ _ _ _ _ _ c.in_ok-ask.ensures c.hold.ensures c.in_ok-ask-2.ensures c.is_admitted.ensures (longer _ _ c.if-prefix-count.true)
