@@ -1,5 +1,6 @@
 -- `ranks_of` meets its contract: after i events each rank is that of the first i.
 -- Assumes nothing.
+use Prim.Native.Nat.{◌<◌}
 use Rattle.links.specs.declared.tables.Rank.TheVariants.{Live}
 use Rattle.links.specs.Tables.{rank_noted}
 use Rattle.links.proofs.TableLaws.{slots-start, slots-more}
@@ -11,4 +12,7 @@ pub loop-e-init : goal.loop-e-init
 loop-e-init c = slots-start _ _ _
 
 pub loop-e-preserved : goal.loop-e-preserved
-loop-e-preserved c = slots-more Live rank_noted c.args.log.now c.loop-e.e-index c.from-t.ensures (omega (arith, c.from-t.ensures, transaction-low c.args.log.now c.requires c.loop-e.e-index c.loop-e-test.true)) c.rank_with.ensures c.loop-e.invariant
+loop-e-preserved c =
+    let h = c.args.log.now in
+    let low : c.from-t.result < 64 = omega (arith, c.from-t.ensures, transaction-low h c.requires c.loop-e.e-index c.loop-e-test.true) in
+    slots-more Live rank_noted h c.loop-e.e-index c.from-t.ensures low c.rank_with.ensures c.loop-e.invariant
