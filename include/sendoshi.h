@@ -1,7 +1,7 @@
 /*
  * Sendoshi: opacity of recorded transactional histories.
  *
- * Link with libsendoshi.a (`rt staticlib sendoshi`; x86-64 Linux). C99 and C++.
+ * Link with libsendoshi.a (`./staticlib`; x86-64 Linux). C99 and C++.
  *
  * A history is a list of events, numbered from 0, in five columns with one entry an event:
  *
